@@ -1,0 +1,115 @@
+-- What the form of a stamp says of its parts.
+use Rattle.std.proofs.Common.{◌≡◌, ℕ, ◌+◌, ◌-◌, ◌*◌, ◌/◌, ◌%◌, ◌<◌, ◌≤◌, List, length, true, arith, refl, ◌&&◌, ◌==◌, pos, nat_le, Some, codes}
+use Rattle.std.specs.Char.{is_ascii_digit}
+use Rattle.std.proofs.lemmas.Bool.{and_parts}
+use Rattle.std.proofs.lemmas.Bool.Decides.{nat_tests}
+use Rattle.jiff_core.specs.Calendar.{days_in_month, days_from_civil, day_count, days_of_years, days_of_months}
+use Rattle.jiff_core.proofs.CalendarLemmas.{days_in_month_bounds}
+use Rattle.dv_text.specs.Stamps.{are_two_at, has_digits, has_form, has_marks, is_there, seconds_if, seconds_of, stamp_in, text_of}
+
+pub record Parts (t : List ℕ) : Type 0 where
+  pub long : length t ≡ 19
+  pub century : are_two_at t 0 ≡ true
+  pub year : are_two_at t 2 ≡ true
+  pub month : are_two_at t 5 ≡ true
+  pub day : are_two_at t 8 ≡ true
+  pub hour : are_two_at t 11 ≡ true
+  pub minute : are_two_at t 14 ≡ true
+  pub second : are_two_at t 17 ≡ true
+
+pub form_parts : (t : List ℕ) → has_form t ≡ true → Parts t
+unfolding has_form has_digits
+form_parts t e =
+    let whole = and_parts ((length t == 19) && has_marks t) (has_digits t) e in
+    let front = and_parts (length t == 19) (has_marks t) whole.0 in
+    let a = and_parts (are_two_at t 0 && are_two_at t 2 && are_two_at t 5 && are_two_at t 8 && are_two_at t 11 && are_two_at t 14) (are_two_at t 17) whole.1 in
+    let b = and_parts (are_two_at t 0 && are_two_at t 2 && are_two_at t 5 && are_two_at t 8 && are_two_at t 11) (are_two_at t 14) a.0 in
+    let c = and_parts (are_two_at t 0 && are_two_at t 2 && are_two_at t 5 && are_two_at t 8) (are_two_at t 11) b.0 in
+    let d = and_parts (are_two_at t 0 && are_two_at t 2 && are_two_at t 5) (are_two_at t 8) c.0 in
+    let f = and_parts (are_two_at t 0 && are_two_at t 2) (are_two_at t 5) d.0 in
+    let g = and_parts (are_two_at t 0) (are_two_at t 2) f.0 in
+    record { long = grind (arith, nat_tests, front.0); century = g.0; year = g.1; month = f.1; day = d.1; hour = c.1; minute = b.1; second = a.1 }
+
+-- a digit
+digit : (k : ℕ) → k < 10 → is_ascii_digit (48 + k) ≡ true
+digit k h = grind (arith, nat_tests)
+
+-- a number below 100, from its digits
+pair : (n : ℕ) → (48 + n / 10 - 48) * 10 + (48 + n % 10 - 48) ≡ n
+pair n = omega arith
+
+-- the digits of a number below 100
+pairs : (n : ℕ) → n < 100 → (is_ascii_digit (48 + n / 10) ≡ true) × (is_ascii_digit (48 + n % 10) ≡ true)
+pairs n h = (digit (n / 10) (omega arith), digit (n % 10) (omega arith))
+
+pub shown : (year month day hour minute second : ℕ) → year < 10000 → month < 100 → day < 100 → hour < 100 → minute < 100 → second < 100
+    → is_there 9998 year month day hour minute second ≡ true
+    → stamp_in 9998 (text_of year month day hour minute second) ≡ Some (seconds_of year month day hour minute second)
+unfolding stamp_in has_form has_marks has_digits seconds_if
+shown year month day hour minute second hy hm hd hh hn hs there =
+    let (c1, c2) = pairs (year / 100) (omega arith) in
+    let (y1, y2) = pairs (year % 100) (omega arith) in
+    let (m1, m2) = pairs month hm in
+    let (d1, d2) = pairs day hd in
+    let (h1, h2) = pairs hour hh in
+    let (n1, n2) = pairs minute hn in
+    let (s1, s2) = pairs second hs in
+    let whole : year / 100 * 100 + year % 100 ≡ year = omega arith in
+    rw (c1, c2, y1, y2, m1, m2, d1, d2, h1, h2, n1, n2, s1, s2, pair (year / 100), pair (year % 100), pair month, pair day, pair hour, pair minute, pair second, whole, there) refl
+
+-- the parts are small
+pub record Small (y mo d h mi s : ℕ) : Type 0 where
+  pub year : y < 10000
+  pub month : mo < 100
+  pub day : d < 100
+  pub hour : h < 100
+  pub minute : mi < 100
+  pub second : s < 100
+
+pub there-small : (year month day hour minute second : ℕ) → is_there 9998 year month day hour minute second ≡ true → Small year month day hour minute second
+there-small year month day hour minute second e =
+    let a = and_parts _ (nat_le second 59) e in
+    let b = and_parts _ (nat_le minute 59) a.0 in
+    let c = and_parts _ (nat_le hour 23) b.0 in
+    let d = and_parts _ (nat_le day (days_in_month (pos year) month)) c.0 in
+    let f = and_parts _ (nat_le 1 day) d.0 in
+    let g = and_parts _ (nat_le month 12) f.0 in
+    let h = and_parts _ (nat_le 1 month) g.0 in
+    let i = and_parts (nat_le 1900 year) (nat_le year 9998) h.0 in
+    let days = days_in_month_bounds (pos year) month in
+    record {
+      year = grind (arith, nat_tests, i.1);
+      month = grind (arith, nat_tests, g.1);
+      day = grind (arith, nat_tests, d.1, days.0);
+      hour = grind (arith, nat_tests, c.1);
+      minute = grind (arith, nat_tests, b.1);
+      second = grind (arith, nat_tests, a.1);
+    }
+
+-- the text that stands for an end that is open
+pub open_text : stamp_in 9999 (codes "9999-12-31T23:59:59") ≡ Some 255_611_289_599
+unfolding stamp_in has_form has_marks has_digits seconds_if days_from_civil day_count days_of_years days_of_months
+open_text = refl
+
+-- the parts of a stamp, one by one
+pub there-parts : (year month day hour minute second : ℕ) → is_there 9998 year month day hour minute second ≡ true
+    → (1900 ≤ year) × (year ≤ 9999) × (1 ≤ month) × (month ≤ 12) × (1 ≤ day) × (day ≤ days_in_month (pos year) month) × (hour ≤ 23) × (minute ≤ 59) × (second ≤ 59)
+there-parts year month day hour minute second e =
+    let a = and_parts _ (nat_le second 59) e in
+    let b = and_parts _ (nat_le minute 59) a.0 in
+    let c = and_parts _ (nat_le hour 23) b.0 in
+    let d = and_parts _ (nat_le day (days_in_month (pos year) month)) c.0 in
+    let f = and_parts _ (nat_le 1 day) d.0 in
+    let g = and_parts _ (nat_le month 12) f.0 in
+    let h = and_parts _ (nat_le 1 month) g.0 in
+    let i = and_parts (nat_le 1900 year) (nat_le year 9998) h.0 in (
+      grind (arith, nat_tests, i.0),
+      grind (arith, nat_tests, i.1),
+      grind (arith, nat_tests, h.1),
+      grind (arith, nat_tests, g.1),
+      grind (arith, nat_tests, f.1),
+      grind (arith, nat_tests, d.1),
+      grind (arith, nat_tests, c.1),
+      grind (arith, nat_tests, b.1),
+      grind (arith, nat_tests, a.1),
+    )

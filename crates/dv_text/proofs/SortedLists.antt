@@ -1,0 +1,159 @@
+-- The laws of `sorted_by`.
+use Rattle.std.proofs.Common.{◌≡◌, ◌↔◌, ◌⊎◌, inl, inr, List, [], ◌∷◌, refl, sym, ◌∙◌, ap, subst, arith}
+use Rattle.std.specs.Prelude.{Contains}
+use Rattle.std.specs.declared.cmp.Ordering.{Ordering}
+use Rattle.std.specs.declared.cmp.Ordering.TheVariants.{Less, Equal, Greater}
+use Rattle.std.specs.Ordering.{ordering_reverse}
+use Rattle.std.specs.Cmp.{IsTotalOrder}
+use Rattle.std.specs.FinMap.{IsAntisymmetric}
+use Rattle.std.specs.List.{AllByRecursion}
+use Rattle.std.specs.List.Sorted.{IsStrictlySortedBy}
+use Rattle.dv_text.specs.Sorting.{insert_by, sorted_by}
+use Rattle.dv_text.proofs.Members.{Contains-cons_here, Contains-cons_there, Contains-cons_cases}
+
+all_of : {X : Type 0} (P : X → Type 0) (xs : List X) (x : X) → AllByRecursion P xs → Contains xs x → P x
+all_of P [] x all (k, under, there) = absurd (omega arith)
+all_of P (y ∷ xs) x all has =
+    elim (Contains-cons_cases y xs x has) [
+      | inl same ↦ subst P same all.0
+      | inr rest ↦ all_of P xs x all.1 rest
+    ]
+
+all_more : {X : Type 0} (P Q : X → Type 0) → ((x : X) → P x → Q x) → (xs : List X) → AllByRecursion P xs → AllByRecursion Q xs
+all_more P Q f [] all = tt
+all_more P Q f (x ∷ xs) all = (f x all.0, all_more P Q f xs all.1)
+
+module _ {X : Type 0} (R : X → X → Ordering) where
+  all_insert : (P : X → Type 0) (x : X) (ys : List X) → P x → AllByRecursion P ys → AllByRecursion P (insert_by R x ys)
+  all_insert P x [] p all = (p, tt)
+  all_insert P x (y ∷ ys) p all = by (all_insert P x ys p all.1) (R x y) refl
+    where
+      by : AllByRecursion P (insert_by R x ys) → (r : Ordering) → R x y ≡ r → AllByRecursion P (insert_by R x (y ∷ ys))
+      by later Less e = rw e (p, all)
+      by later Equal e = rw e (p, all.1)
+      by later Greater e = rw e (all.0, later)
+
+  inserted_cases : (x : X) (ys : List X) (z : X) → Contains (insert_by R x ys) z → (x ≡ z) ⊎ Contains ys z
+  inserted_cases x [] z has = Contains-cons_cases x [] z has
+  inserted_cases x (y ∷ ys) z has = by (inserted_cases x ys z) (R x y) refl has
+    where
+      by : (Contains (insert_by R x ys) z → (x ≡ z) ⊎ Contains ys z) → (r : Ordering) → R x y ≡ r → Contains (insert_by R x (y ∷ ys)) z → (x ≡ z) ⊎ Contains (y ∷ ys) z
+      by later Less e has = Contains-cons_cases x (y ∷ ys) z (rw e at has)
+      by later Equal e has =
+          elim (Contains-cons_cases x ys z (rw e at has)) [ inl same ↦ inl same | inr rest ↦ inr (Contains-cons_there y ys z rest) ]
+      by later Greater e has =
+          elim (Contains-cons_cases y (insert_by R x ys) z (rw e at has)) [
+            | inl same ↦ inr (subst (Contains (y ∷ ys)) same (Contains-cons_here y ys))
+            | inr rest ↦ elim (later rest) [ inl same ↦ inl same | inr more ↦ inr (Contains-cons_there y ys z more) ]
+          ]
+
+  inserted_here : (x : X) (ys : List X) → Contains (insert_by R x ys) x
+  inserted_here x [] = Contains-cons_here x []
+  inserted_here x (y ∷ ys) = by (inserted_here x ys) (R x y) refl
+    where
+      by : Contains (insert_by R x ys) x → (r : Ordering) → R x y ≡ r → Contains (insert_by R x (y ∷ ys)) x
+      by later Less e = rw e (Contains-cons_here x (y ∷ ys))
+      by later Equal e = rw e (Contains-cons_here x ys)
+      by later Greater e = rw e (Contains-cons_there y (insert_by R x ys) x later)
+
+  inserted_there : (x : X) (ys : List X) (z : X) → (R x z ≡ Equal → x ≡ z) → Contains ys z → Contains (insert_by R x ys) z
+  inserted_there x [] z exact (k, under, there) = absurd (omega arith)
+  inserted_there x (y ∷ ys) z exact has = by (inserted_there x ys z exact) (R x y) refl (Contains-cons_cases y ys z has)
+    where
+      by : (Contains ys z → Contains (insert_by R x ys) z) → (r : Ordering) → R x y ≡ r → (y ≡ z) ⊎ Contains ys z → Contains (insert_by R x (y ∷ ys)) z
+      by later Less e cases = rw e (Contains-cons_there x (y ∷ ys) z has)
+      by later Equal e (inl same) =
+          let is : x ≡ z = exact (ap (R x) (sym same) ∙ e) in
+          rw e (subst (Contains (x ∷ ys)) is (Contains-cons_here x ys))
+      by later Equal e (inr rest) = rw e (Contains-cons_there x ys z rest)
+      by later Greater e (inl same) = rw e (subst (Contains (y ∷ insert_by R x ys)) same (Contains-cons_here y (insert_by R x ys)))
+      by later Greater e (inr rest) = rw e (Contains-cons_there y (insert_by R x ys) z (later rest))
+
+  -- no member is new
+  pub member_before_sort : (xs : List X) (z : X) → Contains (sorted_by R xs) z → Contains xs z
+  member_before_sort [] z has = has
+  member_before_sort (x ∷ xs) z has =
+      elim (inserted_cases x (sorted_by R xs) z has) [
+        | inl same ↦ subst (Contains (x ∷ xs)) same (Contains-cons_here x xs)
+        | inr rest ↦ Contains-cons_there x xs z (member_before_sort xs z rest)
+      ]
+
+  -- and none is lost, where only equal ones tie
+  pub member_after_sort : (xs : List X) (z : X) → ((x : X) → Contains xs x → R x z ≡ Equal → x ≡ z) → Contains xs z → Contains (sorted_by R xs) z
+  member_after_sort [] z exact has = has
+  member_after_sort (x ∷ xs) z exact has =
+      elim (Contains-cons_cases x xs z has) [
+        | inl same ↦ subst (Contains (insert_by R x (sorted_by R xs))) same (inserted_here x (sorted_by R xs))
+        | inr rest ↦
+            inserted_there x (sorted_by R xs) z (exact x (Contains-cons_here x xs)) (
+            member_after_sort xs z (λ y member. exact y (Contains-cons_there x xs y member)) rest)
+      ]
+
+  -- a list in order stays
+  pub sorted_by-sorted : (xs : List X) → IsStrictlySortedBy R xs → sorted_by R xs ≡ xs
+  unfolding IsStrictlySortedBy
+  sorted_by-sorted [] up = refl
+  sorted_by-sorted (x ∷ []) up = refl
+  sorted_by-sorted (x ∷ y ∷ xs) up = rw (sorted_by-sorted (y ∷ xs) up.1, up.0.0)
+
+  module _ (o : IsTotalOrder R) where
+    turned : (x y : X) → R x y ≡ Greater → R y x ≡ Less
+    turned x y e = o.antisymm y x ∙ ap ordering_reverse e
+
+    irreflexive : (x : X) → R x x ≡ Less → ⊥
+    irreflexive x e = let back : R x x ≡ Greater = o.antisymm x x ∙ ap ordering_reverse e in let no : Less ≡ Greater = sym e ∙ back in cc
+
+    asymmetric : (x y : X) → R x y ≡ Less → R y x ≡ Less → ⊥
+    asymmetric x y e f = let back : R x y ≡ Greater = o.antisymm x y ∙ ap ordering_reverse f in let no : Less ≡ Greater = sym e ∙ back in cc
+
+    ascending-insert : (x : X) (ys : List X) → IsStrictlySortedBy R ys → IsStrictlySortedBy R (insert_by R x ys)
+    unfolding IsStrictlySortedBy
+    ascending-insert x [] up = (tt, tt)
+    ascending-insert x (y ∷ ys) up = by (ascending-insert x ys up.1) (R x y) refl
+      where
+        by : IsStrictlySortedBy R (insert_by R x ys) → (r : Ordering) → R x y ≡ r → IsStrictlySortedBy R (insert_by R x (y ∷ ys))
+        by later Less e = rw e ((e, all_more (λ z. R y z ≡ Less) (λ z. R x z ≡ Less) (λ z l. o.trans x y z e l) ys up.0), up)
+        by later Equal e = rw e (all_more (λ z. R y z ≡ Less) (λ z. R x z ≡ Less) (λ z l. o.congr x y z e ∙ l) ys up.0, up.1)
+        by later Greater e = rw e (all_insert (λ z. R y z ≡ Less) x ys (turned x y e) up.0, later)
+
+    -- the items stand in order, each once
+    pub ascending-sorted_by : (xs : List X) → IsStrictlySortedBy R (sorted_by R xs)
+    unfolding IsStrictlySortedBy
+    ascending-sorted_by [] = tt
+    ascending-sorted_by (x ∷ xs) = ascending-insert x (sorted_by R xs) (ascending-sorted_by xs)
+
+    -- two lists in order with the same members are one
+    pub same_ascending : (xs ys : List X) → IsStrictlySortedBy R xs → IsStrictlySortedBy R ys → ((z : X) → Contains xs z → Contains ys z) → ((z : X) → Contains ys z → Contains xs z) → xs ≡ ys
+    unfolding IsStrictlySortedBy
+    same_ascending [] [] up vp f g = refl
+    same_ascending [] (y ∷ ys) up vp f g = let (k, under, there) = g y (Contains-cons_here y ys) in absurd (omega arith)
+    same_ascending (x ∷ xs) [] up vp f g = let (k, under, there) = f x (Contains-cons_here x xs) in absurd (omega arith)
+    same_ascending (x ∷ xs) (y ∷ ys) up vp f g =
+        let head : x ≡ y =
+        elim (Contains-cons_cases y ys x (f x (Contains-cons_here x xs))) [
+          | inl same ↦ sym same
+          | inr in_ys ↦
+              elim (Contains-cons_cases x xs y (g y (Contains-cons_here y ys))) [
+                | inl same ↦ same
+                | inr in_xs ↦ absurd (asymmetric x y (all_of (λ z. R x z ≡ Less) xs y up.0 in_xs) (all_of (λ z. R y z ≡ Less) ys x vp.0 in_ys))
+              ]
+        ] in
+        let there : (z : X) → Contains xs z → Contains ys z = λ z member.
+        elim (Contains-cons_cases y ys z (f z (Contains-cons_there x xs z member))) [
+          | inl same ↦ absurd (irreflexive x (ap (R x) (head ∙ same) ∙ all_of (λ w. R x w ≡ Less) xs z up.0 member))
+          | inr rest ↦ rest
+        ] in
+        let back : (z : X) → Contains ys z → Contains xs z = λ z member.
+        elim (Contains-cons_cases x xs z (g z (Contains-cons_there y ys z member))) [
+          | inl same ↦ absurd (irreflexive y (ap (R y) (sym head ∙ same) ∙ all_of (λ w. R y w ≡ Less) ys z vp.0 member))
+          | inr rest ↦ rest
+        ] in
+        let rest : xs ≡ ys = same_ascending xs ys up.1 vp.1 there back in
+        λ i. head i ∷ rest i
+
+-- a list in order with the items' members is the items sorted
+pub sorted_by-members : {X : Type 0} {R : X → X → Ordering} → IsTotalOrder R → IsAntisymmetric R → (items kept : List X) → IsStrictlySortedBy R kept → ((x : X) → Contains kept x ↔ Contains items x) → kept ≡ sorted_by R items
+sorted_by-members {R = R} o exact items kept up members =
+    same_ascending R o kept (sorted_by R items) up (ascending-sorted_by R o items)
+    (λ z has. member_after_sort R items z (λ x member e. exact x z e) ((members z).0 has))
+    (λ z has. (members z).1 (member_before_sort R items z has))

@@ -1,0 +1,7 @@
+use Rattle.std.proofs.Common.{◌≡◌, ◌∷◌, take}
+use Rattle.std.specs.List.{join_with_byte}
+use Rattle.dv_text.proofs.normal.joined.Given as goal
+
+-- the parts so far, joined
+abbrev pub invariant-loop-part : goal.invariant-loop-part
+invariant-loop-part l = l.made.items ≡ join_with_byte 59 (l.initial.made.items ∷ take l.part-index l.rest)

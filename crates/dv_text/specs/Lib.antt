@@ -1,0 +1,9 @@
+pub mod Causes
+pub mod Digests
+pub mod Exact
+pub mod Keys
+pub mod Normal
+pub mod Orders
+pub mod Sorting
+pub mod Stamps
+pub mod Told

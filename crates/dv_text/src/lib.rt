@@ -1,0 +1,26 @@
+//! The values of the warehouse: texts, lists, business keys, rows, load dates and digests.
+#![tactic(auto)]
+
+mod calendar;
+mod digests;
+mod failure;
+mod key_digest;
+mod lists;
+mod normal;
+mod orders;
+mod rows;
+mod stamps;
+mod texts;
+
+pub use digests::Digest;
+pub use failure::{Duplicate, Memory};
+pub use key_digest::KeyDigest;
+pub use lists::List;
+pub use normal::{field, joined, key_part};
+pub use orders::{Exact, sorted_distinct, sorted_rows};
+pub use rows::{Key, NRow, Staged, Window, WindowHead};
+pub use stamps::Stamp;
+pub use texts::Text;
+
+#[cfg(test)]
+mod tests;

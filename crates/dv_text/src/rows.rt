@@ -1,0 +1,86 @@
+use crate::failure::{Duplicate, Memory};
+use crate::lists::List;
+use crate::stamps::Stamp;
+use crate::texts::Text;
+
+/// A business key, as its parts in order.
+#[derive(Debug, PartialEq, Eq, PartialOrd, Ord, Drop)]
+pub struct Key {
+    pub parts: List<Text>,
+}
+
+impl Duplicate for Key {
+    fn copy(&self) -> Result<Key, Memory> {
+        let parts = self.parts.copy()?;
+        Ok(Key { parts })
+    }
+}
+
+/// A normalised row of an extract: the business keys that it refers to, the columns that tell several
+/// rows of one parent apart, and the descriptive attributes.
+#[derive(Debug, PartialEq, Eq, PartialOrd, Ord, Drop)]
+pub struct NRow {
+    pub refs: List<Key>,
+    pub sub: List<Text>,
+    pub attrs: List<Text>,
+}
+
+impl Duplicate for NRow {
+    fn copy(&self) -> Result<NRow, Memory> {
+        let refs = self.refs.copy()?;
+        let sub = self.sub.copy()?;
+        let attrs = self.attrs.copy()?;
+        Ok(NRow { refs, sub, attrs })
+    }
+}
+
+/// The rows of one feed in a window, by the feed's place in the mapping. The rows ascend and are distinct.
+#[derive(Debug, PartialEq, Eq, Drop)]
+pub struct Staged {
+    pub feed: u32,
+    pub rows: List<NRow>,
+}
+
+impl Duplicate for Staged {
+    fn copy(&self) -> Result<Staged, Memory> {
+        let rows = self.rows.copy()?;
+        Ok(Staged {
+            feed: self.feed,
+            rows,
+        })
+    }
+}
+
+/// A load date, and the rows of each feed that is delivered under it. The feeds ascend.
+#[derive(Debug, PartialEq, Eq, Drop)]
+pub struct Window {
+    pub load: Stamp,
+    pub extracts: List<Staged>,
+}
+
+impl Duplicate for Window {
+    fn copy(&self) -> Result<Window, Memory> {
+        let extracts = self.extracts.copy()?;
+        Ok(Window {
+            load: self.load,
+            extracts,
+        })
+    }
+}
+
+/// A load date, and the feeds that are delivered under it.
+#[derive(Debug, PartialEq, Eq, Drop)]
+pub struct WindowHead {
+    pub load: Stamp,
+    pub feeds: List<u32>,
+}
+
+impl Duplicate for WindowHead {
+    fn copy(&self) -> Result<WindowHead, Memory> {
+        let feeds = self.feeds.copy()?;
+        Ok(WindowHead {
+            load: self.load,
+            feeds,
+        })
+    }
+}
