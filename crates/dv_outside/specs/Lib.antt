@@ -1,0 +1,9 @@
+pub mod Bytes
+pub mod Calls
+pub mod Causes
+pub mod Ends
+pub mod Files
+pub mod MemoryFolders
+pub mod MemorySinks
+pub mod RealFolders
+pub mod RealStreams

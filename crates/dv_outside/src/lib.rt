@@ -1,0 +1,27 @@
+//! The outside: a folder that is read, sinks that are written, and gates between tasks. Each object counts
+//! its faults, and answers a failure only where its count rose.
+#![tactic(auto)]
+
+mod calls;
+mod folders;
+mod gates;
+mod lines;
+mod memory_folders;
+mod memory_sinks;
+mod real_folders;
+mod real_streams;
+mod sinks;
+mod statuses;
+
+pub use folders::{Failed, Folder, FolderError, NamedFile};
+pub use gates::{Gate, OpenGate};
+pub use lines::{end, end_named, write_all, write_line};
+pub use memory_folders::MemoryFolder;
+pub use memory_sinks::MemorySink;
+pub use real_folders::RealFolder;
+pub use real_streams::{RealErr, RealOut};
+pub use sinks::Sink;
+pub use statuses::Status;
+
+#[cfg(test)]
+mod tests;

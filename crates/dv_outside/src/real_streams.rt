@@ -1,0 +1,77 @@
+ghost use Rattle.std.specs.Prelude.{◌≡◌, ◌<◌, ◌≤◌, IfOk, None, length};
+ghost use Rattle.dv_text.specs.Causes.{HasCause};
+ghost use Rattle.dv_outside.specs.RealStreams.{real_out_faults, real_err_faults};
+
+use crate::folders::Failed;
+use crate::sinks::Sink;
+use std::io::{Stderr, Stdout, Write};
+
+// The standard streams keep no buffer: each write is one call of the system, and its failure is answered
+// by that very call.
+fn write_some<W: Write>(to: &mut W, faults: &mut u64, piece: &[u8]) -> Result<usize, Failed>
+    ensures some { IfOk result (λ n. 0 < n) }
+    ensures within { IfOk result (λ n. n ≤ length piece.now) }
+    ensures cause { HasCause faults.old faults.new result }
+{
+    match to.write(piece) {
+        Ok(count) if count > 0 => Ok(count),
+        _ => {
+            *faults = faults.saturating_add(1);
+            Err(Failed)
+        }
+    }
+}
+
+/// Standard output. It tells nothing of what was written, and counts its faults: each write that failed or
+/// took nothing.
+#[derive(Drop)]
+pub struct RealOut {
+    stream: Stdout,
+    faults: u64,
+}
+
+impl RealOut {
+    /// The standard output, with no faults yet.
+    pub fn new(stream: Stdout) -> RealOut
+        ensures { real_out_faults result ≡ 0 }
+    {
+        RealOut { stream, faults: 0 }
+    }
+}
+
+impl Sink for RealOut {
+    ghost contents = { λ _. None };
+
+    ghost faults = { real_out_faults };
+
+    fn write(&mut self, piece: &[u8]) -> Result<usize, Failed> {
+        write_some(&mut self.stream, &mut self.faults, piece)
+    }
+}
+
+/// Standard error. It tells nothing of what was written, and counts its faults: each write that failed or
+/// took nothing.
+#[derive(Drop)]
+pub struct RealErr {
+    stream: Stderr,
+    faults: u64,
+}
+
+impl RealErr {
+    /// The standard error, with no faults yet.
+    pub fn new(stream: Stderr) -> RealErr
+        ensures { real_err_faults result ≡ 0 }
+    {
+        RealErr { stream, faults: 0 }
+    }
+}
+
+impl Sink for RealErr {
+    ghost contents = { λ _. None };
+
+    ghost faults = { real_err_faults };
+
+    fn write(&mut self, piece: &[u8]) -> Result<usize, Failed> {
+        write_some(&mut self.stream, &mut self.faults, piece)
+    }
+}
