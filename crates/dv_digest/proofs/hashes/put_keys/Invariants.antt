@@ -1,0 +1,7 @@
+use Rattle.std.proofs.Common.{◌≡◌, ◌∷◌, ◌++◌, take, flat_map}
+use Rattle.dv_text.specs.Keys.{key_text}
+use Rattle.dv_digest.proofs.hashes.put_keys.Given as goal
+
+-- the first key's text, and the texts of the keys so far behind semicolons
+abbrev pub invariant-loop-key : goal.invariant-loop-key
+invariant-loop-key l = l.room ≡ l.initial.room ++ flat_map (λ key. 59 ∷ key_text key) (take l.key-index l.rest)
