@@ -1,0 +1,21 @@
+-- The place of the first item that passes a test, or else the number of items.
+use Rattle.std.proofs.Common.{◌≡◌, ℕ, ◌+◌, ◌<◌, ◌≤◌, Bool, true, false, cond, not, List, [], ◌∷◌, ◌++◌, length, get_or, map, take, nat_lt, Some, None, refl, arith, unwrap_or}
+use Rattle.std.specs.List.{position, position_or_len}
+use Rattle.std.proofs.lemmas.List.{map_more}
+use Rattle.std.proofs.lemmas.List.Sums.{prefix_len-le-length}
+use Rattle.std.proofs.lemmas.Bool.Decides.{nat_tests}
+
+pub place_or_len : {X : Type 0} (p : X → Bool) (xs : List X) → unwrap_or (position p xs) (length xs) ≡ position_or_len p xs
+place_or_len {X} p xs = by (nat_lt (position_or_len p xs) (length xs)) refl
+  where
+    by : (b : Bool) → nat_lt (position_or_len p xs) (length xs) ≡ b → unwrap_or (cond (nat_lt (position_or_len p xs) (length xs)) (Some (position_or_len p xs)) None) (length xs) ≡ position_or_len p xs
+    by true e = rw e
+    by false e =
+        let bound = prefix_len-le-length (λ x. not (p x)) xs in
+        let past : length xs ≤ position_or_len p xs = grind (arith, nat_tests, e) in
+        rw e (omega arith)
+
+-- a loop's step
+pub mapped_more : {X Y : Type 0} (f : X → Y) (xs : List X) (i : ℕ) (x : X) (y : Y) (made pushed : List Y) → i < length xs → x ≡ get_or xs i x → y ≡ f x
+    → made ≡ map f (take i xs) → pushed ≡ made ++ y ∷ [] → pushed ≡ map f (take (i + 1) xs)
+mapped_more f xs i x y made pushed at is gives invariant push = rw (map_more f xs i x at, ← is, ← gives, ← invariant) push

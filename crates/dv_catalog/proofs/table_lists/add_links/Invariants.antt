@@ -1,0 +1,7 @@
+use Rattle.std.proofs.Common.{◌≡◌, ◌++◌, map}
+use Rattle.std.specs.List.{range_with_len}
+use Rattle.dv_catalog.specs.declared.tables.TableId.TheVariants.{Link}
+use Rattle.dv_catalog.proofs.table_lists.add_links.Given as goal
+
+abbrev pub invariant-loop-n : goal.invariant-loop-n
+invariant-loop-n l = l.tables ≡ l.initial.tables ++ map (λ n. Link n) (range_with_len 0 l.n)
