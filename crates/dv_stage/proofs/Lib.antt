@@ -1,0 +1,11 @@
+pub mod ColumnFacts
+pub mod FieldFacts
+pub mod PartnerFacts
+pub mod Places
+pub mod RecordsFacts
+pub mod RestFacts
+pub mod RivalFacts
+pub mod RowFacts
+pub mod RuleFacts
+pub mod SeenFacts
+pub mod TextTests

@@ -1,0 +1,131 @@
+-- The list of all records of a text, from its records one by one.
+use Rattle.std.proofs.Common.{◌≡◌, ◌≤◌, ◌+◌, ◌-◌, ◌∷◌, ◌++◌, ℕ, zero, suc, List, [], length, Some, None, true, false, Bool, refl, sym, subst, arith, ◌∙◌, ◌&&◌, ◌==◌, if◌then◌else◌}
+use Rattle.std.proofs.lemmas.Option.{none-some, same_Some}
+use Rattle.std.proofs.lemmas.List.{append-nil}
+use Rattle.csv.specs.Machine.{Read, next_record, ends_at_end, is_end, step, fields_after, field_after, is_byte, ends_with, after_end, in_field, start_field, start_record, carriage_return, line_feed}
+use Rattle.csv.specs.Reading.{AreRecords, Reached, records, records_from}
+use Rattle.csv.specs.declared.parser.Config.{Config}
+use Rattle.csv.specs.declared.parser.Terminator.{Terminator}
+use Rattle.csv.specs.declared.parser.Terminator.TheVariants as term
+use Rattle.csv.specs.declared.parser.State.{State}
+use Rattle.csv.specs.declared.parser.State.TheVariants as st
+use Rattle.csv.specs.declared.parser.Action.{Action}
+use Rattle.csv.specs.declared.parser.Action.TheVariants as act
+
+-- an answer of the machine that ends a record leaves it between records
+abbrev pub Closes : State × Action → Type 0
+Closes p = is_end p.1 ≡ true → ends_at_end p.0 ≡ false
+
+choose : (b : Bool) (p q : State × Action) → Closes p → Closes q → Closes (if b then p else q)
+choose true p q a b = a
+choose false p q a b = b
+
+after_end-closes : (t : Terminator) (c : ℕ) → ends_at_end (after_end t c) ≡ false
+after_end-closes term.CRLF c = by (c == carriage_return)
+  where
+    by : (b : Bool) → ends_at_end (if b then st.AfterCr else st.StartRecord) ≡ false
+    by true = refl
+    by false = refl
+after_end-closes (term.Any t) c = refl
+
+in_field-closes : (cfg : Config) (c : ℕ) → Closes (in_field cfg c)
+in_field-closes cfg c =
+    choose (c == cfg.delimiter) (st.StartField, act.EndField) (if ends_with cfg.terminator c then (after_end cfg.terminator c, act.EndRecord) else (st.InField, act.Copy))
+    (λ e. cc)
+    (choose (ends_with cfg.terminator c) (after_end cfg.terminator c, act.EndRecord) (st.InField, act.Copy) (λ e. after_end-closes cfg.terminator c) (λ e. cc))
+
+start_field-closes : (cfg : Config) (c : ℕ) → Closes (start_field cfg c)
+start_field-closes cfg c = choose (cfg.quoting && (c == cfg.quote)) (st.InQuoted, act.Skip) (in_field cfg c) (λ e. cc) (in_field-closes cfg c)
+
+start_record-closes : (cfg : Config) (c : ℕ) → Closes (start_record cfg c)
+start_record-closes cfg c =
+    choose (ends_with cfg.terminator c) (st.StartRecord, act.Skip) (if is_byte cfg.comment c then (st.InComment, act.Skip) else start_field cfg c) (λ e. cc)
+    (choose (is_byte cfg.comment c) (st.InComment, act.Skip) (start_field cfg c) (λ e. cc) (start_field-closes cfg c))
+
+pub step-closes : (cfg : Config) (s : State) (c : ℕ) → Closes (step cfg s c)
+step-closes cfg st.StartRecord c = start_record-closes cfg c
+step-closes cfg st.StartField c = start_field-closes cfg c
+step-closes cfg st.InField c = in_field-closes cfg c
+step-closes cfg st.InQuoted c =
+    choose (cfg.quoting && (c == cfg.quote)) (st.AfterQuote, act.Skip) (if cfg.quoting && is_byte cfg.escape c then (st.InEscape, act.Skip) else (st.InQuoted, act.Copy)) (λ e. cc)
+    (choose (cfg.quoting && is_byte cfg.escape c) (st.InEscape, act.Skip) (st.InQuoted, act.Copy) (λ e. cc) (λ e. cc))
+step-closes cfg st.InEscape c = λ e. cc
+step-closes cfg st.AfterQuote c =
+    choose (cfg.quoting && cfg.double_quote && (c == cfg.quote)) (st.InQuoted, act.Copy) (in_field cfg c) (λ e. cc) (in_field-closes cfg c)
+step-closes cfg st.InComment c = choose (c == line_feed) (st.StartRecord, act.Skip) (st.InComment, act.Skip) (λ e. cc) (λ e. cc)
+step-closes cfg st.AfterCr c = choose (c == line_feed) (st.StartRecord, act.Skip) (start_record cfg c) (λ e. cc) (start_record-closes cfg c)
+
+-- a record takes a byte, where there is one, and leaves the machine between records
+pub next_record-takes : (cfg : Config) (s : State) (fields : List (List ℕ)) (field xs : List ℕ) (p : Read) → next_record cfg s fields field xs ≡ Some p
+    → (ends_at_end p.1 ≡ false) × (length p.2 ≤ length xs - 1)
+unfolding next_record
+next_record-takes cfg s fields field [] p e = by (ends_at_end s) e
+  where
+    by : (b : Bool) → (if b then Some (fields ++ (field ∷ []), st.StartRecord, []) else None) ≡ Some p → (ends_at_end p.1 ≡ false) × (length p.2 ≤ length {A = ℕ} [] - 1)
+    by true e =
+        let same = same_Some (fields ++ (field ∷ []), st.StartRecord, []) p e in
+        subst (λ (q : Read). (ends_at_end q.1 ≡ false) × (length q.2 ≤ length {A = ℕ} [] - 1)) same (refl, omega arith)
+    by false e = cc e
+next_record-takes cfg s fields field (c ∷ rest) p e =
+    by (is_end (step cfg s c).1) refl e (next_record-takes cfg (step cfg s c).0 (fields_after (step cfg s c).1 fields field) (field_after (step cfg s c).1 c field) rest p)
+  where
+    by : (b : Bool) → is_end (step cfg s c).1 ≡ b
+        → (if b then Some (fields_after (step cfg s c).1 fields field, (step cfg s c).0, rest)
+        else next_record cfg (step cfg s c).0 (fields_after (step cfg s c).1 fields field) (field_after (step cfg s c).1 c field) rest) ≡ Some p
+        → (next_record cfg (step cfg s c).0 (fields_after (step cfg s c).1 fields field) (field_after (step cfg s c).1 c field) rest ≡ Some p
+        → (ends_at_end p.1 ≡ false) × (length p.2 ≤ length rest - 1))
+        → (ends_at_end p.1 ≡ false) × (length p.2 ≤ length (c ∷ rest) - 1)
+    by true ended e more =
+        let same = same_Some (fields_after (step cfg s c).1 fields field, (step cfg s c).0, rest) p e in
+        subst (λ (q : Read). (ends_at_end q.1 ≡ false) × (length q.2 ≤ length (c ∷ rest) - 1)) same (step-closes cfg s c ended, omega arith)
+    by false on e more =
+        let m = more e in
+        (m.0, omega (arith, m.1))
+
+-- a text with no byte gives no record to a machine that stands between records
+next_record-none : (cfg : Config) (s : State) → ends_at_end s ≡ false → next_record cfg s [] [] [] ≡ None
+unfolding next_record
+next_record-none cfg s e = rw e refl
+
+-- a text has no more records than bytes
+pub reached-short : (cfg : Config) (s s2 : State) (xs ys : List ℕ) (rows : List (List (List ℕ))) → ends_at_end s ≡ false → Reached cfg s xs rows s2 ys → length rows ≤ length xs
+unfolding Reached
+reached-short cfg s s2 xs ys [] b h = omega arith
+reached-short cfg s s2 [] ys (r ∷ rs) b h = absurd (none-some h.0 (sym (next_record-none cfg s b) ∙ h.1))
+reached-short cfg s s2 (x ∷ xs) ys (r ∷ rs) b h =
+    let taken = next_record-takes cfg s [] [] (x ∷ xs) h.0 h.1 in
+    let more = reached-short cfg h.0.1 s2 h.0.2 ys rs taken.0 h.3 in
+    omega (arith, taken.1, more)
+
+-- the records of a text are those that were reached, and then those of the rest
+pub records_from-reached : (cfg : Config) (n : ℕ) (s s2 : State) (xs ys : List ℕ) (rows : List (List (List ℕ))) → Reached cfg s xs rows s2 ys
+    → (m : ℕ) → m ≡ length rows + n → records_from cfg m s xs ≡ rows ++ records_from cfg n s2 ys
+unfolding Reached records_from
+records_from-reached cfg n s s2 xs ys [] h m e =
+    let here : m ≡ n = omega (arith, e) in rw (here, h.0, h.1) refl
+records_from-reached cfg n s s2 xs ys (r ∷ rs) h zero e = absurd (omega (arith, e))
+records_from-reached cfg n s s2 xs ys (r ∷ rs) h (suc m) e =
+    let more = records_from-reached cfg n h.0.1 s2 h.0.2 ys rs h.3 m (omega (arith, e)) in
+    rw (h.1, h.2, more) refl
+
+-- no record is left
+records_from-none : (cfg : Config) (n : ℕ) (s : State) (ys : List ℕ) → next_record cfg s [] [] ys ≡ None → records_from cfg n s ys ≡ []
+unfolding records_from
+records_from-none cfg zero s ys e = refl
+records_from-none cfg (suc n) s ys e = rw e refl
+
+-- records that were reached from the start of a text stand at the head of its records
+pub records-prefix : (cfg : Config) (s2 : State) (xs ys : List ℕ) (rows : List (List (List ℕ))) → Reached cfg st.StartRecord xs rows s2 ys
+    → records cfg xs ≡ rows ++ records_from cfg (length xs + 1 - length rows) s2 ys
+records-prefix cfg s2 xs ys rows h =
+    let short = reached-short cfg st.StartRecord s2 xs ys rows refl h in
+    records_from-reached cfg (length xs + 1 - length rows) st.StartRecord s2 xs ys rows h (length xs + 1) (omega (arith, short))
+
+-- they are all of its records where none is left
+pub records-whole : (cfg : Config) (s2 : State) (xs ys : List ℕ) (rows : List (List (List ℕ))) → Reached cfg st.StartRecord xs rows s2 ys
+    → next_record cfg s2 [] [] ys ≡ None → records cfg xs ≡ rows
+records-whole cfg s2 xs ys rows h e =
+    records-prefix cfg s2 xs ys rows h ∙ rw (records_from-none cfg (length xs + 1 - length rows) s2 ys e) (append-nil rows)
+
+pub are-records : (cfg : Config) (xs : List ℕ) (rows : List (List (List ℕ))) → AreRecords cfg st.StartRecord xs rows → records cfg xs ≡ rows
+are-records cfg xs rows h = records-whole cfg h.0 xs h.1 rows h.2 h.3

@@ -1,0 +1,6 @@
+use Rattle.std.proofs.Common.{◌≡◌, map, take}
+use Rattle.dv_stage.specs.Layouts.{places_of}
+use Rattle.dv_stage.proofs.layouts.key_places.Given as goal
+
+abbrev pub invariant-loop-columns : goal.invariant-loop-columns
+invariant-loop-columns l = l.places ≡ map (places_of l.names) (take l.columns-index l.keys)

@@ -1,0 +1,7 @@
+use Rattle.std.proofs.Common.{◌≡◌, map, take}
+use Rattle.csv.specs.Records.{fields_of}
+use Rattle.dv_stage.specs.Layouts.{key_at}
+use Rattle.dv_stage.proofs.rows.refs_at.Given as goal
+
+abbrev pub invariant-loop-places : goal.invariant-loop-places
+invariant-loop-places l = l.refs ≡ map (key_at (fields_of l.row)) (take l.places-index l.keys)

@@ -1,0 +1,6 @@
+pub mod Checks
+pub mod Faults
+pub mod Layouts
+pub mod Partners
+pub mod Remaining
+pub mod Rivals
