@@ -1,0 +1,277 @@
+-- The collision of a hub or a link is the least pair of different lists with one hash key.
+use Rattle.std.proofs.Common.{◌≡◌, ◌↔◌, inl, inr, ◌⊎◌, Bool, true, false, List, [], ◌∷◌, Option, Some, None, refl, sym, ◌∙◌, ap, subst}
+use Rattle.std.specs.Prelude.{All, Contains, find}
+use Rattle.std.specs.declared.cmp.Ordering.{Ordering}
+use Rattle.std.specs.declared.cmp.Ordering.TheVariants.{Less, Equal, Greater}
+use Rattle.std.specs.Cmp.{IsTotalOrder, on_total, tied_itself}
+use Rattle.std.specs.Cmp.Lexicographic.{lists_total, nat_list_cmp_total}
+use Rattle.std.specs.FinMap.{slice_cmp-IsAntisymmetric}
+use Rattle.std.specs.List.{AllByRecursion}
+use Rattle.std.specs.List.Sorted.{IsStrictlySortedBy}
+use Rattle.std.specs.Str.{bytes_eq}
+use Rattle.std.proofs.lemmas.List.Elements.{All-cons, All-head, All-nil, All-tail}
+use Rattle.std.proofs.lemmas.Slice.Eq.{bytes_eq-Decides}
+use Rattle.std.proofs.lemmas.Bool.{false≢true}
+use Rattle.dv_text.specs.declared.rows.Key.{Key}
+use Rattle.dv_text.specs.declared.rows.Window.{Window}
+use Rattle.dv_text.specs.Exact.{key_cmp-IsAntisymmetric}
+use Rattle.dv_text.specs.Keys.{Hashes}
+use Rattle.dv_text.specs.Orders.{refs_cmp}
+use Rattle.dv_text.specs.Sorting.{sorted_by}
+use Rattle.dv_text.proofs.Members.{Contains-cons_cases, Contains-cons_here, Contains-cons_there}
+use Rattle.dv_text.proofs.SortedLists.{ascending-sorted_by, member_after_sort, member_before_sort}
+use Rattle.dv_catalog.specs.declared.entries.Parent.{Parent}
+use Rattle.dv_catalog.specs.Entries.{Mapping}
+use Rattle.dv_records.specs.Collisions.{Pair, IsApart, IsLeastPair, IsPairOf, collision, collision_in, first_collision, hashed_refs, least_pair, pair_cmp, parents}
+use Rattle.dv_records.proofs.Memberships.{Contains-nil, finds, found_member}
+
+-- ---- the order of reference lists
+
+pub refs_total : IsTotalOrder refs_cmp
+refs_total = lists_total (on_total (λ (key : Key). key.parts) (lists_total nat_list_cmp_total))
+
+pub refs_exact : (a b : List Key) → refs_cmp a b ≡ Equal → a ≡ b
+refs_exact = slice_cmp-IsAntisymmetric key_cmp-IsAntisymmetric
+
+not_less_itself : (a : List Key) → refs_cmp a a ≡ Less → ⊥
+not_less_itself a e = let same : Less ≡ Equal = sym e ∙ tied_itself refs_total a in cc
+
+not_both : (a b : List Key) → refs_cmp a b ≡ Less → refs_cmp b a ≡ Less → ⊥
+not_both a b e f = not_less_itself a (refs_total.trans a b a e f)
+
+-- different lists stand in one order or the other
+either_less : (a b : List Key) → (a ≡ b → ⊥) → (refs_cmp a b ≡ Less) ⊎ (refs_cmp b a ≡ Less)
+either_less a b differ = by (refs_cmp a b) refl
+  where
+    by : (o : Ordering) → refs_cmp a b ≡ o → (refs_cmp a b ≡ Less) ⊎ (refs_cmp b a ≡ Less)
+    by Less e = inl e
+    by Equal e = absurd (differ (refs_exact a b e))
+    by Greater e = inr (refs_total.antisymm b a ∙ rw e)
+
+greater_than : (x : List Key) (xs : List (List Key)) → AllByRecursion (λ y. refs_cmp x y ≡ Less) xs → (y : List Key) → Contains xs y → refs_cmp x y ≡ Less
+greater_than x [] all y has = Contains-nil y has
+greater_than x (z ∷ xs) all y has =
+    elim (Contains-cons_cases z xs y has) [
+      | inl same ↦ subst (λ w. refs_cmp x w ≡ Less) same all.0
+      | inr rest ↦ greater_than x xs all.1 y rest
+    ]
+
+-- ---- the order of pairs
+
+first_differs : (a b : Pair) → refs_cmp a.first b.first ≡ Less → pair_cmp a b ≡ Less
+first_differs a b e = rw e
+
+second_differs : (a b : Pair) → a.first ≡ b.first → refs_cmp a.second b.second ≡ Less → pair_cmp a b ≡ Less
+second_differs a b same e = rw (same, tied_itself refs_total b.first) e
+
+less_cases : (a b : Pair) → pair_cmp a b ≡ Less → (refs_cmp a.first b.first ≡ Less) ⊎ ((a.first ≡ b.first) × (refs_cmp a.second b.second ≡ Less))
+less_cases a b e = by (refs_cmp a.first b.first) refl
+  where
+    by : (o : Ordering) → refs_cmp a.first b.first ≡ o → (refs_cmp a.first b.first ≡ Less) ⊎ ((a.first ≡ b.first) × (refs_cmp a.second b.second ≡ Less))
+    by Less f = inl f
+    by Equal f = inr (refs_exact a.first b.first f, rw f at e)
+    by Greater f = let no : Greater ≡ Less = rw f at e in cc
+
+-- pairs of which neither is less are one
+pairs_same : (a b : Pair) → (pair_cmp a b ≡ Less → ⊥) → (pair_cmp b a ≡ Less → ⊥) → a ≡ b
+pairs_same a b not_ab not_ba =
+    let first : a.first ≡ b.first = by_first (refs_cmp a.first b.first) refl in
+    let second : a.second ≡ b.second = by_second first (refs_cmp a.second b.second) refl in
+    λ i. record { first = first i; second = second i }
+  where
+    by_first : (o : Ordering) → refs_cmp a.first b.first ≡ o → a.first ≡ b.first
+    by_first Less e = absurd (not_ab (first_differs a b e))
+    by_first Equal e = refs_exact a.first b.first e
+    by_first Greater e = absurd (not_ba (first_differs b a (refs_total.antisymm b.first a.first ∙ rw e)))
+
+    by_second : a.first ≡ b.first → (o : Ordering) → refs_cmp a.second b.second ≡ o → a.second ≡ b.second
+    by_second first Less e = absurd (not_ab (second_differs a b first e))
+    by_second first Equal e = refs_exact a.second b.second e
+    by_second first Greater e = absurd (not_ba (second_differs b a (sym first) (refs_total.antisymm b.second a.second ∙ rw e)))
+
+-- ---- the least pair of a list in order
+
+module _ (hashes : Hashes) where
+  abbrev alike : List Key → List Key → Bool
+  alike refs other = bytes_eq (hashes.hash refs) (hashes.hash other)
+
+  -- a pair of a list, whose first one is the list's first one or not
+  pair_cases : (refs : List Key) (greater : List (List Key)) → IsStrictlySortedBy refs_cmp (refs ∷ greater) → (pair : Pair) → IsPairOf hashes (refs ∷ greater) pair
+      → ((refs ≡ pair.first) × Contains greater pair.second) ⊎ IsPairOf hashes greater pair
+  unfolding IsStrictlySortedBy
+  pair_cases refs greater up pair is =
+      elim (Contains-cons_cases refs greater pair.first is.has_first) [
+        | inl first ↦
+            elim (Contains-cons_cases refs greater pair.second is.has_second) [
+              | inl second ↦ absurd (not_less_itself refs (subst (λ w. refs_cmp w refs ≡ Less) (sym first) (subst (λ w. refs_cmp pair.first w ≡ Less) (sym second) is.ordered)))
+              | inr rest ↦ inl (first, rest)
+            ]
+        | inr rest ↦
+            elim (Contains-cons_cases refs greater pair.second is.has_second) [
+              | inl second ↦ absurd (not_both refs pair.first (greater_than refs greater up.0 pair.first rest) (subst (λ w. refs_cmp pair.first w ≡ Less) (sym second) is.ordered))
+              | inr more ↦ inr (record { has_first = rest; has_second = more; alike = is.alike; ordered = is.ordered })
+            ]
+      ]
+
+  more_pair : (refs : List Key) (greater : List (List Key)) (pair : Pair) → IsPairOf hashes greater pair → IsPairOf hashes (refs ∷ greater) pair
+  more_pair refs greater pair is = record {
+    has_first = Contains-cons_there refs greater pair.first is.has_first;
+    has_second = Contains-cons_there refs greater pair.second is.has_second;
+    alike = is.alike;
+    ordered = is.ordered;
+  }
+
+  -- what the least pair of a list is: none where there is no pair, and else the least one
+  abbrev Answers : Option Pair → List (List Key) → Type 0
+  Answers None lists = (pair : Pair) → IsPairOf hashes lists pair → ⊥
+  Answers (Some pair) lists = IsLeastPair hashes lists pair
+
+  -- the first one alike is the least second one
+  first_found : (refs : List Key) (all : List (List Key)) → IsStrictlySortedBy refs_cmp all → (found : List Key) → find (alike refs) all ≡ Some found → (other : List Key) → Contains all other → hashes.hash refs ≡ hashes.hash other → refs_cmp other found ≡ Less → ⊥
+  unfolding IsStrictlySortedBy
+  first_found refs [] up found e other has same less = Contains-nil other has
+  first_found refs (x ∷ all) up found e other has same less = by (alike refs x) refl (first_found refs all up.1 found)
+    where
+      by : (b : Bool) → alike refs x ≡ b → (find (alike refs) all ≡ Some found → (o : List Key) → Contains all o → hashes.hash refs ≡ hashes.hash o → refs_cmp o found ≡ Less → ⊥) → ⊥
+      by true t later =
+          let here : Some x ≡ Some found = rw t at e in
+          let is : x ≡ found = cc in
+          elim (Contains-cons_cases x all other has) [
+            | inl first ↦ not_less_itself x (subst (λ w. refs_cmp x w ≡ Less) (sym is) (subst (λ w. refs_cmp w found ≡ Less) (sym first) less))
+            | inr rest ↦ not_both x other (greater_than x all up.0 other rest) (subst (λ w. refs_cmp other w ≡ Less) (sym is) less)
+          ]
+      by false f later =
+          elim (Contains-cons_cases x all other has) [
+            | inl first ↦ let yes = (bytes_eq-Decides (hashes.hash refs) (hashes.hash x)).1 (same ∙ ap hashes.hash (sym first)) in absurd (false≢true (sym f ∙ yes))
+            | inr rest ↦ later (rw f at e) other rest same less
+          ]
+
+  -- a list's first one and one alike after it are a pair, and no pair is less than that with the first one alike
+  found_is_least : (refs : List Key) (greater : List (List Key)) → IsStrictlySortedBy refs_cmp (refs ∷ greater) → (found : List Key) → find (alike refs) greater ≡ Some found → IsLeastPair hashes (refs ∷ greater) (record { first = refs; second = found })
+  unfolding IsStrictlySortedBy
+  found_is_least refs greater up found e =
+      let (member, same) = found_member (alike refs) greater found e in
+      record {
+        is = record {
+          has_first = Contains-cons_here refs greater;
+          has_second = Contains-cons_there refs greater found member;
+          alike = (bytes_eq-Decides (hashes.hash refs) (hashes.hash found)).0 same;
+          ordered = greater_than refs greater up.0 found member;
+        };
+        least = λ other is less. elim (less_cases other (record { first = refs; second = found }) less) [
+          | inl first ↦
+              elim (Contains-cons_cases refs greater other.first is.has_first) [
+                | inl here ↦ not_less_itself refs (subst (λ w. refs_cmp w refs ≡ Less) (sym here) first)
+                | inr rest ↦ not_both refs other.first (greater_than refs greater up.0 other.first rest) first
+              ]
+          | inr both ↦
+              elim (pair_cases refs greater up other is) [
+                | inl pair ↦ first_found refs greater up.1 found e other.second pair.1 (ap hashes.hash pair.0 ∙ is.alike) both.1
+                | inr rest ↦ not_less_itself refs (subst (λ w. refs_cmp refs w ≡ Less) both.0 (greater_than refs greater up.0 other.first rest.has_first))
+              ]
+        ];
+      }
+
+  -- where none after it is alike, a list's first one is in no pair
+  not_first : (refs : List Key) (greater : List (List Key)) → find (alike refs) greater ≡ None → (pair : Pair) → IsPairOf hashes (refs ∷ greater) pair → refs ≡ pair.first → Contains greater pair.second → ⊥
+  not_first refs greater e pair is same has =
+      let (found, there) = finds (alike refs) greater pair.second has ((bytes_eq-Decides (hashes.hash refs) (hashes.hash pair.second)).1 (ap hashes.hash same ∙ is.alike)) in
+      let no : None ≡ Some found = sym e ∙ there in
+      cc
+
+  widened : (refs : List Key) (greater : List (List Key)) → IsStrictlySortedBy refs_cmp (refs ∷ greater) → find (alike refs) greater ≡ None → (o : Option Pair) → Answers o greater → Answers o (refs ∷ greater)
+  widened refs greater up e None none = λ pair is. elim (pair_cases refs greater up pair is) [
+    | inl first ↦ not_first refs greater e pair is first.0 first.1
+    | inr rest ↦ none pair rest
+  ]
+  widened refs greater up e (Some pair) is_least = record {
+    is = more_pair refs greater pair is_least.is;
+    least = λ other is less. elim (pair_cases refs greater up other is) [
+      | inl first ↦ not_first refs greater e other is first.0 first.1
+      | inr rest ↦ is_least.least other rest less
+    ];
+  }
+
+  answers : (lists : List (List Key)) → IsStrictlySortedBy refs_cmp lists → Answers (least_pair hashes.hash lists) lists
+  unfolding IsStrictlySortedBy
+  answers [] up = λ pair is. Contains-nil pair.first is.has_first
+  answers (refs ∷ greater) up = by (find (alike refs) greater) refl (answers greater up.1)
+    where
+      by : (o : Option (List Key)) → find (alike refs) greater ≡ o → Answers (least_pair hashes.hash greater) greater → Answers (least_pair hashes.hash (refs ∷ greater)) (refs ∷ greater)
+      by (Some other) e rest = rw e (found_is_least refs greater up other e)
+      by None e rest = rw e (widened refs greater up e (least_pair hashes.hash greater) rest)
+
+  -- ---- the same of any list, put in order
+
+  module _ (lists : List (List Key)) where
+    there : (refs : List Key) → Contains lists refs → Contains (sorted_by refs_cmp lists) refs
+    there refs = member_after_sort refs_cmp lists refs (λ x member e. refs_exact x refs e)
+
+    back : (refs : List Key) → Contains (sorted_by refs_cmp lists) refs → Contains lists refs
+    back = member_before_sort refs_cmp lists
+
+    pair_there : (pair : Pair) → IsPairOf hashes lists pair → IsPairOf hashes (sorted_by refs_cmp lists) pair
+    pair_there pair is = record { has_first = there pair.first is.has_first; has_second = there pair.second is.has_second; alike = is.alike; ordered = is.ordered }
+
+    pair_back : (pair : Pair) → IsPairOf hashes (sorted_by refs_cmp lists) pair → IsPairOf hashes lists pair
+    pair_back pair is = record { has_first = back pair.first is.has_first; has_second = back pair.second is.has_second; alike = is.alike; ordered = is.ordered }
+
+    sorted_answers : Answers (least_pair hashes.hash (sorted_by refs_cmp lists)) (sorted_by refs_cmp lists)
+    sorted_answers = answers (sorted_by refs_cmp lists) (ascending-sorted_by refs_cmp refs_total lists)
+
+    -- no pair is found exactly where no two lists have one hash key
+    pub apart_exactly : (least_pair hashes.hash (sorted_by refs_cmp lists) ≡ None) ↔ IsApart hashes lists
+    apart_exactly = (λ e. apart (subst (λ o. Answers o (sorted_by refs_cmp lists)) e sorted_answers), λ apart. none apart (least_pair hashes.hash (sorted_by refs_cmp lists)) refl sorted_answers)
+      where
+        apart : Answers None (sorted_by refs_cmp lists) → IsApart hashes lists
+        apart no_pair a b a_in b_in e = by (refs_cmp a b) refl
+          where
+            by : (o : Ordering) → refs_cmp a b ≡ o → a ≡ b
+            by Less f = absurd (no_pair (record { first = a; second = b }) (record { has_first = there a a_in; has_second = there b b_in; alike = e; ordered = f }))
+            by Equal f = refs_exact a b f
+            by Greater f = absurd (no_pair (record { first = b; second = a }) (record { has_first = there b b_in; has_second = there a a_in; alike = sym e; ordered = refs_total.antisymm b a ∙ rw f }))
+
+        none : IsApart hashes lists → (o : Option Pair) → least_pair hashes.hash (sorted_by refs_cmp lists) ≡ o → Answers o (sorted_by refs_cmp lists) → least_pair hashes.hash (sorted_by refs_cmp lists) ≡ None
+        none apart None e is = e
+        none apart (Some pair) e is =
+            let same : pair.first ≡ pair.second = apart pair.first pair.second (back pair.first is.is.has_first) (back pair.second is.is.has_second) is.is.alike in
+            absurd (not_less_itself pair.first (subst (λ w. refs_cmp pair.first w ≡ Less) (sym same) is.is.ordered))
+
+    -- the pair that is found is the least one
+    pub least_exactly : (pair : Pair) → (least_pair hashes.hash (sorted_by refs_cmp lists) ≡ Some pair) ↔ IsLeastPair hashes lists pair
+    least_exactly pair = (
+      λ e.
+          let is = subst (λ o. Answers o (sorted_by refs_cmp lists)) e sorted_answers in
+          record { is = pair_back pair is.is; least = λ other other_is less. is.least other (pair_there other other_is) less },
+      λ is. found is (least_pair hashes.hash (sorted_by refs_cmp lists)) refl sorted_answers,
+    )
+      where
+        found : IsLeastPair hashes lists pair → (o : Option Pair) → least_pair hashes.hash (sorted_by refs_cmp lists) ≡ o → Answers o (sorted_by refs_cmp lists) → least_pair hashes.hash (sorted_by refs_cmp lists) ≡ Some pair
+        found is None e no_pair = absurd (no_pair pair (pair_there pair is.is))
+        found is (Some other) e other_is =
+            e ∙ ap Some (pairs_same other pair (λ less. is.least other (pair_back other other_is.is) less) (λ less. other_is.least pair (pair_there pair is.is) less))
+
+-- ---- hubs and links
+
+pub collision_free : (mapping : Mapping) (hashes : Hashes) (windows : List Window) (parent : Parent) → (collision_in mapping hashes windows parent ≡ None) ↔ IsApart hashes (hashed_refs mapping windows parent)
+collision_free mapping hashes windows parent = apart_exactly hashes (hashed_refs mapping windows parent)
+
+pub collision_tied : (mapping : Mapping) (hashes : Hashes) (windows : List Window) (parent : Parent) (pair : Pair) → (collision_in mapping hashes windows parent ≡ Some pair) ↔ IsLeastPair hashes (hashed_refs mapping windows parent) pair
+collision_tied mapping hashes windows parent = least_exactly hashes (hashed_refs mapping windows parent)
+
+first_none : (mapping : Mapping) (hashes : Hashes) (windows : List Window) (all : List Parent) → first_collision mapping hashes windows all ≡ None → All (λ parent. collision_in mapping hashes windows parent ≡ None) all
+first_none mapping hashes windows [] e = All-nil (λ (parent : Parent). collision_in mapping hashes windows parent ≡ None)
+first_none mapping hashes windows (parent ∷ rest) e = by (collision_in mapping hashes windows parent) refl (first_none mapping hashes windows rest)
+  where
+    by : (o : Option Pair) → collision_in mapping hashes windows parent ≡ o → (first_collision mapping hashes windows rest ≡ None → All (λ parent. collision_in mapping hashes windows parent ≡ None) rest) → All (λ parent. collision_in mapping hashes windows parent ≡ None) (parent ∷ rest)
+    by None f later = All-cons (λ (parent : Parent). collision_in mapping hashes windows parent ≡ None) parent rest f (later (rw f at e))
+    by (Some pair) f later = let no = rw f at e in cc
+
+none_first : (mapping : Mapping) (hashes : Hashes) (windows : List Window) (all : List Parent) → All (λ parent. collision_in mapping hashes windows parent ≡ None) all → first_collision mapping hashes windows all ≡ None
+none_first mapping hashes windows [] none = refl
+none_first mapping hashes windows (parent ∷ rest) none =
+    let here : collision_in mapping hashes windows parent ≡ None = All-head (λ (parent : Parent). collision_in mapping hashes windows parent ≡ None) parent rest none in
+    rw here (none_first mapping hashes windows rest (All-tail (λ (parent : Parent). collision_in mapping hashes windows parent ≡ None) parent rest none))
+
+pub none_collide : (mapping : Mapping) (hashes : Hashes) (windows : List Window) → (collision mapping hashes windows ≡ None) ↔ All (λ parent. collision_in mapping hashes windows parent ≡ None) (parents mapping)
+none_collide mapping hashes windows = (first_none mapping hashes windows (parents mapping), none_first mapping hashes windows (parents mapping))

@@ -1,0 +1,70 @@
+-- The deliveries of a window are its offers, each list once, by the first feed.
+use Rattle.std.proofs.Common.{◌≡◌, ◌↔◌, true, List, Some, sym, ◌∙◌, ap, subst}
+use Rattle.std.specs.Prelude.{Contains}
+use Rattle.std.specs.FinMap.{slice_cmp-IsAntisymmetric}
+use Rattle.dv_text.specs.declared.rows.Key.{Key}
+use Rattle.dv_text.specs.declared.rows.Window.{Window}
+use Rattle.dv_text.specs.Exact.{key_cmp-IsAntisymmetric}
+use Rattle.dv_text.specs.Keys.{refs_eq}
+use Rattle.dv_text.specs.Orders.{refs_cmp}
+use Rattle.dv_text.specs.Sorting.{sorted_by}
+use Rattle.dv_text.proofs.Members.{filter_map_member, member_of_filter_map}
+use Rattle.dv_text.proofs.SortedLists.{member_after_sort}
+use Rattle.dv_catalog.specs.declared.entries.Parent.{Parent}
+use Rattle.dv_catalog.specs.Entries.{Mapping}
+use Rattle.dv_records.specs.declared.deliveries.Delivery.{Delivery}
+use Rattle.dv_records.specs.Deliveries.{deliveries, first_offer, is_offered, offered_refs, offers}
+use Rattle.dv_records.proofs.Deciding.{refs_eq-Decides}
+use Rattle.dv_records.proofs.Memberships.{Contains-map, any_from_member, any_member, finds, found_member, map_member}
+
+module _ (mapping : Mapping) (parent : Parent) (window : Window) where
+  -- a list that is offered is among those that are, and the other way round
+  pub offered_member : (refs : List Key) → is_offered mapping parent window refs ≡ true → Contains (offered_refs mapping parent window) refs
+  offered_member refs e =
+      let (offer, member, same) = any_member (λ (offer : Delivery). refs_eq offer.refs refs) (offers mapping parent window) e in
+      let is : offer.refs ≡ refs = (refs_eq-Decides offer.refs refs).0 same in
+      subst (Contains (offered_refs mapping parent window)) is (Contains-map (λ (offer : Delivery). offer.refs) (offers mapping parent window) offer member)
+
+  pub is_offered-member : (refs : List Key) → Contains (offered_refs mapping parent window) refs → is_offered mapping parent window refs ≡ true
+  is_offered-member refs has =
+      let (offer, member, is) = map_member (λ (offer : Delivery). offer.refs) (offers mapping parent window) refs has in
+      any_from_member (λ (offer : Delivery). refs_eq offer.refs refs) (offers mapping parent window) offer member ((refs_eq-Decides offer.refs refs).1 is)
+
+  -- the first offer of a list has the list, and is an offer
+  pub first_offer-refs : (refs : List Key) (item : Delivery) → first_offer mapping parent window refs ≡ Some item → item.refs ≡ refs
+  first_offer-refs refs item e =
+      (refs_eq-Decides item.refs refs).0 (found_member (λ (offer : Delivery). refs_eq offer.refs refs) (offers mapping parent window) item e).1
+
+  pub first_offer-member : (refs : List Key) (item : Delivery) → first_offer mapping parent window refs ≡ Some item → Contains (offers mapping parent window) item
+  first_offer-member refs item e = (found_member (λ (offer : Delivery). refs_eq offer.refs refs) (offers mapping parent window) item e).0
+
+  -- a list that is offered has a first offer
+  pub has_first_offer : (refs : List Key) → Contains (offered_refs mapping parent window) refs → (item : Delivery) × (first_offer mapping parent window refs ≡ Some item)
+  has_first_offer refs has =
+      let (offer, member, is) = map_member (λ (offer : Delivery). offer.refs) (offers mapping parent window) refs has in
+      finds (λ (offer : Delivery). refs_eq offer.refs refs) (offers mapping parent window) offer member ((refs_eq-Decides offer.refs refs).1 is)
+
+  sorted_has : (refs : List Key) → Contains (offered_refs mapping parent window) refs → Contains (sorted_by refs_cmp (offered_refs mapping parent window)) refs
+  sorted_has refs = member_after_sort refs_cmp (offered_refs mapping parent window) refs (λ x member e. slice_cmp-IsAntisymmetric key_cmp-IsAntisymmetric x refs e)
+
+  -- an item is a delivery exactly where it is the first offer of its list
+  pub deliveries_member : (item : Delivery) → Contains (deliveries mapping parent window) item ↔ (first_offer mapping parent window item.refs ≡ Some item)
+  deliveries_member item = (
+    λ has.
+        let (refs, member, e) = filter_map_member (first_offer mapping parent window) (sorted_by refs_cmp (offered_refs mapping parent window)) item has in
+        ap (first_offer mapping parent window) (first_offer-refs refs item e) ∙ e,
+    λ e.
+        let within = Contains-map (λ (offer : Delivery). offer.refs) (offers mapping parent window) item (first_offer-member item.refs item e) in
+        member_of_filter_map (first_offer mapping parent window) (sorted_by refs_cmp (offered_refs mapping parent window)) item.refs item (sorted_has item.refs within) e,
+  )
+
+  -- a delivery's list is offered
+  pub delivery-offered : (item : Delivery) → Contains (deliveries mapping parent window) item → Contains (offered_refs mapping parent window) item.refs
+  delivery-offered item has =
+      Contains-map (λ (offer : Delivery). offer.refs) (offers mapping parent window) item (first_offer-member item.refs item ((deliveries_member item).0 has))
+
+  -- no two deliveries have one list
+  pub deliveries-apart : (a b : Delivery) → Contains (deliveries mapping parent window) a → Contains (deliveries mapping parent window) b → a.refs ≡ b.refs → a ≡ b
+  deliveries-apart a b a_in b_in e =
+      let both : Some a ≡ Some b = sym ((deliveries_member a).0 a_in) ∙ ap (first_offer mapping parent window) e ∙ (deliveries_member b).0 b_in in
+      cc

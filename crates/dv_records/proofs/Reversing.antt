@@ -1,0 +1,93 @@
+-- Windows and extracts from the newest to the oldest.
+use Rattle.std.proofs.Common.{◌≡◌, ◌↔◌, ℕ, ◌<◌, inl, inr, List, [], ◌∷◌, ◌++◌, Option, Some, None, refl, sym, ap, subst, reverse, map}
+use Rattle.std.specs.Prelude.{Contains}
+use Rattle.std.specs.declared.cmp.Ordering.TheVariants.{Less}
+use Rattle.std.specs.Cmp.{ranked}
+use Rattle.std.specs.List.{AllByRecursion, filter_map}
+use Rattle.std.specs.List.Sorted.{IsStrictlySortedBy}
+use Rattle.std.specs.Option.{option_map}
+use Rattle.std.specs.Ordering.{nat_cmp}
+use Rattle.std.proofs.lemmas.List.{reverse-append}
+use Rattle.std.proofs.lemmas.List.Elements.{Contains-append_cases}
+use Rattle.std.proofs.lemmas.List.Sorted.{Contains-permutation, IsPermutation-reverse, IsPermutation-sym}
+use Rattle.dv_text.proofs.Members.{Contains-cons_cases, Contains-cons_here, Contains-cons_there, filter_map_member}
+use Rattle.dv_text.specs.declared.rows.Window.{Window}
+use Rattle.dv_records.specs.History.{Extract, extract_of, history, IsInLoadOrder}
+use Rattle.dv_records.proofs.Memberships.{Contains-nil}
+
+pub reverse_member : {X : Type 0} (xs : List X) (x : X) → Contains (reverse xs) x ↔ Contains xs x
+reverse_member xs x = (
+  Contains-permutation (reverse xs) xs x (IsPermutation-sym xs (reverse xs) (IsPermutation-reverse xs)),
+  Contains-permutation xs (reverse xs) x (IsPermutation-reverse xs),
+)
+
+-- what an option's value is made of
+pub made_of : {X Y : Type 0} (f : X → Y) (o : Option X) (y : Y) → option_map f o ≡ Some y → (x : X) × (o ≡ Some x) × (f x ≡ y)
+made_of f None y e = cc
+made_of f (Some x) y e = let is : Some (f x) ≡ Some y = e in (x, cc, cc)
+
+-- each is before a date
+abbrev pub AllBefore : {X : Type 0} → (X → ℕ) → ℕ → List X → Type 0
+AllBefore {X} load date xs = (x : X) → Contains xs x → load x < date
+
+-- each is before those that stand in front of it
+abbrev pub IsNewestFirst : {X : Type 0} → (X → ℕ) → List X → Type 0
+IsNewestFirst load [] = Unit {0}
+IsNewestFirst load (newest ∷ older) = AllBefore load (load newest) older × IsNewestFirst load older
+
+module _ {X : Type 0} (load : X → ℕ) where
+  -- one that is before all goes to the end
+  newest_first-push : (xs : List X) (oldest : X) → IsNewestFirst load xs → ((x : X) → Contains xs x → load oldest < load x) → IsNewestFirst load (xs ++ oldest ∷ [])
+  newest_first-push [] oldest order first = (λ x has. Contains-nil x has, tt)
+  newest_first-push (newest ∷ xs) oldest order first = (
+    λ x has. elim (Contains-append_cases xs (oldest ∷ []) x has) [
+      | inl older ↦ order.0 x older
+      | inr last ↦
+          elim (Contains-cons_cases oldest [] x last) [
+            | inl same ↦ subst (λ w. load w < load newest) same (first newest (Contains-cons_here newest xs))
+            | inr none ↦ Contains-nil x none
+          ]
+    ],
+    newest_first-push xs oldest order.1 (λ x has. first x (Contains-cons_there newest xs x has)),
+  )
+
+  later_than : (date : ℕ) (xs : List X) → AllByRecursion (λ y. nat_cmp date y ≡ Less) (map load xs) → (x : X) → Contains xs x → date < load x
+  later_than date [] all x has = Contains-nil x has
+  later_than date (y ∷ xs) all x has =
+      elim (Contains-cons_cases y xs x has) [
+        | inl same ↦ subst (λ w. date < load w) same (ranked date (load y) Less (sym all.0))
+        | inr rest ↦ later_than date xs all.1 x rest
+      ]
+
+  -- what ascends stands the newest first when it is turned round
+  pub newest_first : (xs : List X) → IsStrictlySortedBy nat_cmp (map load xs) → IsNewestFirst load (reverse xs)
+  unfolding IsStrictlySortedBy
+  newest_first [] order = tt
+  newest_first (x ∷ xs) order =
+      rw (reverse-append (x ∷ []) xs)
+      (newest_first-push (reverse xs) x (newest_first xs order.1) (λ y has. later_than (load x) xs order.0 y ((reverse_member xs y).0 has)))
+
+-- what is made of some of them stands in the same order
+pub newest_first-filter_map : {X Y : Type 0} (load : X → ℕ) (made_load : Y → ℕ) (h : X → Option Y) → ((x : X) (y : Y) → h x ≡ Some y → made_load y ≡ load x) → (xs : List X) → IsNewestFirst load xs → IsNewestFirst made_load (filter_map h xs)
+newest_first-filter_map load made_load h keeps [] order = tt
+newest_first-filter_map {X} {Y} load made_load h keeps (x ∷ xs) order = by (newest_first-filter_map load made_load h keeps xs order.1) (h x) refl
+  where
+    by : IsNewestFirst made_load (filter_map h xs) → (o : Option Y) → h x ≡ o → IsNewestFirst made_load (filter_map h (x ∷ xs))
+    by rest None e = rw e rest
+    by rest (Some y) e = rw e (
+      λ z has.
+          let (w, member, is) = filter_map_member h xs z has in
+          rw (keeps x y e, keeps w z is) (order.0 w member),
+      rest,
+    )
+
+-- an extract has its window's load date
+pub extract-load : (feed : ℕ) (window : Window) (extract : Extract) → extract_of feed window ≡ Some extract → extract.load ≡ window.load
+extract-load feed window extract e =
+    let (staged, found, is) = made_of _ _ extract e in ap (λ (x : Extract). x.load) (sym is)
+
+-- so the extracts of windows in load order stand the newest first when the windows are turned round
+pub history-newest_first : (feed : ℕ) (sealed : List Window) → IsInLoadOrder sealed → IsNewestFirst (λ (extract : Extract). extract.load) (history feed (reverse sealed))
+history-newest_first feed sealed order =
+    newest_first-filter_map (λ (window : Window). window.load) (λ (extract : Extract). extract.load) (extract_of feed) (extract-load feed) (reverse sealed)
+    (newest_first (λ (window : Window). window.load) sealed order)

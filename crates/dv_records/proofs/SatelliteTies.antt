@@ -1,0 +1,69 @@
+-- Satellite batches are the lists that meet their records.
+use Rattle.std.proofs.Common.{◌≡◌, ◌↔◌, ℕ, Bool, true, false, List, Some, refl, sym, ◌∙◌, ap}
+use Rattle.std.specs.Prelude.{Contains}
+use Rattle.std.specs.declared.cmp.Ordering.{Ordering}
+use Rattle.std.specs.declared.cmp.Ordering.TheVariants.{Less, Equal, Greater}
+use Rattle.std.specs.Cmp.{IsTotalOrder, on_total, then_total}
+use Rattle.std.specs.Cmp.Lexicographic.{lists_total, nat_list_cmp_total}
+use Rattle.std.specs.FinMap.{nat_cmp-IsAntisymmetric, slice_cmp-IsAntisymmetric}
+use Rattle.std.specs.Ordering.{ordering_then}
+use Rattle.dv_text.specs.declared.rows.NRow.{NRow}
+use Rattle.dv_text.specs.Keys.{Hashes}
+use Rattle.dv_records.specs.declared.raw_rows.MultiRow.{MultiRow}
+use Rattle.dv_records.specs.declared.raw_rows.SatRow.{SatRow}
+use Rattle.dv_records.specs.Collisions.{IsApart}
+use Rattle.dv_records.specs.History.{Extract, all_refs}
+use Rattle.dv_records.specs.Satellites.{is_changed, multi_batch, multi_cmp, multi_row, sat_batch, sat_row, IsMultiBatch, IsSatBatch}
+use Rattle.dv_records.specs.Ties.{IsOnePerList, IsOnePerSub}
+use Rattle.dv_records.proofs.BatchTies.{tied, tied_by_digest}
+use Rattle.dv_records.proofs.Memberships.{Contains-map}
+
+pub multi_total : IsTotalOrder multi_cmp
+multi_total = then_total (on_total (λ (row : MultiRow). row.parent) nat_list_cmp_total) (on_total (λ (row : MultiRow). row.sub) (lists_total nat_list_cmp_total))
+
+both_tied : (r s : Ordering) → ordering_then r s ≡ Equal → (r ≡ Equal) × (s ≡ Equal)
+both_tied Less s e = (e, cc)
+both_tied Equal s e = (refl, e)
+both_tied Greater s e = (e, cc)
+
+module _ (hashes : Hashes) (source : List ℕ) (older : List Extract) (newest : Extract) where
+  -- the row has the hash key of the extract row's list
+  pub sat_parent : (row : NRow) (made : SatRow) → sat_row hashes source older newest row ≡ Some made → made.parent ≡ hashes.hash row.refs
+  sat_parent row made is = by (is_changed older newest row.refs) refl
+    where
+      by : (changed : Bool) → is_changed older newest row.refs ≡ changed → made.parent ≡ hashes.hash row.refs
+      by true e = let gives = rw e at is in cc
+      by false e = let no = rw e at is in cc
+
+  -- and its sub
+  pub multi_made : (row : NRow) (made : MultiRow) → multi_row hashes source older newest row ≡ Some made → (made.parent ≡ hashes.hash row.refs) × (made.sub ≡ row.sub)
+  multi_made row made is = by (is_changed older newest row.refs) refl
+    where
+      by : (changed : Bool) → is_changed older newest row.refs ≡ changed → (made.parent ≡ hashes.hash row.refs) × (made.sub ≡ row.sub)
+      by true e = let gives = rw e at is in (cc, cc)
+      by false e = let no = rw e at is in (cc, cc)
+
+  -- rows whose lists have one hash key have one list
+  one_list : IsApart hashes (all_refs newest.rows) → (a b : NRow) → Contains newest.rows a → Contains newest.rows b → hashes.hash a.refs ≡ hashes.hash b.refs → a.refs ≡ b.refs
+  one_list apart a b a_in b_in =
+      apart a.refs b.refs (Contains-map (λ (row : NRow). row.refs) newest.rows a a_in) (Contains-map (λ (row : NRow). row.refs) newest.rows b b_in)
+
+  pub sat_tied : IsOnePerList newest.rows → IsApart hashes (all_refs newest.rows) → (rows : List SatRow) → (rows ≡ sat_batch hashes source older newest) ↔ IsSatBatch hashes source older newest rows
+  sat_tied single apart rows =
+      tied_by_digest (λ (row : SatRow). row.parent) (λ (row : NRow). hashes.hash row.refs) (sat_row hashes source older newest) newest.rows sat_parent
+      (λ a b a_in b_in e. single a b a_in b_in (one_list apart a b a_in b_in e)) rows
+
+  module _ (single : IsOnePerSub newest.rows) (apart : IsApart hashes (all_refs newest.rows)) where
+    one_row : (s t : NRow) (a b : MultiRow) → Contains newest.rows s → Contains newest.rows t → multi_row hashes source older newest s ≡ Some a → multi_row hashes source older newest t ≡ Some b → multi_cmp a b ≡ Equal → a ≡ b
+    one_row s t a b s_in t_in a_is b_is e =
+        let ties = both_tied _ _ e in
+        let parents : a.parent ≡ b.parent = slice_cmp-IsAntisymmetric nat_cmp-IsAntisymmetric a.parent b.parent ties.0 in
+        let subs : a.sub ≡ b.sub = slice_cmp-IsAntisymmetric (slice_cmp-IsAntisymmetric nat_cmp-IsAntisymmetric) a.sub b.sub ties.1 in
+        let from_s = multi_made s a a_is in
+        let from_t = multi_made t b b_is in
+        let same : s ≡ t = single s t s_in t_in (one_list apart s t s_in t_in (sym from_s.0 ∙ parents ∙ from_t.0)) (sym from_s.1 ∙ subs ∙ from_t.1) in
+        let both : Some a ≡ Some b = sym a_is ∙ ap (multi_row hashes source older newest) same ∙ b_is in
+        cc
+
+    pub multi_tied : (rows : List MultiRow) → (rows ≡ multi_batch hashes source older newest) ↔ IsMultiBatch hashes source older newest rows
+    multi_tied rows = tied multi_cmp multi_total (multi_row hashes source older newest) newest.rows one_row rows

@@ -1,0 +1,69 @@
+ghost use Rattle.std.specs.Prelude.{◌≡◌, OnOk, OnErr};
+ghost use Rattle.std.specs.List.{position_from};
+ghost use Rattle.dv_records.specs.Stores.{appended_to, rows_then, table_eq};
+
+use crate::pages::is_same_table;
+use crate::stores::{Rows, TableRows};
+use dv_catalog::TableId;
+use dv_text::{List, Memory};
+use std::alloc::Global;
+use std::mem;
+
+// Puts rows behind others of their kind, whose list grows in place. Rows of another kind are dropped.
+fn put_behind(rows: &mut Rows, more: Rows) -> Result<(), Memory>
+    ensures ok { OnOk result (rows.new ≡ rows_then rows.old more) }
+    ensures err { OnErr result (rows.new ≡ rows.old) }
+{
+    match (rows, more) {
+        (Rows::Hubs(rows), Rows::Hubs(more)) => rows.append(more),
+        (Rows::Links(rows), Rows::Links(more)) => rows.append(more),
+        (Rows::Sats(rows), Rows::Sats(more)) => rows.append(more),
+        (Rows::Multis(rows), Rows::Multis(more)) => rows.append(more),
+        (Rows::Statuses(rows), Rows::Statuses(more)) => rows.append(more),
+        (Rows::Effects(rows), Rows::Effects(more)) => rows.append(more),
+        (Rows::Pits(rows), Rows::Pits(more)) => rows.append(more),
+        (Rows::Bridges(rows), Rows::Bridges(more)) => rows.append(more),
+        _ => Ok(()),
+    }
+}
+
+fn place_of(tables: &[TableRows], table: TableId) -> Option<usize>
+    ensures { result ≡ position_from (λ entry. table_eq entry.table table) 0 tables.now }
+{
+    tables
+        .iter()
+        .position(|entry| is_same_table(entry.table, table))
+}
+
+fn append_entry(entries: &mut Vec<TableRows>, table: TableId, rows: Rows) -> Result<(), Memory>
+    ensures ok { OnOk result (entries.new.items ≡ appended_to table rows entries.old.items) }
+    ensures err { OnErr result (entries.new.items ≡ entries.old.items) }
+{
+    match place_of(entries, table) {
+        None => {
+            entries.push(TableRows { table, rows })?;
+            Ok(())
+        }
+        Some(at) => {
+            let entry = &mut entries[at];
+            put_behind(&mut entry.rows, rows)?;
+            Ok(())
+        }
+    }
+}
+
+/// Puts rows at the end of a table. For want of memory the tables are as before.
+pub(crate) fn append(
+    alloc: Global,
+    tables: &mut List<TableRows>,
+    table: TableId,
+    rows: Rows,
+) -> Result<(), Memory>
+    ensures ok { OnOk result (tables.new ≡ appended_to table rows tables.old) }
+    ensures err { OnErr result (tables.new ≡ tables.old) }
+{
+    let mut entries = mem::replace(tables, List::new(alloc)).into_vec();
+    let done = append_entry(&mut entries, table, rows);
+    *tables = List::from_vec(entries);
+    done
+}

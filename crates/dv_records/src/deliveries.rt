@@ -1,0 +1,26 @@
+ghost use Rattle.std.specs.Prelude.{◌≡◌, IsTrue, option_map, List as list_of_items};
+ghost use Rattle.dv_records.specs.HubNames.{HubName, are_names_apart, key_named};
+
+use dv_catalog::TableId;
+use dv_text::{Digest, Key, List};
+
+/// What a window brings to a hub or a link: a reference list, of one key for a hub, and the first feed in
+/// declared order that delivers it.
+#[derive(Debug, PartialEq, Eq, Drop)]
+pub struct Delivery {
+    pub table: TableId,
+    pub refs: List<Key>,
+    pub feed: u32,
+}
+
+/// What tells the key of a hub by its hash key.
+pub trait HubNames {
+    /// Hubs, digests, and the keys that these stand for.
+    ghost names: { Self → list_of_items HubName };
+
+    /// The key of a hub with this digest; none exactly where there is none. Takes no memory.
+    fn name(&self, hub: u32, d: &Digest) -> Option<&Key>
+        ensures { option_map (λ key. key.now) result ≡ key_named hub d.now (names self.now) };
+
+    ghost apart: { (known : Self) → IsTrue (are_names_apart (names known)) };
+}
