@@ -1,0 +1,4 @@
+pub mod MartTexts
+pub mod QueryTexts
+pub mod Texts
+pub mod Whats

@@ -1,0 +1,50 @@
+ghost use Rattle.std.specs.Prelude.{◌≡◌, IfOk, Some, None, option_map, nat_eq};
+ghost use Rattle.std.specs.List.{starts_with};
+ghost use Rattle.dv_mart.specs.Whats as spec;
+
+use dv_catalog::{Catalog, TableId};
+use dv_text::{Memory, Text};
+use std::alloc::Global;
+
+/// A mart or a table, by the place of its feed, hub or path in declared order.
+#[derive(Clone, Copy, Debug, PartialEq, Eq)]
+pub enum What {
+    /// The rows of a feed.
+    Feed(u32),
+    /// The keys of a hub, with the attributes that its feeds give.
+    Hub(u32),
+    /// The reference lists of a path's feeds, joined.
+    Path(u32),
+    /// From when to when each reference list of a feed was in force.
+    Period(u32),
+    /// A raw table.
+    Table(TableId),
+    /// The point-in-time table of a hub.
+    Pit(u32),
+    /// The bridge table of a path.
+    Bridge(u32),
+}
+
+// What stands behind a kind, where the word begins with it.
+fn behind<'a>(kind: &[u8], word: &'a [u8]) -> Option<&'a [u8]>
+    ensures { option_map (λ rest. rest.now) result ≡ spec.behind kind.now word.now }
+{
+    word.strip_prefix(kind)
+}
+
+impl What {
+    /// What a word names; none where it names no mart that is offered. In this stage the marts of feeds
+    /// are offered, as `feed:F`.
+    pub fn read(alloc: Global, catalog: &Catalog, word: &Text) -> Result<Option<What>, Memory>
+        ensures { IfOk result (λ what. what ≡ spec.offered_what catalog.now word.now) }
+    {
+        let Some(rest) = behind(b"feed:", word.bytes()) else {
+            return Ok(None);
+        };
+        let name = Text::of(alloc, rest)?;
+        match catalog.find_feed(&name) {
+            Some(feed) => Ok(Some(What::Feed(feed))),
+            None => Ok(None),
+        }
+    }
+}
