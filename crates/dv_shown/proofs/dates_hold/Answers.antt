@@ -1,0 +1,24 @@
+use Rattle.std.proofs.Common.{refl}
+use Rattle.jiff_core.specs.Calendar.{day_count, days_from_civil, days_of_months, days_of_years}
+use Rattle.dv_text.specs.Stamps.{has_digits, has_form, has_marks, month_from, seconds_if, stamp_in, stamp_text, year_from}
+use Rattle.dv_shown.proofs.dates_hold.Goals as goal
+
+pub returns : goal.returns
+unfolding stamp_in stamp_text year_from month_from has_form has_marks has_digits seconds_if days_from_civil day_count days_of_years days_of_months
+returns c =
+    record {
+      first = refl;
+      second = refl;
+      before = refl;
+      after = refl;
+      no_day = refl;
+      beginning = refl;
+      second_day = refl;
+      last_second = refl;
+      end_of_century = refl;
+      none_of = refl;
+      no_form = refl;
+      shown = refl;
+      numbers = refl;
+      end = refl;
+    }

@@ -1,0 +1,21 @@
+use Rattle.std.proofs.Common.{refl}
+use Rattle.std.specs.Fmt.{digits}
+use Rattle.std.specs.Str.{chars, is_utf8}
+use Rattle.toml.proofs.OnLiterals.{toml_on_literals}
+use Rattle.dv_shown.proofs.files_declared.Goals as goal
+
+pub returns : goal.returns
+unfolding toml_on_literals digits is_utf8 chars
+returns c =
+    record {
+      read = refl;
+      not_checked = refl;
+      not_formed = refl;
+      built = refl;
+      attributes_not_built = refl;
+      empty_is_built = refl;
+      two_hubs_not_built = refl;
+      fault_before_form = refl;
+      two_parts_not_built = refl;
+      forms = refl;
+    }

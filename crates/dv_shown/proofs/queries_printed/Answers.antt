@@ -1,0 +1,20 @@
+use Rattle.std.proofs.Common.{refl}
+use Rattle.jiff_core.specs.Calendar.{day_count, days_from_civil, days_of_months, days_of_years}
+use Rattle.dv_text.specs.Stamps.{has_digits, has_form, has_marks, month_from, seconds_if, stamp_in, stamp_text, year_from}
+use Rattle.std.specs.Fmt.{digits}
+use Rattle.dv_shown.proofs.queries_printed.Goals as goal
+
+pub returns : goal.returns
+unfolding stamp_in stamp_text year_from month_from has_form has_marks has_digits seconds_if days_from_civil day_count days_of_years days_of_months digits
+returns c =
+    record {
+      unknown_mart = refl;
+      bad_date = refl;
+      too_large = refl;
+      future = refl;
+      no_snapshot = refl;
+      no_future = refl;
+      unknown_table = refl;
+      snapshots_full = refl;
+      nothing_open = refl;
+    }

@@ -1,0 +1,15 @@
+use Rattle.std.proofs.Common.{refl}
+use Rattle.md5.specs.Md5.{block_words, compress, digest_bytes, hash_after, md5, rounds}
+use Rattle.jiff_core.specs.Calendar.{day_count, days_from_civil, days_of_months, days_of_years}
+use Rattle.dv_text.specs.Stamps.{has_digits, has_form, has_marks, month_from, seconds_if, stamp_in, stamp_text, year_from}
+use Rattle.csv.specs.Writing.{fields_text, is_blank}
+use Rattle.hex.proofs.OnLiterals.{hex_on_literals}
+use Rattle.std.specs.Fmt.{digits}
+use Rattle.dv_shown.proofs.status_written.Goals as goal
+
+pub returns : goal.returns
+unfolding md5 digest_bytes hash_after compress rounds block_words stamp_in stamp_text year_from month_from has_form has_marks has_digits seconds_if days_from_civil day_count days_of_years days_of_months fields_text is_blank hex_on_literals digits
+returns c =
+    record {
+      status = refl;
+    }

@@ -1,0 +1,15 @@
+use Rattle.std.proofs.Common.{◌≡◌, refl, arith}
+use Rattle.dv_shown.specs.Words.{day}
+use Rattle.dv_shown.proofs.stores_changed.Goals as goal
+
+pub returns : goal.returns
+returns c =
+    record {
+      mapped = refl;
+      staged = refl;
+      filled = refl;
+      sealed = refl;
+      staged_at = refl;
+      staged_later = λ s. let e : day 1 ≡ day 2 = s in omega (arith, e);
+      not_staged = λ s. s;
+    }

@@ -1,0 +1,99 @@
+use Rattle.std.proofs.Common.{◌≡◌, ℕ, zero, suc, List, [], refl, ap, ◌∙◌, arith, length, map, slice_get, Option, Some, None, true, false}
+use Rattle.std.specs.Prelude.{Result, Ok, Err, unwrap_or}
+use Rattle.dv_catalog.specs.declared.map_error.MapError.{MapError}
+use Rattle.dv_catalog.specs.declared.tables.TableId.TheVariants.{Hub, Status}
+use Rattle.dv_catalog.specs.Entries.{Mapping}
+use Rattle.dv_catalog.specs.MappingFiles.{read_mapping}
+use Rattle.dv_records.specs.Standing.{HasTables, IsMappedBy}
+use Rattle.dv_records.specs.Stores.{row_count}
+use Rattle.dv_records.specs.Vault.{partial}
+use Rattle.dv_shown.specs.Mappings.{bare}
+use Rattle.dv_shown.specs.Windows.{two_keys_window}
+use Rattle.dv_shown.specs.Words.{day, plain}
+use Rattle.std.specs.Str.{chars, is_utf8}
+use Rattle.toml.proofs.OnLiterals.{toml_on_literals}
+use Rattle.dv_shown.specs.Stepped.{bare_file, other_file, status_first, two_staged}
+use Rattle.dv_shown.proofs.stores_stand.Goals as goal
+
+-- a number of tables that have the batch leaves none of them out before another
+no_gap : (k : ℕ) → HasTables (two_staged status_first) (partial bare plain [] two_keys_window k) → ⊥
+no_gap zero tables = let e : 2 ≡ 0 = ap row_count (tables (Status 0)) in omega (arith, e)
+no_gap (suc k) tables = let e : 0 ≡ 2 = ap row_count (tables (Hub 0)) in omega (arith, e)
+
+-- how many hubs a text declares
+hub_count : Result Mapping MapError → ℕ
+hub_count (Ok mapping) = length mapping.hubs
+hub_count (Err fault) = 0
+
+hubs_in : Option (List ℕ) → ℕ
+hubs_in text = hub_count (read_mapping (unwrap_or text []))
+
+counts_two : hubs_in (Some other_file) ≡ 2
+unfolding hubs_in hub_count toml_on_literals is_utf8 chars
+counts_two = refl
+
+not_mapped : IsMappedBy bare (Some other_file) → ⊥
+unfolding hubs_in hub_count
+not_mapped mapped =
+    let one : hubs_in (Some other_file) ≡ 1 = ap hubs_in mapped.stored_is ∙ ap hub_count mapped.reads in
+    omega (arith, one, counts_two)
+
+pub returns : goal.returns
+unfolding toml_on_literals is_utf8 chars
+returns c =
+    record {
+      sealed_window = record {
+        valid = refl;
+        mapped = record { text = bare_file; stored_is = refl; reads = refl };
+        windows = refl;
+        stage = refl;
+        tables_stand = λ table. refl;
+        snapshots = refl;
+      };
+      with_snapshot = record {
+        valid = refl;
+        mapped = record { text = bare_file; stored_is = refl; reads = refl };
+        windows = refl;
+        stage = refl;
+        tables_stand = λ table. refl;
+        snapshots = refl;
+      };
+      open_window = record {
+        valid = refl;
+        mapped = record { text = bare_file; stored_is = refl; reads = refl };
+        windows = refl;
+        stage = refl;
+        tables_stand = (1, omega arith, λ table. refl);
+        snapshots = refl;
+      };
+      open_in_none = record {
+        valid = refl;
+        mapped = record { text = bare_file; stored_is = refl; reads = refl };
+        windows = refl;
+        stage = refl;
+        tables_stand = (0, omega arith, λ table. refl);
+        snapshots = refl;
+      };
+      open_in_all = record {
+        valid = refl;
+        mapped = record { text = bare_file; stored_is = refl; reads = refl };
+        windows = refl;
+        stage = refl;
+        tables_stand = (2, omega arith, λ table. refl);
+        snapshots = refl;
+      };
+      out_of_order = λ s. no_gap s.tables_stand.0 s.tables_stand.2;
+      not_valid = λ s. let e : false ≡ true = s.valid in cc;
+      no_mapping = λ s. let e : None ≡ Some s.mapped.text = s.mapped.stored_is in cc;
+      other_mapping = λ s. not_mapped s.mapped;
+      other_heads = λ s. let e : day 2 ≡ day 1 = ap (λ heads. unwrap_or (slice_get (map (λ head. head.load) heads) 0) 0) s.windows in omega (arith, e);
+      other_stage = λ s. let e : Some two_keys_window ≡ None = s.stage in cc;
+      no_rows = λ s. let e : 0 ≡ 2 = ap row_count (s.tables_stand (Hub 0)) in omega (arith, e);
+      other_snapshot = λ s. let e : day 2 ≡ day 1 = ap (λ snaps. unwrap_or (slice_get (map (λ snap. snap.head.date) snaps) 0) 0) s.snapshots in omega (arith, e);
+      fresh = record { mapping = refl; stage = refl; windows = refl; empty = λ table. refl; snapshots = refl };
+      mapped_store = λ s. let e : Some bare_file ≡ None = s.mapping in cc;
+      staged_store = λ s. let e : Some two_keys_window ≡ None = s.stage in cc;
+      headed_store = λ s. let e : 1 ≡ 0 = ap length s.windows in omega (arith, e);
+      filled_store = λ s. let e : 2 ≡ 0 = ap row_count (s.empty (Hub 0)) in omega (arith, e);
+      snapped_store = λ s. let e : 1 ≡ 0 = ap length s.snapshots in omega (arith, e);
+    }

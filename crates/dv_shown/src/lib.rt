@@ -1,0 +1,333 @@
+//! Worked examples of the definitions of the warehouse, as equations that the check computes.
+#![tactic(auto)]
+
+ghost use Rattle.dv_shown.specs.Answered.{LimitsAnswered, RowsAnswered, StatesHold, WindowsAnswered};
+ghost use Rattle.dv_shown.specs.Brought.{BroughtHold};
+ghost use Rattle.dv_shown.specs.Collided.{CollisionsHold};
+ghost use Rattle.dv_shown.specs.Contents.{ContentsHold};
+ghost use Rattle.dv_shown.specs.Counts.{CountsHold, WeightsHold};
+ghost use Rattle.dv_shown.specs.Declared.{FaultsDeclared, FilesDeclared, MappingsDeclared, PlacesUnbuilt, TablesDeclared};
+ghost use Rattle.dv_shown.specs.Digested.{HashesDigested, LinkDigested, PitDigested, SatelliteDigested, StatusDigested};
+ghost use Rattle.dv_shown.specs.Kept.{ChangesMade, SnapshotsKept, StoresChanged, TablesKept};
+ghost use Rattle.dv_shown.specs.Limited.{LimitsKept, LimitsPassed};
+ghost use Rattle.dv_shown.specs.Listed.{ManifestsRead};
+ghost use Rattle.dv_shown.specs.Normals.{DatesHold, KeysHold, NormalsHold};
+ghost use Rattle.dv_shown.specs.Printed.{QueriesPrinted, RulesPrinted};
+ghost use Rattle.dv_shown.specs.Read.{ExtractsRead};
+ghost use Rattle.dv_shown.specs.Restored.{PremisesMet, PresenceHolds, RestoredHold, ValidHold};
+ghost use Rattle.dv_shown.specs.Selected.{HubMartsHold, PathMartsHold, PeriodMartsHold};
+ghost use Rattle.dv_shown.specs.Snapped.{PitsHold, SnapshotsHold};
+ghost use Rattle.dv_shown.specs.Stepped.{InitsStep, LoadsStep, ResumesStep, SnapshotsStep, StoresStand};
+ghost use Rattle.dv_shown.specs.Tables.{EffectsHold, HubsHold, LinksHold, SatellitesHold, StatusesHold, UpToHold};
+ghost use Rattle.dv_shown.specs.Vaults.{VaultsHold};
+ghost use Rattle.dv_shown.specs.Written.{BridgeWritten, EffectWritten, LinkWritten, MartsWritten, MultiWritten, PitWritten, StatusWritten, TablesWritten, WordsHold};
+
+/// Normal forms of keys and attributes.
+pub fn normals_hold()
+    ensures { NormalsHold }
+{}
+
+/// Keys, rows and their order.
+pub fn keys_hold()
+    ensures { KeysHold }
+{}
+
+/// The dates of the examples as texts.
+pub fn dates_hold()
+    ensures { DatesHold }
+{}
+
+/// Contents of feeds at dates.
+pub fn contents_hold()
+    ensures { ContentsHold }
+{}
+
+/// What windows bring to hubs and links.
+pub fn brought_hold()
+    ensures { BroughtHold }
+{}
+
+/// Hubs after windows.
+pub fn hubs_hold()
+    ensures { HubsHold }
+{}
+
+/// Links after windows.
+pub fn links_hold()
+    ensures { LinksHold }
+{}
+
+/// Satellites, plain and multi-active, after windows.
+pub fn satellites_hold()
+    ensures { SatellitesHold }
+{}
+
+/// Status tables after windows.
+pub fn statuses_hold()
+    ensures { StatusesHold }
+{}
+
+/// Effectivity tables after windows.
+pub fn effects_hold()
+    ensures { EffectsHold }
+{}
+
+/// The rows of tables up to dates.
+pub fn up_to_hold()
+    ensures { UpToHold }
+{}
+
+/// Whole vaults, and vaults while a window is loaded.
+pub fn vaults_hold()
+    ensures { VaultsHold }
+{}
+
+/// How many rows windows add.
+pub fn counts_hold()
+    ensures { CountsHold }
+{}
+
+/// What vaults weigh.
+pub fn weights_hold()
+    ensures { WeightsHold }
+{}
+
+/// Which keys and reference lists collide.
+pub fn collisions_hold()
+    ensures { CollisionsHold }
+{}
+
+/// Hub marts at dates.
+pub fn hub_marts_hold()
+    ensures { HubMartsHold }
+{}
+
+/// Path marts, and how large their prefixes are.
+pub fn path_marts_hold()
+    ensures { PathMartsHold }
+{}
+
+/// Period marts at dates.
+pub fn period_marts_hold()
+    ensures { PeriodMartsHold }
+{}
+
+/// Point-in-time tables at dates.
+pub fn pits_hold()
+    ensures { PitsHold }
+{}
+
+/// Bridges and whole snapshots.
+pub fn snapshots_hold()
+    ensures { SnapshotsHold }
+{}
+
+/// A satellite under MD5.
+pub fn satellite_digested()
+    ensures { SatelliteDigested }
+{}
+
+/// A status table under MD5.
+pub fn status_digested()
+    ensures { StatusDigested }
+{}
+
+/// A point-in-time table under MD5.
+pub fn pit_digested()
+    ensures { PitDigested }
+{}
+
+/// A link under MD5.
+pub fn link_digested()
+    ensures { LinkDigested }
+{}
+
+/// Hash keys and hash differences under MD5.
+pub fn hashes_digested()
+    ensures { HashesDigested }
+{}
+
+/// What status rows say of a key at dates.
+pub fn presence_holds()
+    ensures { PresenceHolds }
+{}
+
+/// Which satellite row is valid for a parent at dates.
+pub fn valid_hold()
+    ensures { ValidHold }
+{}
+
+/// Contents that are read back from a hub's table and a status table.
+pub fn restored_hold()
+    ensures { RestoredHold }
+{}
+
+/// The windows of that example meet what reading back from the tables asks of windows.
+pub fn premises_met()
+    ensures { PremisesMet }
+{}
+
+/// What comes of windows by their extracts and load dates.
+pub fn windows_answered()
+    ensures { WindowsAnswered }
+{}
+
+/// What comes of windows by their rows.
+pub fn rows_answered()
+    ensures { RowsAnswered }
+{}
+
+/// The limits of a vault.
+pub fn limits_answered()
+    ensures { LimitsAnswered }
+{}
+
+/// What is past a limit, whatever else it is.
+pub fn limits_passed()
+    ensures { LimitsPassed }
+{}
+
+/// What keeps to a limit is decided by the rest.
+pub fn limits_kept()
+    ensures { LimitsKept }
+{}
+
+/// Which states of the warehouse are valid.
+pub fn states_hold()
+    ensures { StatesHold }
+{}
+
+/// The rules of windows as they are printed.
+pub fn rules_printed()
+    ensures { RulesPrinted }
+{}
+
+/// The rules of queries as they are printed.
+pub fn queries_printed()
+    ensures { QueriesPrinted }
+{}
+
+/// Marts as text.
+pub fn marts_written()
+    ensures { MartsWritten }
+{}
+
+/// Raw tables as text, under MD5.
+pub fn tables_written()
+    ensures { TablesWritten }
+{}
+
+/// A status table as text, under MD5.
+pub fn status_written()
+    ensures { StatusWritten }
+{}
+
+/// A point-in-time table as text, under MD5.
+pub fn pit_written()
+    ensures { PitWritten }
+{}
+
+/// A link's table as text, under MD5.
+pub fn link_written()
+    ensures { LinkWritten }
+{}
+
+/// A multi-active satellite's table as text, under MD5.
+pub fn multi_written()
+    ensures { MultiWritten }
+{}
+
+/// An effectivity table as text, under MD5.
+pub fn effect_written()
+    ensures { EffectWritten }
+{}
+
+/// A bridge as text, under MD5.
+pub fn bridge_written()
+    ensures { BridgeWritten }
+{}
+
+/// The words for marts and tables, and the text of the windows.
+pub fn words_hold()
+    ensures { WordsHold }
+{}
+
+/// Steps of loads.
+pub fn loads_step()
+    ensures { LoadsStep }
+{}
+
+/// Steps of completions.
+pub fn resumes_step()
+    ensures { ResumesStep }
+{}
+
+/// Steps of snapshots.
+pub fn snapshots_step()
+    ensures { SnapshotsStep }
+{}
+
+/// Steps of the storing of a mapping.
+pub fn inits_step()
+    ensures { InitsStep }
+{}
+
+/// What stores stand for.
+pub fn stores_stand()
+    ensures { StoresStand }
+{}
+
+/// Tables of stores, and kinds of rows.
+pub fn tables_kept()
+    ensures { TablesKept }
+{}
+
+/// The order of a store's snapshots and their tables.
+pub fn snapshots_kept()
+    ensures { SnapshotsKept }
+{}
+
+/// What changes make of a store.
+pub fn stores_changed()
+    ensures { StoresChanged }
+{}
+
+/// What a changing call of a keeper does, by its answer.
+pub fn changes_made()
+    ensures { ChangesMade }
+{}
+
+/// What manifests say.
+pub fn manifests_read()
+    ensures { ManifestsRead }
+{}
+
+/// The first fault of mapping files with several.
+pub fn faults_declared()
+    ensures { FaultsDeclared }
+{}
+
+/// Which mappings are valid.
+pub fn mappings_declared()
+    ensures { MappingsDeclared }
+{}
+
+/// Which tables are a mapping's.
+pub fn tables_declared()
+    ensures { TablesDeclared }
+{}
+
+/// What whole mapping files declare, and what this stage builds of them.
+pub fn files_declared()
+    ensures { FilesDeclared }
+{}
+
+/// Where a mapping has a form that is not built yet.
+pub fn places_unbuilt()
+    ensures { PlacesUnbuilt }
+{}
+
+/// What extracts read as, and the room that they take.
+pub fn extracts_read()
+    ensures { ExtractsRead }
+{}
