@@ -1,0 +1,9 @@
+pub mod BoardMoves
+pub mod KeyCalls
+pub mod KeyClosing
+pub mod KeyMoves
+pub mod KeyProbes
+pub mod KeyRoom
+pub mod Listed
+pub mod OneList
+pub mod Sums

@@ -1,0 +1,4 @@
+use Rattle.dv_board.proofs.board.Board.split.Given as goal
+
+abbrev pub ghosts-cut : goal.ghosts-cut
+ghosts-cut a = record { share = a.share }

@@ -1,0 +1,12 @@
+use Rattle.std.specs.Prelude.{◌≡◌, ◌<◌, ◌≤◌, [], length}
+use Rattle.dv_board.specs.Probing.{IsProbing}
+use Rattle.dv_board.proofs.key_table.KeyTable.offer.Given as goal
+
+abbrev pub invariant-probe : goal.invariant-probe
+invariant-probe g l = record {
+  mine : l.seat-inside.seat.table_id ≡ l.initial.seat-inside.seat.table_id;
+  free : l.seat-inside.seat.me.1 ≡ [];
+  inside : l.passed < length (g.I.KeyItems.keys l.self.items).classes;
+  share : 1 ≤ l.initial.seat-inside.seat.me.0.share;
+  probing : IsProbing l.initial.seat-inside.seat.me.0 l.item l.passed l.seat-inside.seat.me.0;
+}

@@ -1,0 +1,5 @@
+use Rattle.std.specs.Prelude.{◌≡◌, length}
+use Rattle.dv_board.proofs.tests.hundred_classes.Given as goal
+
+abbrev pub invariant-loop-item : goal.invariant-loop-item
+invariant-loop-item l = length l.tags.items ≡ l.count

@@ -1,0 +1,11 @@
+pub mod Counting
+pub mod Boards
+pub mod BoardRule
+pub mod Items
+pub mod KeyTables
+pub mod KeyRule
+pub mod Listing
+pub mod Probing
+pub mod TaggedItems
+pub mod TaggedLaws
+pub mod Laws
