@@ -1,0 +1,74 @@
+-- Names that stood earlier, the last of them first.
+use Rattle.std.proofs.Common.{◌≡◌, ℕ, suc, ◌+◌, ◌<◌, Bool, true, false, ◌||◌, cond, List, [], ◌∷◌, Option, Some, None, length, get_or, take, drop, map, refl, sym, ◌∙◌, ap}
+use Rattle.std.specs.Prelude.{is_some, option_map, position, reverse}
+use Rattle.std.specs.List.{list_any}
+use Rattle.std.specs.Str.{bytes_eq}
+use Rattle.std.proofs.lemmas.List.{drop_more, take_more, map-append, reverse-append}
+use Rattle.std.proofs.lemmas.List.Sorted.{IsPermutation-reverse, list_any-IsPermutation}
+use Rattle.dv_catalog.specs.declared.entries.FeedDef.{FeedDef}
+use Rattle.dv_catalog.specs.declared.windows.ExtractIn.{ExtractIn}
+use Rattle.dv_catalog.specs.Entries.{Mapping}
+use Rattle.dv_records.specs.Outcomes.{is_feed, repeated_name}
+use Rattle.dv_stage.proofs.Places.{place_where, position-is}
+
+list_any-map : {X Y : Type 0} (p : Y → Bool) (f : X → Y) (xs : List X) → list_any p (map f xs) ≡ list_any (λ x. p (f x)) xs
+list_any-map p f [] = refl
+list_any-map p f (x ∷ xs) = rw (list_any-map p f xs)
+
+-- the feeds of extracts, the last first
+abbrev pub feeds_back : List ExtractIn → List (List ℕ)
+feeds_back extracts = reverse (map (λ extract. extract.feed) extracts)
+
+seen : (name : List ℕ) (extracts : List ExtractIn) → list_any (bytes_eq name) (feeds_back extracts) ≡ list_any (λ extract. bytes_eq name extract.feed) extracts
+seen name extracts =
+    sym (list_any-IsPermutation (bytes_eq name) (map (λ (extract : ExtractIn). extract.feed) extracts) (feeds_back extracts) (IsPermutation-reverse (map (λ (extract : ExtractIn). extract.feed) extracts)))
+    ∙ list_any-map (bytes_eq name) (λ (extract : ExtractIn). extract.feed) extracts
+
+-- one extract more
+turn : (xs : List ExtractIn) (i : ℕ) (d : ExtractIn) → i < length xs
+    → repeated_name (feeds_back (take i xs)) (map (λ extract. extract.feed) (drop i xs))
+    ≡ cond (list_any (λ extract. bytes_eq (get_or xs i d).feed extract.feed) (take i xs)) (Some (get_or xs i d).feed)
+    (repeated_name (feeds_back (take (i + 1) xs)) (map (λ extract. extract.feed) (drop (i + 1) xs)))
+turn xs i d at =
+    let back : feeds_back (take (i + 1) xs) ≡ (get_or xs i d).feed ∷ feeds_back (take i xs) =
+    ap feeds_back (take_more xs i d at)
+    ∙ ap reverse (map-append (λ (extract : ExtractIn). extract.feed) (take i xs) (get_or xs i d ∷ []))
+    ∙ reverse-append (map (λ (extract : ExtractIn). extract.feed) (take i xs)) ((get_or xs i d).feed ∷ [])
+    in
+    rw (drop_more xs i d at, back, ← seen (get_or xs i d).feed (take i xs)) refl
+
+-- a feed that stands among those before is the answer
+pub name_found : (xs : List ExtractIn) (i : ℕ) (x : ExtractIn) (r : Bool) → i < length xs → x ≡ get_or xs i x
+    → r ≡ list_any (λ extract. bytes_eq x.feed extract.feed) (take i xs) → r ≡ true
+    → repeated_name (feeds_back (take i xs)) (map (λ extract. extract.feed) (drop i xs)) ≡ repeated_name [] (map (λ extract. extract.feed) xs)
+    → Some x.feed ≡ repeated_name [] (map (λ extract. extract.feed) xs)
+name_found xs i x r at is found passes invariant =
+    let again : list_any (λ extract. bytes_eq (get_or xs i x).feed extract.feed) (take i xs) ≡ true = rw (← is) (sym found ∙ passes) in
+    let rest = rw again at (turn xs i x at) in
+    ap (λ (e : ExtractIn). Some e.feed) is ∙ sym rest ∙ invariant
+
+-- and any other is passed over
+pub name_passed : (xs : List ExtractIn) (i : ℕ) (x : ExtractIn) (r : Bool) → i < length xs → x ≡ get_or xs i x
+    → r ≡ list_any (λ extract. bytes_eq x.feed extract.feed) (take i xs) → r ≡ false
+    → repeated_name (feeds_back (take i xs)) (map (λ extract. extract.feed) (drop i xs)) ≡ repeated_name [] (map (λ extract. extract.feed) xs)
+    → repeated_name (feeds_back (take (i + 1) xs)) (map (λ extract. extract.feed) (drop (i + 1) xs)) ≡ repeated_name [] (map (λ extract. extract.feed) xs)
+name_passed xs i x r at is found fails invariant =
+    let again : list_any (λ extract. bytes_eq (get_or xs i x).feed extract.feed) (take i xs) ≡ false = rw (← is) (sym found ∙ fails) in
+    let rest = rw again at (turn xs i x at) in
+    sym rest ∙ invariant
+
+placed : {X : Type 0} (p : X → Bool) (xs : List X) → is_some (place_where p xs) ≡ list_any p xs
+placed p [] = refl
+placed {X} p (x ∷ xs) = by (p x) (place_where p xs) (placed p xs)
+  where
+    by : (b : Bool) (o : Option ℕ) → is_some o ≡ list_any p xs → is_some (cond b (Some 0) (option_map suc o)) ≡ (b || list_any p xs)
+    by true o e = refl
+    by false None e = e
+    by false (Some n) e = e
+
+-- there is a place where a test is passed exactly where it is passed
+pub some_place : {X : Type 0} (p : X → Bool) (xs : List X) → is_some (position p xs) ≡ list_any p xs
+some_place p xs = ap is_some (position-is p xs) ∙ placed p xs
+
+pub feed_place : (mapping : Mapping) (name : List ℕ) → is_some (position (λ feed. bytes_eq feed.name name) mapping.feeds) ≡ is_feed mapping name
+feed_place mapping name = some_place (λ (feed : FeedDef). bytes_eq feed.name name) mapping.feeds

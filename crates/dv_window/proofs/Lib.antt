@@ -1,0 +1,3 @@
+pub mod FeedSteps
+pub mod GivenSteps
+pub mod LengthSteps
