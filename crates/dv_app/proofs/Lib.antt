@@ -1,0 +1,15 @@
+pub mod Completes
+pub mod FirstForms
+pub mod FirstOutcomes
+pub mod FirstStores
+pub mod HashedLists
+pub mod HubLoads
+pub mod KeysAlone
+pub mod Loading
+pub mod MartSteps
+pub mod OfferedKeys
+pub mod PageSteps
+pub mod Parts
+pub mod StatusLoads
+pub mod TakenSteps
+pub mod VaultRules

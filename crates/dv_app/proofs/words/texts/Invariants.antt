@@ -1,0 +1,5 @@
+use Rattle.std.proofs.Common.{◌≡◌, take, map, string_bytes}
+use Rattle.dv_app.proofs.words.texts.Given as goal
+
+abbrev pub invariant-loop-word : goal.invariant-loop-word
+invariant-loop-word l = l.texts ≡ map string_bytes (take l.word-index l.words)

@@ -1,0 +1,41 @@
+// The program: it makes the real folder, keeper and streams, runs the command of its words, and ends with
+// the command's status.
+#![tactic(auto)]
+
+use dv_app::{Md5Keys, run};
+use dv_outside::{OpenGate, RealErr, RealFolder, RealOut};
+use dv_records::MemoryKeeper;
+use dv_text::List;
+use std::env;
+use std::process::ExitCode;
+
+// The words of the command line without the program's name; none where they can't be read.
+fn words(rt: &HostRuntime) -> Option<Vec<String>> {
+    let args = env::args(rt).ok()?;
+    let mut words = Vec::new(rt.alloc());
+    for word in args.skip(1) {
+        words.push(word).ok()?;
+    }
+    Some(words)
+}
+
+fn main(rt: HostRuntime) -> ExitCode {
+    let alloc = rt.alloc();
+    // Words that can't be read are no command, as no words are.
+    let words = words(&rt).unwrap_or(Vec::new(alloc));
+    let mut out = RealOut::new(rt.stdout());
+    let mut err = RealErr::new(rt.stderr());
+    let mut folder = RealFolder::new(rt);
+    let mut keeper = MemoryKeeper::new(alloc, List::new(alloc));
+    let status = run(
+        alloc,
+        &words,
+        &mut folder,
+        &mut keeper,
+        &mut out,
+        &mut err,
+        &Md5Keys,
+        &OpenGate,
+    );
+    ExitCode::from(status as u8)
+}
