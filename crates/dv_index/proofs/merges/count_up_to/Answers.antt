@@ -1,0 +1,14 @@
+use Rattle.std.proofs.Common.{rules}
+use Rattle.std.specs.Prelude.{not}
+use Rattle.std.specs.Ordering.{is_lt}
+use Rattle.std.proofs.lemmas.List.Sorted.{IsPartitionPoint-from_clause}
+use Rattle.dv_index.specs.Numbers.{number_cmp, parents_of}
+use Rattle.dv_index.proofs.Merging.{up_to_first}
+use Rattle.dv_index.proofs.Order.{number_lt, number_order}
+use Rattle.dv_index.proofs.merges.count_up_to.Goals as goal
+
+pub returns-clause-point : goal.returns-clause-point
+returns-clause-point g c =
+    let parents = parents_of g.R.Placed.place c.args.rows.now in
+    IsPartitionPoint-from_clause (λ other. not (number_lt parents c.args.number other)) _ _ c.partition_point.ensures.partitioned
+    (up_to_first (number_lt parents) (number_order parents) c.args.index.now c.args.number c.requires) (λ a r q k. search rules)

@@ -1,0 +1,30 @@
+use Rattle.std.proofs.Common.{◌≡◌, ◌∙◌, Some, None, get_or, refl, arith, sym}
+use Rattle.std.proofs.lemmas.List.{length-map, map_push, append-nil}
+use Rattle.std.proofs.lemmas.Option.{slice_get-get_or}
+use Rattle.dv_index.specs.Numbers.{last_row, parents_of}
+use Rattle.dv_index.proofs.Order.{within}
+use Rattle.dv_index.proofs.Walk.{walk_more}
+use Rattle.dv_index.proofs.walks.last_rows.Goals as goal
+use Rattle.dv_index.proofs.walks.last_rows.Goals.{then-is_last+in_ok-push, else-is_last}
+
+pub bounds-rows-index : goal.bounds-rows-index
+bounds-rows-index g c = rw length-map at (within (parents_of g.R.Placed.place c.args.rows.now) c.args.index.now c.requires c.loop-place.place 0 c.loop-place-test.true)
+
+pub offset_bounds-rows-index : goal.offset_bounds-rows-index
+offset_bounds-rows-index g c = let inside = bounds-rows-index g c in omega arith
+
+pub loop-place-preserved : goal.loop-place-preserved
+loop-place-preserved g c =
+    let h = last_row g.R.Placed.place c.args.rows.now c.args.index.now c.args.date in
+    elim c.if-is_last.branch [
+      | then-is_last+in_ok-push w ↦
+          let pushed = (w.in_ok-push.ensures {u = tt}).items in
+          let last = sym c.is_last.ensures ∙ w.if-is_last.true in
+          let there = slice_get-get_or c.args.rows.now (get_or c.args.index.now c.loop-place.place 0) w.index-rows-index.result (rw length-map at (within (parents_of g.R.Placed.place c.args.rows.now) c.args.index.now c.requires c.loop-place.place 0 c.loop-place-test.true)) in
+          let row : h c.loop-place.place ≡ Some w.index-rows-index.result = rw (last, there, ← w.index-rows-index.is) refl in
+          rw (w.found-is, pushed, map_push, c.loop-place.invariant, walk_more h c.loop-place.place (Some w.index-rows-index.result) row) refl
+      | else-is_last w ↦
+          let other = sym c.is_last.ensures ∙ w.if-is_last.false in
+          let none : h c.loop-place.place ≡ None = rw other refl in
+          rw (w.found-is, walk_more h c.loop-place.place None none, append-nil) c.loop-place.invariant
+    ]

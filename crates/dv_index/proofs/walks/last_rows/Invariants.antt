@@ -1,0 +1,8 @@
+use Rattle.std.proofs.Common.{◌≡◌, map}
+use Rattle.std.specs.List.{filter_map, range_with_len}
+use Rattle.dv_index.specs.Numbers.{last_row}
+use Rattle.dv_index.proofs.walks.last_rows.Given as goal
+
+-- those found so far
+abbrev pub invariant-loop-place : goal.invariant-loop-place
+invariant-loop-place g l = map (λ row. row.now) l.found.items ≡ filter_map (last_row g.R.Placed.place l.rows l.index l.date) (range_with_len 0 l.place)

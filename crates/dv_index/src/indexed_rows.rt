@@ -1,0 +1,106 @@
+ghost use Rattle.std.specs.Prelude.{◌≡◌, ◌≤◌, ◌+◌, ◌++◌, IfOk, IsTrue, OnOk, length, map, option_map, vec_capacity};
+ghost use Rattle.dv_index.specs.Places.{are_in_load_order, latest_at, latest_of_each};
+
+use crate::merges::grow;
+use crate::numbers::complete;
+use crate::placed::Placed;
+use crate::{searches, walks};
+use dv_text::{Digest, List, Memory, Stamp};
+use std::alloc::Global;
+use std::marker::Model;
+
+/// Rows in the order in which they were appended, with an index by parent and load date. Contracts see them
+/// as the rows, and for how many more there is room.
+#[derive(Drop)]
+pub struct IndexedRows<R: Placed> {
+    rows: Vec<R>,
+    index: Vec<usize>,
+    // Empty between calls: room in which the numbers of new rows are put in order.
+    arrivals: Vec<usize>,
+}
+
+impl<R: Placed> Model for IndexedRows<R> {
+    ghost use Rattle.std.specs.Prelude.{◌≡◌, ◌-◌, [], IsTrue, length, min, vec_capacity};
+    ghost use Rattle.dv_index.specs.Numbers.{IsIndex, parents_of};
+    ghost use Rattle.dv_index.specs.Places.{Indexed, are_in_load_order};
+
+    ghost Value = { Indexed R };
+
+    ghost view = { λ t. record {
+      rows = t.rows.items;
+      spare = min (vec_capacity t.rows - length t.rows.items) (min (vec_capacity t.index - length t.index.items) (vec_capacity t.arrivals));
+    } };
+
+    ghost invariant = { λ t. IsIndex (parents_of R.place t.rows.items) t.index.items × IsTrue (are_in_load_order R.place t.rows.items) × (t.arrivals.items ≡ []) };
+}
+
+// Puts rows behind others, for which there is room. Takes no memory.
+fn append_within<R: Placed>(rows: &mut Vec<R>, more: List<R>)
+    requires { length rows.old.items + length more ≤ vec_capacity rows.old }
+    ensures { rows.new.items ≡ rows.old.items ++ more }
+{
+    let mut more = more.into_vec();
+    rows.append(&mut more).unwrap();
+}
+
+impl<R: Placed> IndexedRows<R> {
+    /// The table of these rows. Condition: their load dates do not fall.
+    pub fn from_rows(alloc: Global, rows: List<R>) -> Result<IndexedRows<R>, Memory>
+        requires { IsTrue (are_in_load_order R.place rows) }
+        ensures { IfOk result (λ table. table.rows ≡ rows) }
+    {
+        let rows = rows.into_vec();
+        let mut index = Vec::with_capacity(alloc, rows.len())?;
+        complete(&rows, &mut index);
+        Ok(IndexedRows {
+            rows,
+            index,
+            arrivals: Vec::new(alloc),
+        })
+    }
+
+    /// The rows, in the order in which they were appended. Takes no memory.
+    pub fn rows(&self) -> &[R]
+        ensures { result.now ≡ self.now.rows }
+    {
+        self.rows.as_slice()
+    }
+
+    /// The parent's last row that is not later than the date; none where there is no such row. Takes no
+    /// memory, and compares a number of rows that is logarithmic in their number.
+    pub fn latest(&self, parent: &Digest, date: Stamp) -> Option<&R>
+        ensures { option_map (λ row. row.now) result ≡ latest_at R.place self.now.rows parent.now date }
+    {
+        searches::latest(&self.rows, &self.index, parent, date)
+    }
+
+    /// The last row of each parent that is not later than the date, by parent: the references point into the
+    /// table. One walk over the index.
+    pub fn latest_of_each(&self, alloc: Global, date: Stamp) -> Result<Vec<&R>, Memory>
+        ensures { IfOk result (λ found. map (λ row. row.now) found.items ≡ latest_of_each R.place self.now.rows date) }
+    {
+        walks::latest_of_each(alloc, &self.rows, &self.index, date)
+    }
+
+    /// Makes room for so many more rows. The rows stay as they are, also for want of memory.
+    pub fn reserve(&mut self, more: u64) -> Result<(), Memory>
+        ensures rows { self.new.rows ≡ self.old.rows }
+        ensures room { OnOk result (more ≤ self.new.spare) }
+    {
+        self.rows.reserve(more as usize)?;
+        self.index.reserve(more as usize)?;
+        self.arrivals.reserve(more as usize)?;
+        Ok(())
+    }
+
+    /// Appends rows. Conditions: there is room for them, and the load dates of all rows do not fall. Takes no
+    /// memory. Each new row finds its place in the index by a binary search, and the index moves once.
+    pub fn apply(&mut self, rows: List<R>)
+        requires room { length rows ≤ self.old.spare }
+        requires order { IsTrue (are_in_load_order R.place (self.old.rows ++ rows)) }
+        ensures { self.new.rows ≡ self.old.rows ++ rows }
+    {
+        append_within(&mut self.rows, rows);
+        grow(&self.rows, &mut self.index, &mut self.arrivals);
+    }
+}
