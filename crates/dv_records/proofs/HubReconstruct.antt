@@ -38,7 +38,7 @@ use Rattle.dv_records.proofs.Memberships.{Contains-flat_map, Contains-map, Conta
 use Rattle.dv_records.proofs.Reversing.{made_of, reverse_member}
 use Rattle.dv_records.proofs.StatusReconstruct.{status_tells}
 
-row_total : IsTotalOrder row_cmp
+pub row_total : IsTotalOrder row_cmp
 row_total =
     then_total (on_total (λ (row : NRow). row.refs) refs_total)
     (then_total (on_total (λ (row : NRow). row.sub) (lists_total nat_list_cmp_total)) (on_total (λ (row : NRow). row.attrs) (lists_total nat_list_cmp_total)))
@@ -75,11 +75,11 @@ module _ (mapping : Mapping) (hub feed : ℕ) (definition : FeedDef) (at : slice
 
 -- ---- the rows of a content are those of one extract
 
-newest_extract : (all : List Extract) (row : NRow) → Contains (newest_rows all) row → (extract : Extract) × Contains all extract × Contains extract.rows row
+pub newest_extract : (all : List Extract) (row : NRow) → Contains (newest_rows all) row → (extract : Extract) × Contains all extract × Contains extract.rows row
 newest_extract [] row has = Contains-nil row has
 newest_extract (newest ∷ older) row has = (newest, Contains-cons_here newest older, has)
 
-newest_ascends : (all : List Extract) → ((extract : Extract) → Contains all extract → IsStrictlySortedBy row_cmp extract.rows) → IsStrictlySortedBy row_cmp (newest_rows all)
+pub newest_ascends : (all : List Extract) → ((extract : Extract) → Contains all extract → IsStrictlySortedBy row_cmp extract.rows) → IsStrictlySortedBy row_cmp (newest_rows all)
 unfolding IsStrictlySortedBy
 newest_ascends [] up = tt
 newest_ascends (newest ∷ older) up = up newest (Contains-cons_here newest older)

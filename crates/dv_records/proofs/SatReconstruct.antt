@@ -22,7 +22,7 @@ use Rattle.dv_records.specs.declared.raw_rows.SatRow.{SatRow}
 use Rattle.dv_records.specs.declared.stores.Rows.TheVariants.{Sats}
 use Rattle.dv_records.specs.Batches.{appended}
 use Rattle.dv_records.specs.Collisions.{IsApart}
-use Rattle.dv_records.specs.History.{Extract, all_refs, delivered_refs, delivers, extract_of, history, up_to, IsInLoadOrder}
+use Rattle.dv_records.specs.History.{Extract, all_refs, delivered_refs, delivers, extract_of, history, lists_of, up_to, IsInLoadOrder}
 use Rattle.dv_records.specs.Reconstruction.{first_attrs, valid_at, HasOneRowEach}
 use Rattle.dv_records.specs.Satellites.{is_changed, last_rows, rows_of, sat_batch, sat_row, IsSatBatch}
 use Rattle.dv_records.specs.Ties.{IsOnePerList}
@@ -32,7 +32,7 @@ use Rattle.dv_records.proofs.FeedSteps.{appended-history}
 use Rattle.dv_records.proofs.Memberships.{Contains-map, any_member, finds, found_member}
 use Rattle.dv_records.proofs.Reversing.{IsNewestFirst, history-newest_first, reverse_member}
 use Rattle.dv_records.proofs.SatelliteTies.{sat_tied}
-use Rattle.dv_records.proofs.StatusReconstruct.{all_up_to, lists_of, lists_reversed}
+use Rattle.dv_records.proofs.StatusReconstruct.{all_up_to, lists_reversed}
 
 -- ---- rows
 
@@ -55,13 +55,13 @@ row_eq-Decides a b = (to, from)
         ((texts_eq-Decides a.attrs b.attrs).1 (ap (λ (r : NRow). r.attrs) e))
 
 -- rows of a list are rows, and of the list
-of_list : (rows : List NRow) (refs : List Key) (row : NRow) → Contains (rows_of rows refs) row → Contains rows row × (row.refs ≡ refs)
+pub of_list : (rows : List NRow) (refs : List Key) (row : NRow) → Contains (rows_of rows refs) row → Contains rows row × (row.refs ≡ refs)
 of_list rows refs row has =
     let (member, same) = (filtered_members (λ (row : NRow). refs_eq row.refs refs) rows row).0 has in
     (member, (refs_eq-Decides row.refs refs).0 same)
 
 -- where each list has one row, the attributes of its rows are those of any of them
-only_attrs : (rows : List NRow) → IsOnePerList rows → (refs : List Key) (row : NRow) → Contains rows row → row.refs ≡ refs → first_attrs (rows_of rows refs) ≡ Some row.attrs
+pub only_attrs : (rows : List NRow) → IsOnePerList rows → (refs : List Key) (row : NRow) → Contains rows row → row.refs ≡ refs → first_attrs (rows_of rows refs) ≡ Some row.attrs
 only_attrs rows single refs row has same = by (rows_of rows refs) refl
   where
     by : (all : List NRow) → rows_of rows refs ≡ all → first_attrs (rows_of rows refs) ≡ Some row.attrs
@@ -74,7 +74,7 @@ only_attrs rows single refs row has same = by (rows_of rows refs) refl
         let one : first ≡ row = single first row member has (is ∙ sym same) in
         ap first_attrs e ∙ ap (λ (r : NRow). Some r.attrs) one
 
-changed_false : (a b : List NRow) → not (pointwise row_eq a b) ≡ false → a ≡ b
+pub changed_false : (a b : List NRow) → not (pointwise row_eq a b) ≡ false → a ≡ b
 changed_false a b e = (slice_eq-Decides row_eq-Decides a b (pointwise row_eq a b) refl).0 (by (pointwise row_eq a b) e)
   where
     by : (r : Bool) → not r ≡ false → r ≡ true

@@ -22,7 +22,7 @@ use Rattle.dv_records.specs.declared.raw_rows.StatusRow.{StatusRow}
 use Rattle.dv_records.specs.declared.stores.Rows.TheVariants.{Statuses}
 use Rattle.dv_records.specs.Batches.{appended}
 use Rattle.dv_records.specs.Collisions.{IsApart}
-use Rattle.dv_records.specs.History.{Extract, all_refs, content, delivered_refs, delivers, extract_of, history, newest_rows, up_to, IsInLoadOrder}
+use Rattle.dv_records.specs.History.{Extract, all_refs, content, delivered_refs, delivers, extract_of, history, lists_of, newest_rows, up_to, IsInLoadOrder}
 use Rattle.dv_records.specs.Reconstruction.{is_appearance, present_at, says_present}
 use Rattle.dv_records.specs.Statuses.{code_between, code_of, status_batch, IsStatusBatch}
 use Rattle.dv_records.specs.Vault.{feed_batch, table_after}
@@ -30,10 +30,6 @@ use Rattle.dv_records.proofs.FeedSteps.{appended-history}
 use Rattle.dv_records.proofs.Memberships.{Contains-flat_map, Contains-nil, finds, flat_map_member, found_member}
 use Rattle.dv_records.proofs.Reversing.{AllBefore, IsNewestFirst, history-newest_first, made_of, reverse_member}
 use Rattle.dv_records.proofs.StatusTies.{status_stands, status_tied}
-
--- the reference lists of extracts
-abbrev pub lists_of : List Extract → List (List Key)
-lists_of all = flat_map (λ extract. all_refs extract.rows) all
 
 -- those of the newest extract are among them
 pub newest_lists : (all : List Extract) (refs : List Key) → Contains (all_refs (newest_rows all)) refs → Contains (lists_of all) refs

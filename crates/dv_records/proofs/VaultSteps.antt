@@ -1,6 +1,7 @@
 -- What a window more adds to the vault.
-use Rattle.std.proofs.Common.{◌≡◌, ℕ, ◌+◌, List, [], ◌∷◌, ◌++◌, refl, ap, ◌∙◌, length, arith, append-nil, reverse, map}
+use Rattle.std.proofs.Common.{◌≡◌, ℕ, ◌+◌, true, false, List, [], ◌∷◌, ◌++◌, refl, ap, ◌∙◌, length, arith, append-nil, reverse, map}
 use Rattle.std.specs.Prelude.{sum_by}
+use Rattle.std.proofs.lemmas.Bool.{false≢true}
 use Rattle.std.proofs.lemmas.List.{reverse-append, take_all, drop_all}
 use Rattle.std.proofs.lemmas.List.{length-append}
 use Rattle.std.proofs.lemmas.List.Sums.{sum_by-append, sum_by-cons}
@@ -16,15 +17,17 @@ use Rattle.dv_records.specs.declared.raw_rows.LinkRow.{LinkRow}
 use Rattle.dv_records.specs.declared.raw_rows.MultiRow.{MultiRow}
 use Rattle.dv_records.specs.declared.raw_rows.SatRow.{SatRow}
 use Rattle.dv_records.specs.declared.raw_rows.StatusRow.{StatusRow}
+use Rattle.dv_records.specs.declared.snapshots.BridgeRow.{BridgeRow}
+use Rattle.dv_records.specs.declared.snapshots.PitRow.{PitRow}
 use Rattle.dv_records.specs.declared.stores.Rows.{Rows}
-use Rattle.dv_records.specs.declared.stores.Rows.TheVariants.{Hubs, Links, Sats, Multis, Statuses, Effects}
+use Rattle.dv_records.specs.declared.stores.Rows.TheVariants.{Hubs, Links, Sats, Multis, Statuses, Effects, Pits, Bridges}
 use Rattle.dv_records.specs.Batches.{appended}
 use Rattle.dv_records.specs.Effects.{effect_batch}
 use Rattle.dv_records.specs.Hubs.{hub_batch, link_batch}
 use Rattle.dv_records.specs.Satellites.{multi_batch, sat_batch}
 use Rattle.dv_records.specs.Statuses.{status_batch}
 use Rattle.dv_catalog.specs.Feeds.{source}
-use Rattle.dv_records.specs.Laws.{PartialEnds}
+use Rattle.dv_records.specs.Laws.{AddsUp, PartialEnds, are_of_one_kind}
 use Rattle.dv_records.specs.Loads.{loaded}
 use Rattle.dv_records.specs.Stores.{row_count, rows_then}
 use Rattle.dv_records.specs.Vault.{feed_batch, table_after, table_batch, table_entry, vault}
@@ -75,6 +78,23 @@ statuses_weight a b = sum_by-append _ a b
 
 effects_weight : (a b : List EffectRow) → rows_weight (Effects (a ++ b)) ≡ rows_weight (Effects a) + rows_weight (Effects b)
 effects_weight a b = sum_by-append _ a b
+
+pits_weight : (a b : List PitRow) → rows_weight (Pits (a ++ b)) ≡ rows_weight (Pits a) + rows_weight (Pits b)
+pits_weight a b = sum_by-append _ a b
+
+bridges_weight : (a b : List BridgeRow) → rows_weight (Bridges (a ++ b)) ≡ rows_weight (Bridges a) + rows_weight (Bridges b)
+bridges_weight a b = sum_by-append _ a b
+
+pub rows_add_up : (a b : Rows) → are_of_one_kind a b ≡ true → AddsUp a b
+rows_add_up (Hubs a) (Hubs b) e = record { weight = hubs_weight a b; count = length-append a b }
+rows_add_up (Links a) (Links b) e = record { weight = links_weight a b; count = length-append a b }
+rows_add_up (Sats a) (Sats b) e = record { weight = sats_weight a b; count = length-append a b }
+rows_add_up (Multis a) (Multis b) e = record { weight = multis_weight a b; count = length-append a b }
+rows_add_up (Statuses a) (Statuses b) e = record { weight = statuses_weight a b; count = length-append a b }
+rows_add_up (Effects a) (Effects b) e = record { weight = effects_weight a b; count = length-append a b }
+rows_add_up (Pits a) (Pits b) e = record { weight = pits_weight a b; count = length-append a b }
+rows_add_up (Bridges a) (Bridges b) e = record { weight = bridges_weight a b; count = length-append a b }
+rows_add_up a b e = let none : false ≡ true = e in absurd (false≢true none)
 
 module _ (mapping : Mapping) (hashes : Hashes) (older : List Window) (newest : Window) where
   weight_adds : (table : TableId) → rows_weight (rows_then (table_after mapping hashes older table) (table_batch mapping hashes table older newest)) ≡ rows_weight (table_after mapping hashes older table) + rows_weight (table_batch mapping hashes table older newest)

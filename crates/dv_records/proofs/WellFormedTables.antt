@@ -22,7 +22,7 @@ table_eq-sym (Status m) (Status n) = nat_eq-sym m n
 table_eq-sym (Effect m) (Effect n) = nat_eq-sym m n
 table_eq-sym a b = refl
 
-same_table : (a b : TableId) → table_eq a b ≡ true → a ≡ b
+pub same_table : (a b : TableId) → table_eq a b ≡ true → a ≡ b
 same_table (Hub m) (Hub n) e = ap Hub (eqb-true m n e)
 same_table (Link m) (Link n) e = ap Link (eqb-true m n e)
 same_table (Sat m) (Sat n) e = ap Sat (eqb-true m n e)

@@ -50,6 +50,14 @@ content feed sealed date = newest_rows (up_to date (history feed (reverse sealed
 abbrev pub delivered_refs : ℕ → List Window → List (List Key)
 delivered_refs feed windows = flat_map (λ extract. all_refs extract.rows) (history feed windows)
 
+-- the reference lists of extracts, as often as they deliver them
+abbrev pub lists_of : List Extract → List (List Key)
+lists_of extracts = flat_map (λ extract. all_refs extract.rows) extracts
+
+-- extracts stand from the newest to the oldest
+abbrev pub AreNewestFirst : List Extract → Type 0
+AreNewestFirst extracts = IsStrictlySortedBy (λ a b. nat_cmp b.load a.load) extracts
+
 -- the load dates of windows ascend strictly
 abbrev pub IsInLoadOrder : List Window → Type 0
 IsInLoadOrder windows = IsStrictlySortedBy nat_cmp (map (λ window. window.load) windows)

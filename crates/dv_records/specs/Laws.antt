@@ -1,18 +1,20 @@
 -- Laws of the definitions.
-use Rattle.std.specs.Prelude.{◌≡◌, ℕ, ◌+◌, ◌<◌, ◌≤◌, true, All, Contains, List, [], ◌∷◌, ◌++◌, None, Some, length, map, reverse, sum_by}
+use Rattle.std.specs.Prelude.{◌≡◌, ℕ, ◌+◌, ◌<◌, ◌≤◌, Bool, true, false, All, Contains, List, [], ◌∷◌, ◌++◌, None, Some, length, map, reverse, sum_by}
 use Rattle.std.specs.List.{flat_map}
 use Rattle.std.specs.List.Sorted.{IsStrictlySortedBy}
 use Rattle.dv_text.specs.declared.rows.Key.{Key}
 use Rattle.dv_text.specs.declared.rows.Window.{Window}
 use Rattle.dv_text.specs.Keys.{Hashes}
 use Rattle.dv_catalog.specs.declared.entries.Parent.TheVariants.{Hub, Link}
+use Rattle.dv_catalog.specs.declared.tables.TableId.{TableId}
 use Rattle.dv_catalog.specs.declared.tables.TableId.TheVariants.{Hub as HubTable, Link as LinkTable, Sat, Multi, Status, Effect}
 use Rattle.dv_catalog.specs.Entries.{Mapping}
 use Rattle.dv_catalog.specs.Tables.{tables}
 use Rattle.dv_records.specs.declared.raw_rows.Code.TheVariants.{D}
 use Rattle.dv_records.specs.declared.raw_rows.HubRow.{HubRow}
 use Rattle.dv_records.specs.declared.raw_rows.LinkRow.{LinkRow}
-use Rattle.dv_records.specs.declared.stores.Rows.TheVariants.{Hubs, Links}
+use Rattle.dv_records.specs.declared.stores.Rows.{Rows}
+use Rattle.dv_records.specs.declared.stores.Rows.TheVariants.{Hubs, Links, Sats, Multis, Statuses, Effects, Pits, Bridges}
 use Rattle.dv_records.specs.Collisions.{IsApart}
 use Rattle.dv_records.specs.Deliveries.{is_known, offered_refs}
 use Rattle.dv_records.specs.Effects.{effect_batch, effect_cmp}
@@ -24,7 +26,7 @@ use Rattle.dv_records.specs.Runs.{run_begin}
 use Rattle.dv_records.specs.Satellites.{multi_batch, multi_cmp, sat_batch, sat_cmp}
 use Rattle.dv_records.specs.Snapshots.{snapshot}
 use Rattle.dv_records.specs.Statuses.{status_batch, status_cmp}
-use Rattle.dv_records.specs.Stores.{row_count, rows_then}
+use Rattle.dv_records.specs.Stores.{no_rows, row_count, rows_in, rows_then}
 use Rattle.dv_records.specs.Vault.{partial, table_after, table_batch, vault}
 use Rattle.dv_records.specs.Weights.{rows_weight, vault_weight}
 
@@ -64,7 +66,47 @@ LaterLeaves =
     (mapping : Mapping) (hashes : Hashes) (sealed : List Window) (next : Window) (date : ℕ)
     → date < next.load → SameAt mapping hashes date sealed (sealed ++ next ∷ [])
 
+-- ---- rows
+
+-- whether two lists of rows are of one kind
+abbrev pub are_of_one_kind : Rows → Rows → Bool
+are_of_one_kind (Hubs a) (Hubs b) = true
+are_of_one_kind (Links a) (Links b) = true
+are_of_one_kind (Sats a) (Sats b) = true
+are_of_one_kind (Multis a) (Multis b) = true
+are_of_one_kind (Statuses a) (Statuses b) = true
+are_of_one_kind (Effects a) (Effects b) = true
+are_of_one_kind (Pits a) (Pits b) = true
+are_of_one_kind (Bridges a) (Bridges b) = true
+are_of_one_kind a b = false
+
+-- rows behind others weigh, and count, what the two lists do together
+pub record AddsUp (a b : Rows) : Type 0 where
+  pub weight : rows_weight (rows_then a b) ≡ rows_weight a + rows_weight b
+  pub count : row_count (rows_then a b) ≡ row_count a + row_count b
+
+-- so rows of one kind add up
+abbrev pub RowsAddUp : Type 0
+RowsAddUp = (a b : Rows) → are_of_one_kind a b ≡ true → AddsUp a b
+
 -- ---- the vault
+
+-- what the vault has of a table: of one of the mapping's, its rows after the windows, and of any other none
+pub record HoldsTable (mapping : Mapping) (hashes : Hashes) (sealed : List Window) (table : TableId) : Type 0 where
+  pub rows : Contains (tables mapping) table → rows_in table (vault mapping hashes sealed) ≡ table_after mapping hashes (reverse sealed) table
+  pub none : (Contains (tables mapping) table → ⊥) → rows_in table (vault mapping hashes sealed) ≡ no_rows table
+
+-- the same of all tables
+abbrev pub VaultHolds : Type 0
+VaultHolds = (mapping : Mapping) (hashes : Hashes) (sealed : List Window) (table : TableId) → HoldsTable mapping hashes sealed table
+
+-- a window's batch is put at the end of the rows that the vault has of a table
+abbrev pub TableGrows : Type 0
+TableGrows =
+    (mapping : Mapping) (hashes : Hashes) (sealed : List Window) (next : Window) (table : TableId)
+    → Contains (tables mapping) table
+    → rows_in table (vault mapping hashes (sealed ++ next ∷ []))
+    ≡ rows_then (rows_in table (vault mapping hashes sealed)) (table_batch mapping hashes table (reverse sealed) next)
 
 -- the vault of windows and one more is, table by table, the vault of the windows followed by the batch of the one
 abbrev pub VaultGrows : Type 0

@@ -1,5 +1,5 @@
 -- What the tables say of a date is what the windows delivered.
-use Rattle.std.specs.Prelude.{◌≡◌, ℕ, nat_le, Bool, true, false, ◌&&◌, List, [], ◌∷◌, Option, Some, None, Contains, find, filter, map, reverse, slice_get}
+use Rattle.std.specs.Prelude.{◌≡◌, ◌↔◌, ℕ, ◌==◌, nat_le, Bool, true, false, ◌&&◌, List, [], ◌∷◌, Option, Some, None, Contains, find, filter, map, reverse, slice_get}
 use Rattle.std.specs.List.Sorted.{IsStrictlySortedBy}
 use Rattle.std.specs.Option.{option_map}
 use Rattle.std.specs.Str.{bytes_eq}
@@ -11,18 +11,19 @@ use Rattle.dv_text.specs.Orders.{row_cmp}
 use Rattle.dv_text.specs.Sorting.{sorted_by}
 use Rattle.dv_catalog.specs.declared.entries.FeedDef.{FeedDef}
 use Rattle.dv_catalog.specs.declared.entries.Parent.TheVariants.{Hub}
-use Rattle.dv_catalog.specs.declared.tables.TableId.TheVariants.{Hub as HubTable, Sat, Status}
+use Rattle.dv_catalog.specs.declared.tables.TableId.TheVariants.{Hub as HubTable, Sat, Multi, Status}
 use Rattle.dv_catalog.specs.Entries.{Mapping}
 use Rattle.dv_records.specs.declared.raw_rows.Code.{Code}
 use Rattle.dv_records.specs.declared.raw_rows.Code.TheVariants.{I, D}
 use Rattle.dv_records.specs.declared.raw_rows.HubRow.{HubRow}
+use Rattle.dv_records.specs.declared.raw_rows.MultiRow.{MultiRow}
 use Rattle.dv_records.specs.declared.raw_rows.SatRow.{SatRow}
 use Rattle.dv_records.specs.declared.raw_rows.StatusRow.{StatusRow}
-use Rattle.dv_records.specs.declared.stores.Rows.TheVariants.{Hubs, Sats, Statuses}
+use Rattle.dv_records.specs.declared.stores.Rows.TheVariants.{Hubs, Sats, Multis, Statuses}
 use Rattle.dv_records.specs.Collisions.{collision_in, IsApart}
 use Rattle.dv_records.specs.History.{Extract, content, delivered_refs, delivers, history, up_to, IsInLoadOrder}
 use Rattle.dv_records.specs.Satellites.{last_rows}
-use Rattle.dv_records.specs.Ties.{IsOnePerList}
+use Rattle.dv_records.specs.Ties.{IsOnePerList, IsOnePerSub}
 use Rattle.dv_records.specs.Vault.{table_after}
 
 -- ---- status
@@ -87,6 +88,37 @@ SatTells =
     → IsInLoadOrder sealed → HasOneRowEach feed sealed → IsApart hashes (delivered_refs feed sealed)
     → (refs : List Key) → ((other : List Key) → Contains (delivered_refs feed sealed) other → hashes.hash other ≡ hashes.hash refs → other ≡ refs)
     → (date : ℕ) → option_map (λ row. row.attrs) (valid_at rows (hashes.hash refs) date) ≡ first_attrs (last_rows (up_to date (history feed (reverse sealed))) refs)
+
+-- ---- multi-active satellites
+
+-- the rows of a parent with the load date of one of them
+abbrev pub loaded_with : List MultiRow → List ℕ → Option MultiRow → List MultiRow
+loaded_with rows parent None = []
+loaded_with rows parent (Some last) = filter (λ row. bytes_eq row.parent parent && row.load == last.load) rows
+
+-- the rows of a multi-active satellite that are valid for a parent at a date: those with the load date of the last of its
+-- rows that is not later
+abbrev pub all_valid_at : List MultiRow → List ℕ → ℕ → List MultiRow
+all_valid_at rows parent date = loaded_with rows parent (find (λ row. bytes_eq row.parent parent && nat_le row.load date) (reverse rows))
+
+-- the row of a reference list with a satellite row's sub and attributes
+abbrev pub described_row : List Key → MultiRow → NRow
+described_row refs row = record { refs = refs; sub = row.sub; attrs = row.attrs }
+
+-- a feed's windows have one row for each reference list and sub
+abbrev pub HasOneRowPerSub : ℕ → List Window → Type 0
+HasOneRowPerSub feed windows = (extract : Extract) → Contains (history feed windows) extract → IsOnePerSub extract.rows
+
+-- the multi-active satellite of a feed says of each reference list, by its hash key, and at each date all rows that it
+-- had in the newest extract, up to the date, that holds it, where no other list that the windows deliver has its hash key
+abbrev pub MultiTells : Type 0
+MultiTells =
+    (mapping : Mapping) (hashes : Hashes) (feed : ℕ) (sealed : List Window) (rows : List MultiRow)
+    → table_after mapping hashes (reverse sealed) (Multi feed) ≡ Multis rows
+    → IsInLoadOrder sealed → HasOneRowPerSub feed sealed → IsApart hashes (delivered_refs feed sealed)
+    → (refs : List Key) → ((other : List Key) → Contains (delivered_refs feed sealed) other → hashes.hash other ≡ hashes.hash refs → other ≡ refs)
+    → (date : ℕ) (row : NRow)
+    → Contains (map (described_row refs) (all_valid_at rows (hashes.hash refs) date)) row ↔ Contains (last_rows (up_to date (history feed (reverse sealed))) refs) row
 
 -- ---- a feed of keys alone
 

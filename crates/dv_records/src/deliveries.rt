@@ -2,7 +2,7 @@ ghost use Rattle.std.specs.Prelude.{◌≡◌, IsTrue, option_map, List as list_
 ghost use Rattle.dv_records.specs.HubNames.{HubName, are_names_apart, key_named};
 
 use dv_catalog::TableId;
-use dv_text::{Digest, Key, List};
+use dv_text::{Digest, Key, List, Memory};
 
 /// What a window brings to a hub or a link: a reference list, of one key for a hub, and the first feed in
 /// declared order that delivers it.
@@ -11,6 +11,25 @@ pub struct Delivery {
     pub table: TableId,
     pub refs: List<Key>,
     pub feed: u32,
+}
+
+/// Why the rows that a window adds to a hub or a link are not given: two different reference lists have one
+/// hash key, of which the lesser one is the first; or want of memory.
+#[derive(Debug, PartialEq, Eq, Drop)]
+pub enum DeltaFault {
+    Collision { first: List<Key>, second: List<Key> },
+    Memory,
+}
+
+impl From<Memory> for DeltaFault {
+    ghost use Rattle.std.specs.Prelude.{◌≡◌};
+    ghost use Rattle.dv_records.specs.declared.deliveries.DeltaFault.TheVariants as variants;
+
+    ghost from_gives = { λ _ e. e ≡ variants.Memory };
+
+    fn from(_error: Memory) -> DeltaFault {
+        DeltaFault::Memory
+    }
 }
 
 /// What tells the key of a hub by its hash key.

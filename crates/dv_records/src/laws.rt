@@ -1,4 +1,4 @@
-ghost use Rattle.dv_records.specs.Laws.{AbsentLeaves, BatchesAscend, ContentsDecide, ContentsDecidePeriods, EmptyBefore, HeaderCloses, HubHolds, LaterLeaves, LinkHolds, PartialGrows, RowsGrow, VaultGrows, WeightGrows};
+ghost use Rattle.dv_records.specs.Laws.{AbsentLeaves, BatchesAscend, ContentsDecide, ContentsDecidePeriods, EmptyBefore, HeaderCloses, HubHolds, LaterLeaves, LinkHolds, PartialGrows, RowsAddUp, RowsGrow, TableGrows, VaultGrows, VaultHolds, WeightGrows};
 
 /// A feed has no content before the first window.
 pub fn empty_before()
@@ -13,6 +13,21 @@ pub fn absent_leaves()
 /// A window that is later than a date leaves each mart and the snapshot at the date.
 pub fn later_leaves()
     ensures { LaterLeaves }
+{}
+
+/// Rows behind others of their kind weigh, and count, what the two lists do together.
+pub fn rows_add_up()
+    ensures { RowsAddUp }
+{}
+
+/// The vault has of each table of the mapping its rows after the windows, and of any other none.
+pub fn vault_holds()
+    ensures { VaultHolds }
+{}
+
+/// A window's batch is put at the end of the rows that the vault has of a table.
+pub fn table_grows()
+    ensures { TableGrows }
 {}
 
 /// The vault of windows and one more is, table by table, the vault of the windows followed by the batch of

@@ -1,0 +1,136 @@
+-- A reference list that windows bring is found in its table by its hash key.
+use Rattle.std.proofs.Common.{◌≡◌, ℕ, zero, suc, ◌==◌, Bool, true, false, not, List, [], ◌∷◌, Option, Some, None, refl, sym, ◌∙◌, ap, length, reverse}
+use Rattle.std.specs.Prelude.{Contains, replicate, slice_get}
+use Rattle.std.specs.List.{flat_map, list_all}
+use Rattle.std.specs.Str.{bytes_eq}
+use Rattle.std.proofs.lemmas.Bool.{and_parts, eqb-true, false≢true}
+use Rattle.std.proofs.lemmas.List.{nil_from_length}
+use Rattle.std.proofs.lemmas.Slice.Eq.{bytes_eq-Decides}
+use Rattle.dv_text.specs.declared.rows.Key.{Key}
+use Rattle.dv_text.specs.declared.rows.Window.{Window}
+use Rattle.dv_text.specs.Keys.{Hashes, is_missing}
+use Rattle.dv_text.proofs.Members.{Contains-cons_here, Contains-cons_there, filtered_members}
+use Rattle.dv_catalog.specs.declared.entries.Parent.{Parent}
+use Rattle.dv_catalog.specs.declared.entries.Parent.TheVariants.{Hub, Link}
+use Rattle.dv_catalog.specs.Entries.{Mapping}
+use Rattle.dv_catalog.specs.Feeds.{parts_of}
+use Rattle.dv_records.specs.declared.deliveries.Delivery.{Delivery}
+use Rattle.dv_records.specs.declared.raw_rows.HubRow.{HubRow}
+use Rattle.dv_records.specs.declared.raw_rows.LinkRow.{LinkRow}
+use Rattle.dv_records.specs.Batches.{appended}
+use Rattle.dv_records.specs.Collisions.{IsApart, hashed_refs, missing_refs}
+use Rattle.dv_records.specs.Deliveries.{is_known, is_offered, offered_refs, offers, offers_of}
+use Rattle.dv_records.specs.Hubs.{each_hash, hub_batch, link_batch}
+use Rattle.dv_records.specs.ReadBack.{hub_row_by, link_row_by, missing_key}
+use Rattle.dv_records.specs.States.{fits_hub, is_key_part}
+use Rattle.dv_records.proofs.Delivered.{is_offered-member, offered_member}
+use Rattle.dv_records.proofs.HubTables.{table_has as hub_has, table_row as hub_row_of}
+use Rattle.dv_records.proofs.LinkTables.{table_has as link_has, table_row as link_row_of}
+use Rattle.dv_records.proofs.Memberships.{Contains-flat_map, any_from_member, any_member, finds, flat_map_member, found_member, map_member}
+use Rattle.dv_records.proofs.Reversing.{reverse_member}
+
+-- ---- what is missing
+
+not_true : (b : Bool) → not b ≡ true → b ≡ false
+not_true true e = let no : false ≡ true = e in cc
+not_true false e = refl
+
+missing_none : (n : ℕ) → list_all (λ (part : List ℕ). length part == 0) (replicate n []) ≡ true
+missing_none zero = refl
+missing_none (suc n) = missing_none n
+
+all_empty : (parts : List (List ℕ)) → list_all (λ part. length part == 0) parts ≡ true → parts ≡ replicate (length parts) []
+all_empty [] e = refl
+all_empty (part ∷ parts) e =
+    let (first, rest) = and_parts (length part == 0) (list_all (λ part. length part == 0) parts) e in
+    let empty : part ≡ [] = nil_from_length part (eqb-true (length part) 0 first) in
+    let later = all_empty parts rest in
+    λ i. empty i ∷ later i
+
+-- a key that fits its hub and is missing is the hub's missing key
+pub the_missing : (mapping : Mapping) (hub : ℕ) (key : Key) → fits_hub mapping hub key ≡ true → is_missing key ≡ true → key ≡ missing_key mapping hub
+the_missing mapping hub key fits missing =
+    let (count, parts) = and_parts (length key.parts == parts_of (slice_get mapping.hubs hub)) (list_all is_key_part key.parts) fits in
+    let same = all_empty key.parts missing ∙ ap (λ n. replicate n []) (eqb-true (length key.parts) (parts_of (slice_get mapping.hubs hub)) count) in
+    λ i. record { parts = same i }
+
+-- a list that windows bring isn't missing as a whole
+pub known_there : (mapping : Mapping) (parent : Parent) (windows : List Window) (refs : List Key) → is_known mapping parent windows refs ≡ true → list_all is_missing refs ≡ false
+known_there mapping parent windows refs known =
+    let (window, member, offered) = any_member (λ window. is_offered mapping parent window refs) windows known in
+    let (offer, has, same) = map_member (λ (offer : Delivery). offer.refs) (offers mapping parent window) refs (offered_member mapping parent window refs offered) in
+    let (within, kept) = (filtered_members (λ (offer : Delivery). not (list_all is_missing offer.refs)) (flat_map (offers_of mapping parent) window.extracts) offer).0 has in
+    ap (list_all is_missing) (sym same) ∙ not_true (list_all is_missing offer.refs) kept
+
+-- ---- hash keys of their own
+
+module _ (mapping : Mapping) (hashes : Hashes) (sealed : List Window) (parent : Parent) (apart : IsApart hashes (hashed_refs mapping sealed parent)) where
+  pub known_hashed : (refs : List Key) → is_known mapping parent (reverse sealed) refs ≡ true → Contains (hashed_refs mapping sealed parent) refs
+  known_hashed refs known =
+      let (window, member, offered) = any_member (λ window. is_offered mapping parent window refs) (reverse sealed) known in
+      Contains-cons_there (missing_refs mapping parent) (flat_map (offered_refs mapping parent) sealed) refs
+      (Contains-flat_map (offered_refs mapping parent) sealed window refs ((reverse_member sealed window).0 member) (offered_member mapping parent window refs offered))
+
+  pub known_apart : (a b : List Key) → is_known mapping parent (reverse sealed) a ≡ true → is_known mapping parent (reverse sealed) b ≡ true → hashes.hash a ≡ hashes.hash b → a ≡ b
+  known_apart a b a_in b_in = apart a b (known_hashed a a_in) (known_hashed b b_in)
+
+  offered_known : (refs : List Key) → Contains (flat_map (offered_refs mapping parent) (reverse sealed)) refs → is_known mapping parent (reverse sealed) refs ≡ true
+  offered_known refs has =
+      let (window, member, offered) = flat_map_member (offered_refs mapping parent) (reverse sealed) refs has in
+      any_from_member (λ window. is_offered mapping parent window refs) (reverse sealed) window member (is_offered-member mapping parent window refs offered)
+
+  offers_apart : IsApart hashes (flat_map (offered_refs mapping parent) (reverse sealed))
+  offers_apart a b a_in b_in = known_apart a b (offered_known a a_in) (offered_known b b_in)
+
+-- ---- rows by hash keys
+
+only_ones : (a b : Key) → a ∷ [] ≡ b ∷ [] → a ≡ b
+only_ones a b e = cc
+
+module _ (mapping : Mapping) (hashes : Hashes) (sealed : List Window) (hub : ℕ) (apart : IsApart hashes (hashed_refs mapping sealed (Hub hub))) where
+  abbrev hubs : List HubRow
+  hubs = appended (hub_batch mapping hashes hub) (reverse sealed)
+
+  -- a row that is found by a hash key is of a key that is known, with this hash key
+  found_hub : (digest : List ℕ) (row : HubRow) → hub_row_by hubs digest ≡ Some row → (is_known mapping (Hub hub) (reverse sealed) (row.key ∷ []) ≡ true) × (hashes.hash (row.key ∷ []) ≡ digest)
+  found_hub digest row found =
+      let (member, same) = found_member (λ (row : HubRow). bytes_eq row.digest digest) hubs row found in
+      let (known, hashed) = hub_row_of mapping hub hashes (reverse sealed) row member in
+      (known, sym hashed ∙ (bytes_eq-Decides row.digest digest).0 same)
+
+  -- the row of a key that is known
+  pub key_found : (key : Key) → is_known mapping (Hub hub) (reverse sealed) (key ∷ []) ≡ true → (row : HubRow) × (hub_row_by hubs (hashes.hash (key ∷ [])) ≡ Some row) × (row.key ≡ key)
+  key_found key known =
+      let (first, member, of_key, digest) = hub_has mapping hub hashes (reverse sealed) (offers_apart mapping hashes sealed (Hub hub) apart) key known in
+      let (row, found) = finds (λ (row : HubRow). bytes_eq row.digest (hashes.hash (key ∷ []))) hubs first member ((bytes_eq-Decides first.digest (hashes.hash (key ∷ []))).1 digest) in
+      let (row_known, hashed) = found_hub (hashes.hash (key ∷ [])) row found in
+      (row, found, only_ones row.key key (known_apart mapping hashes sealed (Hub hub) apart (row.key ∷ []) (key ∷ []) row_known known hashed))
+
+  -- the missing key has none
+  pub missing_unfound : hub_row_by hubs (hashes.hash (missing_key mapping hub ∷ [])) ≡ None
+  missing_unfound = by (hub_row_by hubs (hashes.hash (missing_key mapping hub ∷ []))) refl
+    where
+      by : (o : Option HubRow) → hub_row_by hubs (hashes.hash (missing_key mapping hub ∷ [])) ≡ o → hub_row_by hubs (hashes.hash (missing_key mapping hub ∷ [])) ≡ None
+      by None e = e
+      by (Some row) e =
+          let (known, hashed) = found_hub (hashes.hash (missing_key mapping hub ∷ [])) row e in
+          let same : row.key ∷ [] ≡ missing_key mapping hub ∷ [] =
+          apart (row.key ∷ []) (missing_key mapping hub ∷ []) (known_hashed mapping hashes sealed (Hub hub) apart (row.key ∷ []) known)
+          (Contains-cons_here (missing_refs mapping (Hub hub)) _) hashed in
+          let there = known_there mapping (Hub hub) (reverse sealed) (row.key ∷ []) known in
+          let gone : list_all is_missing (missing_key mapping hub ∷ []) ≡ true = rw (missing_none (parts_of (slice_get mapping.hubs hub))) refl in
+          absurd (false≢true (sym there ∙ ap (list_all is_missing) same ∙ gone))
+
+module _ (mapping : Mapping) (hashes : Hashes) (sealed : List Window) (link : ℕ) (apart : IsApart hashes (hashed_refs mapping sealed (Link link))) where
+  abbrev links : List LinkRow
+  links = appended (link_batch mapping hashes link) (reverse sealed)
+
+  -- the row of a list that is known
+  pub list_found : (refs : List Key) → is_known mapping (Link link) (reverse sealed) refs ≡ true → (row : LinkRow) × (link_row_by links (hashes.hash refs) ≡ Some row) × (row.hubs ≡ each_hash hashes refs)
+  list_found refs known =
+      let (first, member, digest, of_list) = link_has mapping link hashes (reverse sealed) (offers_apart mapping hashes sealed (Link link) apart) refs known in
+      let (row, found) = finds (λ (row : LinkRow). bytes_eq row.digest (hashes.hash refs)) links first member ((bytes_eq-Decides first.digest (hashes.hash refs)).1 digest) in
+      let (in_links, same) = found_member (λ (row : LinkRow). bytes_eq row.digest (hashes.hash refs)) links row found in
+      let (other, other_known, hashed, hubs) = link_row_of mapping link hashes (reverse sealed) row in_links in
+      let one : other ≡ refs = known_apart mapping hashes sealed (Link link) apart other refs other_known known (sym hashed ∙ (bytes_eq-Decides row.digest (hashes.hash refs)).0 same) in
+      (row, found, hubs ∙ ap (each_hash hashes) one)

@@ -1,0 +1,167 @@
+-- The rows of a table in the vault, and which tables a mapping has.
+use Rattle.std.proofs.Common.{◌≡◌, ◌⊎◌, ℕ, zero, suc, ◌+◌, ◌<◌, ◌==◌, inl, inr, Bool, true, false, List, [], ◌∷◌, ◌++◌, Some, None, refl, sym, ◌∙◌, ap, subst, arith, length, map, reverse, eq-eqb}
+use Rattle.std.specs.Prelude.{Contains, slice_get}
+use Rattle.std.specs.List.{range_with_len}
+use Rattle.std.proofs.lemmas.Bool.{false≢true}
+use Rattle.std.proofs.lemmas.List.{reverse-append}
+use Rattle.std.proofs.lemmas.List.Elements.{Contains-append_left, Contains-append_right}
+use Rattle.std.proofs.lemmas.List.FromFn.{get_or-range_with_len, length-range_with_len}
+use Rattle.dv_text.specs.declared.rows.Window.{Window}
+use Rattle.dv_text.specs.Keys.{Hashes}
+use Rattle.dv_text.proofs.Members.{Contains-cons_cases, Contains-cons_here, Contains-cons_there}
+use Rattle.dv_catalog.specs.declared.entries.FeedDef.{FeedDef}
+use Rattle.dv_catalog.specs.declared.tables.TableId.{TableId}
+use Rattle.dv_catalog.specs.declared.tables.TableId.TheVariants.{Hub, Link, Sat, Multi, Status, Effect}
+use Rattle.dv_catalog.specs.Entries.{Mapping}
+use Rattle.dv_catalog.specs.Feeds.{source}
+use Rattle.dv_catalog.specs.Tables.{effect_tables, feed_tables, sat_tables, tables}
+use Rattle.dv_records.specs.Batches.{appended}
+use Rattle.dv_records.specs.Hubs.{hub_batch, link_batch}
+use Rattle.dv_records.specs.Laws.{HoldsTable}
+use Rattle.dv_records.specs.ReadBack.{hub_rows, hub_rows_in, link_rows, link_rows_in, multi_rows, multi_rows_in, sat_rows, sat_rows_in, status_rows, status_rows_in}
+use Rattle.dv_records.specs.Satellites.{multi_batch, sat_batch}
+use Rattle.dv_records.specs.Statuses.{status_batch}
+use Rattle.dv_records.specs.Stores.{no_rows, rows_in, rows_then, table_eq}
+use Rattle.dv_records.specs.Vault.{feed_batch, table_after, table_batch, table_entry, vault}
+use Rattle.dv_records.proofs.Memberships.{Contains-map, Contains-nil}
+use Rattle.dv_records.proofs.VaultSteps.{table_after-newest}
+use Rattle.dv_records.proofs.WellFormedTables.{same_table}
+
+table_eq-itself : (table : TableId) → table_eq table table ≡ true
+table_eq-itself (Hub n) = eq-eqb n n refl
+table_eq-itself (Link n) = eq-eqb n n refl
+table_eq-itself (Sat n) = eq-eqb n n refl
+table_eq-itself (Multi n) = eq-eqb n n refl
+table_eq-itself (Status n) = eq-eqb n n refl
+table_eq-itself (Effect n) = eq-eqb n n refl
+
+-- ---- entries
+
+module _ (mapping : Mapping) (hashes : Hashes) (windows : List Window) where
+  -- the rows of a table among entries of tables after windows
+  pub rows_in-entries : (all : List TableId) (table : TableId) → Contains all table → rows_in table (map (table_entry mapping hashes windows) all) ≡ table_after mapping hashes windows table
+  rows_in-entries [] table has = Contains-nil table has
+  rows_in-entries (first ∷ all) table has = by (table_eq first table) refl (Contains-cons_cases first all table has) (rows_in-entries all table)
+    where
+      by : (b : Bool) → table_eq first table ≡ b → (first ≡ table) ⊎ Contains all table
+          → (Contains all table → rows_in table (map (table_entry mapping hashes windows) all) ≡ table_after mapping hashes windows table)
+          → rows_in table (map (table_entry mapping hashes windows) (first ∷ all)) ≡ table_after mapping hashes windows table
+      by true t cases later = rw t (ap (table_after mapping hashes windows) (same_table first table t))
+      by false t (inl same) later = absurd (false≢true (sym t ∙ ap (table_eq first) (sym same) ∙ table_eq-itself first))
+      by false t (inr rest) later = rw t (later rest)
+
+  -- one that isn't among them has none
+  none_in-entries : (all : List TableId) (table : TableId) → (Contains all table → ⊥) → rows_in table (map (table_entry mapping hashes windows) all) ≡ no_rows table
+  none_in-entries [] table out = refl
+  none_in-entries (first ∷ all) table out = by (table_eq first table) refl (none_in-entries all table)
+    where
+      by : (b : Bool) → table_eq first table ≡ b → ((Contains all table → ⊥) → rows_in table (map (table_entry mapping hashes windows) all) ≡ no_rows table)
+          → rows_in table (map (table_entry mapping hashes windows) (first ∷ all)) ≡ no_rows table
+      by true t later = absurd (out (subst (Contains (first ∷ all)) (same_table first table t) (Contains-cons_here first all)))
+      by false t later = rw t (later (λ has. out (Contains-cons_there first all table has)))
+
+pub vault_holds : (mapping : Mapping) (hashes : Hashes) (sealed : List Window) (table : TableId) → HoldsTable mapping hashes sealed table
+vault_holds mapping hashes sealed table = record {
+  rows = rows_in-entries mapping hashes (reverse sealed) (tables mapping) table;
+  none = none_in-entries mapping hashes (reverse sealed) (tables mapping) table;
+}
+
+pub table_grows : (mapping : Mapping) (hashes : Hashes) (sealed : List Window) (next : Window) (table : TableId) → Contains (tables mapping) table
+    → rows_in table (vault mapping hashes (sealed ++ next ∷ [])) ≡ rows_then (rows_in table (vault mapping hashes sealed)) (table_batch mapping hashes table (reverse sealed) next)
+table_grows mapping hashes sealed next table has =
+    let turned : reverse (sealed ++ next ∷ []) ≡ next ∷ reverse sealed = reverse-append sealed (next ∷ []) in
+    (vault_holds mapping hashes (sealed ++ next ∷ []) table).rows has
+    ∙ ap (λ windows. table_after mapping hashes windows table) turned
+    ∙ table_after-newest mapping hashes (reverse sealed) next table
+    ∙ ap (λ rows. rows_then rows (table_batch mapping hashes table (reverse sealed) next)) (sym ((vault_holds mapping hashes sealed table).rows has))
+
+-- ---- the tables of a mapping
+
+pub in_range : (n k : ℕ) → k < n → Contains (range_with_len 0 n) k
+in_range n k under =
+    let same : 0 + k ≡ k = omega arith in
+    (k, rw (length-range_with_len 0 n) under, get_or-range_with_len 0 n k k under ∙ same)
+
+module _ (mapping : Mapping) where
+  pub has_hub : (hub : ℕ) → hub < length mapping.hubs → Contains (tables mapping) (Hub hub)
+  has_hub hub under =
+      Contains-append_left (map (λ n. Hub n) (range_with_len 0 (length mapping.hubs)) ++ map (λ n. Link n) (range_with_len 0 (length mapping.links))) (feed_tables 0 mapping.feeds) (Hub hub)
+      (Contains-append_left (map (λ n. Hub n) (range_with_len 0 (length mapping.hubs))) (map (λ n. Link n) (range_with_len 0 (length mapping.links))) (Hub hub)
+      (Contains-map (λ n. Hub n) (range_with_len 0 (length mapping.hubs)) hub (in_range (length mapping.hubs) hub under)))
+
+  pub has_link : (link : ℕ) → link < length mapping.links → Contains (tables mapping) (Link link)
+  has_link link under =
+      Contains-append_left (map (λ n. Hub n) (range_with_len 0 (length mapping.hubs)) ++ map (λ n. Link n) (range_with_len 0 (length mapping.links))) (feed_tables 0 mapping.feeds) (Link link)
+      (Contains-append_right (map (λ n. Hub n) (range_with_len 0 (length mapping.hubs))) (map (λ n. Link n) (range_with_len 0 (length mapping.links))) (Link link)
+      (Contains-map (λ n. Link n) (range_with_len 0 (length mapping.links)) link (in_range (length mapping.links) link under)))
+
+-- the tables of one feed
+abbrev tables_of : FeedDef → ℕ → List TableId
+tables_of definition n = sat_tables n definition.sub definition.attrs ++ Status n ∷ effect_tables n definition.driver
+
+-- they are among those of the feeds
+of_feed : (n i : ℕ) (feeds : List FeedDef) (definition : FeedDef) (table : TableId) → slice_get feeds i ≡ Some definition → Contains (tables_of definition (n + i)) table → Contains (feed_tables n feeds) table
+of_feed n i [] definition table got has = let no : None ≡ Some definition = got in cc
+of_feed n zero (feed ∷ feeds) definition table got has =
+    let some : Some feed ≡ Some definition = got in
+    let same : feed ≡ definition = cc in
+    let place : n + zero ≡ n = omega arith in
+    Contains-append_left (tables_of feed n) (feed_tables (n + 1) feeds) table
+    (subst (λ (d : FeedDef). Contains (tables_of d n) table) (sym same) (subst (λ k. Contains (tables_of definition k) table) place has))
+of_feed n (suc i) (feed ∷ feeds) definition table got has =
+    let place : n + suc i ≡ (n + 1) + i = omega arith in
+    Contains-append_right (tables_of feed n) (feed_tables (n + 1) feeds) table
+    (of_feed (n + 1) i feeds definition table got (subst (λ k. Contains (tables_of definition k) table) place has))
+
+sat_there : (feed : ℕ) (sub attrs : List (List ℕ)) → sub ≡ [] → (length attrs == 0) ≡ false → Contains (sat_tables feed sub attrs) (Sat feed)
+sat_there feed sub [] none some = let no : true ≡ false = some in cc
+sat_there feed [] (a ∷ attrs) none some = Contains-cons_here (Sat feed) []
+sat_there feed (s ∷ sub) (a ∷ attrs) none some = cc
+
+multi_there : (feed : ℕ) (sub attrs : List (List ℕ)) → (length sub == 0) ≡ false → (length attrs == 0) ≡ false → Contains (sat_tables feed sub attrs) (Multi feed)
+multi_there feed sub [] some_sub some = let no : true ≡ false = some in cc
+multi_there feed [] (a ∷ attrs) some_sub some = let no : true ≡ false = some_sub in cc
+multi_there feed (s ∷ sub) (a ∷ attrs) some_sub some = Contains-cons_here (Multi feed) []
+
+module _ (mapping : Mapping) (feed : ℕ) (definition : FeedDef) (at : slice_get mapping.feeds feed ≡ Some definition) where
+  has_table : (table : TableId) → Contains (tables_of definition feed) table → Contains (tables mapping) table
+  has_table table has =
+      Contains-append_right (map (λ n. Hub n) (range_with_len 0 (length mapping.hubs)) ++ map (λ n. Link n) (range_with_len 0 (length mapping.links))) (feed_tables 0 mapping.feeds) table
+      (of_feed 0 feed mapping.feeds definition table at (subst (λ k. Contains (tables_of definition k) table) same has))
+    where
+      same : feed ≡ 0 + feed
+      same = omega arith
+
+  pub has_status : Contains (tables mapping) (Status feed)
+  has_status =
+      has_table (Status feed)
+      (Contains-append_right (sat_tables feed definition.sub definition.attrs) (Status feed ∷ effect_tables feed definition.driver) (Status feed) (Contains-cons_here (Status feed) (effect_tables feed definition.driver)))
+
+  pub has_sat : definition.sub ≡ [] → (length definition.attrs == 0) ≡ false → Contains (tables mapping) (Sat feed)
+  has_sat none some =
+      has_table (Sat feed)
+      (Contains-append_left (sat_tables feed definition.sub definition.attrs) (Status feed ∷ effect_tables feed definition.driver) (Sat feed) (sat_there feed definition.sub definition.attrs none some))
+
+  pub has_multi : (length definition.sub == 0) ≡ false → (length definition.attrs == 0) ≡ false → Contains (tables mapping) (Multi feed)
+  has_multi some_sub some =
+      has_table (Multi feed)
+      (Contains-append_left (sat_tables feed definition.sub definition.attrs) (Status feed ∷ effect_tables feed definition.driver) (Multi feed) (multi_there feed definition.sub definition.attrs some_sub some))
+
+-- ---- the rows of each kind
+
+module _ (mapping : Mapping) (hashes : Hashes) (sealed : List Window) where
+  pub vault_hub : (hub : ℕ) → hub < length mapping.hubs → hub_rows_in hub (vault mapping hashes sealed) ≡ appended (hub_batch mapping hashes hub) (reverse sealed)
+  vault_hub hub under = ap hub_rows (rows_in-entries mapping hashes (reverse sealed) (tables mapping) (Hub hub) (has_hub mapping hub under))
+
+  pub vault_link : (link : ℕ) → link < length mapping.links → link_rows_in link (vault mapping hashes sealed) ≡ appended (link_batch mapping hashes link) (reverse sealed)
+  vault_link link under = ap link_rows (rows_in-entries mapping hashes (reverse sealed) (tables mapping) (Link link) (has_link mapping link under))
+
+  module _ (feed : ℕ) (definition : FeedDef) (at : slice_get mapping.feeds feed ≡ Some definition) where
+    pub vault_status : status_rows_in feed (vault mapping hashes sealed) ≡ appended (feed_batch feed (status_batch hashes (source mapping feed))) (reverse sealed)
+    vault_status = ap status_rows (rows_in-entries mapping hashes (reverse sealed) (tables mapping) (Status feed) (has_status mapping feed definition at))
+
+    pub vault_sat : definition.sub ≡ [] → (length definition.attrs == 0) ≡ false → sat_rows_in feed (vault mapping hashes sealed) ≡ appended (feed_batch feed (sat_batch hashes (source mapping feed))) (reverse sealed)
+    vault_sat none some = ap sat_rows (rows_in-entries mapping hashes (reverse sealed) (tables mapping) (Sat feed) (has_sat mapping feed definition at none some))
+
+    pub vault_multi : (length definition.sub == 0) ≡ false → (length definition.attrs == 0) ≡ false → multi_rows_in feed (vault mapping hashes sealed) ≡ appended (feed_batch feed (multi_batch hashes (source mapping feed))) (reverse sealed)
+    vault_multi some_sub some = ap multi_rows (rows_in-entries mapping hashes (reverse sealed) (tables mapping) (Multi feed) (has_multi mapping feed definition at some_sub some))
