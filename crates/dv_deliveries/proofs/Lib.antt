@@ -1,0 +1,10 @@
+pub mod Batches
+pub mod Booleans
+pub mod Brought
+pub mod Clashes
+pub mod Hashables
+pub mod Held
+pub mod ItemTests
+pub mod NewCases
+pub mod Placed
+pub mod WindowLists
