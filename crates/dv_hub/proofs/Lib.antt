@@ -1,0 +1,3 @@
+pub mod DeltaCases
+pub mod HubItems
+pub mod WindowDeltas

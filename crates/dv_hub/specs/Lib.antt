@@ -1,0 +1,4 @@
+pub mod HubDeltas
+pub mod HubLaws
+pub mod HubRows
+pub mod NewRows
