@@ -1,0 +1,5 @@
+pub mod DeltaCases
+pub mod Keys
+pub mod LinkItems
+pub mod ToldLists
+pub mod WindowDeltas
