@@ -1,0 +1,4 @@
+pub mod Dated
+pub mod SatDeltaBatch
+pub mod SatFollowing
+pub mod StableSorts

@@ -1,0 +1,24 @@
+-- The row that an extract's row adds to a satellite has the load date.
+use Rattle.std.proofs.Common.{◌≡◌, ℕ, Bool, true, false, List, Option, Some, None, refl, sym, ap}
+use Rattle.std.specs.Cmp.{IsTotalOrder, on_total}
+use Rattle.std.specs.Cmp.Lexicographic.{nat_list_cmp_total}
+use Rattle.dv_text.specs.declared.rows.NRow.{NRow}
+use Rattle.dv_text.specs.Keys.{Hashes}
+use Rattle.dv_records.specs.declared.raw_rows.SatRow.{SatRow}
+use Rattle.dv_records.specs.Reconstruction.{valid_at}
+use Rattle.dv_records.specs.Satellites.{sat_cmp}
+use Rattle.dv_sat.specs.SatRows.{has_attrs, sat_change}
+
+pub sat_total : IsTotalOrder sat_cmp
+sat_total = on_total (λ (row : SatRow). row.parent) nat_list_cmp_total
+
+pub change_stamped : (hashes : Hashes) (source : List ℕ) (rows : List SatRow) (load : ℕ) (row : NRow) (made : SatRow) → sat_change hashes source rows load row ≡ Some made → made.load ≡ load
+change_stamped hashes source rows load row made e = by (has_attrs (valid_at rows (hashes.hash row.refs) load) row.attrs) refl
+  where
+    by : (b : Bool) → has_attrs (valid_at rows (hashes.hash row.refs) load) row.attrs ≡ b → made.load ≡ load
+    by true t = let no : None ≡ Some made = rw t at e in cc
+    by false f =
+        let new : SatRow = record { parent = hashes.hash row.refs; load = load; source = source; diff = hashes.diff row.attrs; attrs = row.attrs } in
+        let is : Some new ≡ Some made = rw f at e in
+        let same : new ≡ made = cc in
+        sym (ap (λ (r : SatRow). r.load) same)

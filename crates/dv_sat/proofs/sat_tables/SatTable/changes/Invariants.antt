@@ -1,0 +1,9 @@
+use Rattle.std.proofs.Common.{◌≡◌, take}
+use Rattle.std.specs.List.{filter_map}
+use Rattle.dv_text.specs.Keys.{hashes_of}
+use Rattle.dv_sat.specs.SatRows.{sat_change}
+use Rattle.dv_sat.proofs.sat_tables.SatTable.changes.Given as goal
+
+-- what the rows so far add
+abbrev pub invariant-loop-row : goal.invariant-loop-row
+invariant-loop-row g l = l.made.items ≡ filter_map (sat_change (hashes_of g.H.KeyDigest.digest_of g.H.KeyDigest.size) l.source l.self.rows l.load) (take l.row-index l.rows)

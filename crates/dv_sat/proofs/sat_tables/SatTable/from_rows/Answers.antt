@@ -1,0 +1,7 @@
+use Rattle.dv_records.specs.SatPlaces.{sat_place}
+use Rattle.dv_records.specs.Satellites.{sat_cmp}
+use Rattle.dv_sat.proofs.Dated.{in_load_order}
+use Rattle.dv_sat.proofs.sat_tables.SatTable.from_rows.Goals as goal
+
+pub from_rows-requires : goal.from_rows-requires
+from_rows-requires c = in_load_order sat_place sat_cmp c.args.rows c.requires

@@ -1,0 +1,11 @@
+use Rattle.std.proofs.Common.{◌∙◌, sym}
+use Rattle.dv_records.specs.declared.raw_rows.SatRow.{SatRow}
+use Rattle.dv_records.specs.Satellites.{sat_cmp}
+use Rattle.dv_sat.proofs.Dated.{last_load}
+use Rattle.dv_sat.proofs.sat_tables.SatTable.has_load.Goals as goal
+
+pub returns-in-Some-clause-value : goal.returns-in-Some-clause-value
+returns-in-Some-clause-value c =
+    rw (← c.self.view_is)
+    (c.eq.ensures
+    ∙ last_load (λ (row : SatRow). row.load) sat_cmp c.self.inside.indexed.rows c.in-Some.row.now c.args.load c.self.invariant (rw (← c.self.view_is) at c.requires) (rw c.rows.ensures at (sym c.in-Some.ensures.value)))

@@ -1,0 +1,72 @@
+-- Satellites row by row: what an extract adds to one, by the hash keys and the attributes alone.
+use Rattle.std.specs.Prelude.{◌≡◌, ℕ, ◌==◌, nat_le, Bool, false, List, [], ◌∷◌, Option, Some, None, Contains, find, reverse, if◌then◌else◌}
+use Rattle.std.specs.List.{list_all, list_any}
+use Rattle.std.specs.List.Sorted.{IsStrictlySortedBy}
+use Rattle.std.specs.Ordering.{nat_cmp, ordering_then}
+use Rattle.std.specs.Str.{bytes_eq}
+use Rattle.std.specs.declared.cmp.Ordering.{Ordering}
+use Rattle.dv_text.specs.declared.rows.NRow.{NRow}
+use Rattle.dv_text.specs.Keys.{Hashes, texts_eq}
+use Rattle.dv_text.specs.Orders.{row_cmp}
+use Rattle.dv_records.specs.declared.raw_rows.SatRow.{SatRow}
+use Rattle.dv_records.specs.Batches.{appended, batch_of}
+use Rattle.dv_records.specs.Collisions.{IsApart}
+use Rattle.dv_records.specs.History.{Extract, lists_of, AreNewestFirst}
+use Rattle.dv_records.specs.Reconstruction.{valid_at}
+use Rattle.dv_records.specs.Satellites.{sat_batch, sat_cmp}
+use Rattle.dv_records.specs.Ties.{IsOnePerList}
+
+-- the order of a satellite: by load date, then by parent
+abbrev pub sat_order : SatRow → SatRow → Ordering
+sat_order a b = ordering_then (nat_cmp a.load b.load) (sat_cmp a b)
+
+-- whether no row is later than a date
+abbrev pub are_up_to : List SatRow → ℕ → Bool
+are_up_to rows date = list_all (λ row. nat_le row.load date) rows
+
+-- whether a row has this load date
+abbrev pub has_load : List SatRow → ℕ → Bool
+has_load rows load = list_any (λ row. row.load == load) rows
+
+-- the last row of a parent, whatever its date
+abbrev pub current_of : List SatRow → List ℕ → Option SatRow
+current_of rows parent = find (λ row. bytes_eq row.parent parent) (reverse rows)
+
+-- whether a row is there and has these attributes: they themselves are compared, never their hash differences
+abbrev pub has_attrs : Option SatRow → List (List ℕ) → Bool
+has_attrs None attrs = false
+has_attrs (Some row) attrs = texts_eq row.attrs attrs
+
+-- the row that an extract's row adds: none where the row that is valid for its parent at the load date has its attributes
+abbrev pub sat_change : Hashes → List ℕ → List SatRow → ℕ → NRow → Option SatRow
+sat_change hashes source rows load row =
+    if has_attrs (valid_at rows (hashes.hash row.refs) load) row.attrs then None
+    else
+    Some (record { parent = hashes.hash row.refs; load = load; source = source; diff = hashes.diff row.attrs; attrs = row.attrs })
+
+-- what the rows of an extract add to a satellite, by hash key; nothing where it has a row of this load date
+abbrev pub sat_delta : Hashes → List ℕ → List SatRow → ℕ → List NRow → List SatRow
+sat_delta hashes source rows load staged = if has_load rows load then [] else batch_of sat_cmp (sat_change hashes source rows load) staged
+
+-- rows as staging leaves those of a feed without a sub: in order and each once, one for each reference list, and without
+-- a sub
+pub record IsPlain (rows : List NRow) : Type 0 where
+  pub ascending : IsStrictlySortedBy row_cmp rows
+  pub single : IsOnePerList rows
+  pub no_sub : (row : NRow) → Contains rows row → row.sub ≡ []
+
+-- over the satellite of a feed's older extracts, what the newest one adds is its batch, where no two lists that they
+-- deliver have one hash key
+abbrev pub SatDeltaIsBatch : Type 0
+SatDeltaIsBatch =
+    (hashes : Hashes) (source : List ℕ) (older : List Extract) (newest : Extract)
+    → AreNewestFirst (newest ∷ older) → IsApart hashes (lists_of (newest ∷ older))
+    → ((extract : Extract) → Contains (newest ∷ older) extract → IsPlain extract.rows)
+    → sat_delta hashes source (appended (sat_batch hashes source) older) newest.load newest.rows ≡ sat_batch hashes source older newest
+
+-- rows are the batch of an extract, wherever a satellite is that of extracts before it
+abbrev pub IsSatBatchAfter : Hashes → List ℕ → List SatRow → Extract → List SatRow → Type 0
+IsSatBatchAfter hashes source rows newest delta =
+    (older : List Extract) → AreNewestFirst (newest ∷ older) → IsApart hashes (lists_of (newest ∷ older))
+    → ((extract : Extract) → Contains (newest ∷ older) extract → IsPlain extract.rows)
+    → rows ≡ appended (sat_batch hashes source) older → delta ≡ sat_batch hashes source older newest
