@@ -42,7 +42,7 @@ feed_absent mapping extracts feed taken at none =
     by (Some extract) e = let no : Some (reads mapping extract.feed extract.bytes (room_after taken)) ≡ None = e in cc
 
 -- the extract of a feed has the feed's place
-placed_at : (mapping : Mapping) (extracts : List ExtractIn) (feed : ℕ) (placed : PlacedExtract) → extract_at mapping extracts feed ≡ Some placed → placed.feed ≡ feed
+pub placed_at : (mapping : Mapping) (extracts : List ExtractIn) (feed : ℕ) (placed : PlacedExtract) → extract_at mapping extracts feed ≡ Some placed → placed.feed ≡ feed
 placed_at mapping extracts feed placed e = by (option_and_then (given_for extracts) (slice_get mapping.feeds feed)) e
   where
     by : (found : Option ExtractIn) → option_map (λ extract. record { feed = feed; bytes = extract.bytes }) found ≡ Some placed → placed.feed ≡ feed

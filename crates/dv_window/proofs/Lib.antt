@@ -1,3 +1,11 @@
 pub mod FeedSteps
+pub mod Firsts
+pub mod Gathered
 pub mod GivenSteps
 pub mod LengthSteps
+pub mod NormalForms
+pub mod Passing
+pub mod ReadRows
+pub mod ReadWindows
+pub mod TableItems
+pub mod WindowFacts

@@ -6,6 +6,7 @@ mod given_rules;
 mod lengths;
 mod limits;
 mod load_dates;
+mod offers;
 mod repeats;
 mod stagings;
 
@@ -18,5 +19,7 @@ pub use stagings::stage_window;
 
 #[cfg(test)]
 mod mappings;
+#[cfg(test)]
+mod offer_tests;
 #[cfg(test)]
 mod tests;

@@ -21,7 +21,7 @@ fn put_texts(into: &mut Vec<u8>, texts: &[Text]) -> Result<(), AllocError> {
     Ok(())
 }
 
-fn put_keys(into: &mut Vec<u8>, keys: &[Key]) -> Result<(), AllocError> {
+pub(crate) fn put_keys(into: &mut Vec<u8>, keys: &[Key]) -> Result<(), AllocError> {
     for key in keys {
         put_texts(into, key.parts.items())?;
         into.push(b'/')?;
