@@ -30,6 +30,14 @@ impl<T> List<T> {
         }
     }
 
+    /// The empty list, with room for so many items.
+    pub fn with_room(alloc: Global, count: usize) -> Result<List<T>, Memory>
+        ensures { IfOk result (λ made. made ≡ []) }
+    {
+        let vec = Vec::with_capacity(alloc, count)?;
+        Ok(List { vec })
+    }
+
     /// The list of these items, in their order. Takes no memory.
     pub fn from_vec(items: Vec<T>) -> List<T>
         ensures { result ≡ items.items }
@@ -79,7 +87,7 @@ impl<T> List<T> {
 
 impl<T: Duplicate> Duplicate for List<T> {
     fn copy(&self) -> Result<List<T>, Memory> {
-        let mut made = List::new(*self.vec.allocator());
+        let mut made = List::with_room(*self.vec.allocator(), self.vec.len())?;
         for item in self.items() {
             made.push(item.copy()?)?;
         }
