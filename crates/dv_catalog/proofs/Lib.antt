@@ -9,12 +9,11 @@ mod ReadShapes
 mod Resolved
 mod SameEntries
 mod TableSteps
-mod TablesIn
 mod ValidEntries
 mod ValidMappings
 pub mod BuiltMappings
 pub mod ByteLimits
-pub mod FirstForms
 pub mod Keys
 pub mod Literals
+pub mod TablesIn
 pub mod ValidReads

@@ -1,7 +1,8 @@
--- The tables of a mapping are of its hubs, links and feeds.
-use Rattle.std.proofs.Common.{◌≡◌, ℕ, ◌+◌, ◌<◌, ◌≤◌, Bool, true, List, [], ◌∷◌, ◌++◌, length, get_or, map, nat_lt, refl, sym, ◌∙◌, ap, arith}
+-- The tables of a mapping are of its hubs, links and feeds, and so is the table with a name.
+use Rattle.std.proofs.Common.{◌≡◌, ℕ, ◌+◌, ◌<◌, ◌≤◌, Bool, true, List, [], ◌∷◌, ◌++◌, length, get_or, map, nat_lt, Some, refl, sym, ◌∙◌, ap, arith}
 use Rattle.std.specs.Prelude.{Contains}
 use Rattle.std.specs.List.{list_all, range_with_len}
+use Rattle.std.specs.Str.{bytes_eq}
 use Rattle.std.proofs.lemmas.Bool.Decides.{nat_tests}
 use Rattle.std.proofs.lemmas.List.FromFn.{get_or-range_with_len, length-range_with_len}
 use Rattle.std.proofs.lemmas.List.Elements.{Contains-get_or}
@@ -10,9 +11,9 @@ use Rattle.dv_catalog.specs.declared.entries.FeedDef.{FeedDef}
 use Rattle.dv_catalog.specs.declared.tables.TableId.{TableId}
 use Rattle.dv_catalog.specs.declared.tables.TableId.TheVariants.{Hub, Link, Status}
 use Rattle.dv_catalog.specs.Entries.{Mapping}
-use Rattle.dv_catalog.specs.TableLookups.{is_table_of}
-use Rattle.dv_catalog.specs.Tables.{effect_tables, feed_tables, sat_tables, tables}
-use Rattle.dv_catalog.proofs.Everywhere.{all_pass, both, passes_at, Contains-map_source}
+use Rattle.dv_catalog.specs.TableLookups.{is_table_of, table_named}
+use Rattle.dv_catalog.specs.Tables.{effect_tables, feed_tables, sat_tables, table_name, tables}
+use Rattle.dv_catalog.proofs.Everywhere.{all_pass, both, found_is_in, passes_at, Contains-map_source}
 
 joined : {X : Type 0} (p : X → Bool) (xs ys : List X) → list_all p xs ≡ true → list_all p ys ≡ true → list_all p (xs ++ ys) ≡ true
 joined p xs ys a b = rw (list_all-append p xs ys) (both (list_all p xs) (list_all p ys) a b)
@@ -60,3 +61,8 @@ tables_in m =
 pub table_at : (m : Mapping) (items : List TableId) (i : ℕ) (d : TableId) → items ≡ tables m → i < length items → is_table_of m (get_or items i d) ≡ true
 table_at m items i d e at =
     passes_at (is_table_of m) items (get_or items i d) (ap (list_all (is_table_of m)) e ∙ tables_in m) (Contains-get_or items i d at)
+
+-- and the table with a name
+pub table_named_in : (m : Mapping) (name : List ℕ) (table : TableId) → table_named m name ≡ Some table → is_table_of m table ≡ true
+table_named_in m name table e =
+    passes_at (is_table_of m) (tables m) table (tables_in m) (found_is_in (λ t. bytes_eq (table_name m t) name) (tables m) table e)

@@ -1,9 +1,7 @@
 -- What the program takes of the mappings that files declare: those without a form that is not built yet.
-use Rattle.std.specs.Prelude.{ℕ, ◌+◌, ◌==◌, Bool, not, List, [], ◌∷◌, Option, Some, None, Result, Ok, Err, codes, length, nat_lt, option_map, if◌then◌else◌}
+use Rattle.std.specs.Prelude.{ℕ, ◌+◌, ◌==◌, Bool, not, List, [], ◌∷◌, Option, Some, None, Result, Ok, Err, codes, length, option_map, if◌then◌else◌}
 use Rattle.std.specs.Option.{option_or}
 use Rattle.dv_catalog.specs.declared.entries.FeedDef.{FeedDef}
-use Rattle.dv_catalog.specs.declared.entries.HubDef.{HubDef}
-use Rattle.dv_catalog.specs.declared.entries.LinkDef.{LinkDef}
 use Rattle.dv_catalog.specs.declared.entries.PathDef.{PathDef}
 use Rattle.dv_catalog.specs.declared.map_error.MapError.{MapError}
 use Rattle.dv_catalog.specs.declared.map_error.MapError.TheVariants.{NotYet}
@@ -16,37 +14,24 @@ use Rattle.dv_catalog.specs.Shapes.{place_of}
 abbrev pub key_if : Bool → List ℕ → Option (List ℕ)
 key_if stands key = if stands then Some key else None
 
--- a second hub is not built, nor keys of several parts
-abbrev pub unbuilt_hub : ℕ → HubDef → Option (List ℕ)
-unbuilt_hub number hub = first_of (key_if (nat_lt 1 number) (codes "name") ∷ key_if (not (hub.parts == 1)) (codes "parts") ∷ [])
-
--- no link is built
-abbrev pub unbuilt_link : ℕ → LinkDef → Option (List ℕ)
-unbuilt_link number link = Some (codes "name")
-
--- a second feed is not built, nor any columns but those of keys, nor driving keys
-abbrev pub unbuilt_feed : ℕ → FeedDef → Option (List ℕ)
-unbuilt_feed number feed =
-    first_of (
-    key_if (nat_lt 1 number) (codes "name") ∷ key_if (not (length feed.sub == 0)) (codes "sub") ∷ key_if (not (length feed.attrs == 0)) (codes "attrs")
-    ∷ key_if (not (length feed.ignore == 0)) (codes "ignore") ∷ key_if (not (length feed.driver == 0)) (codes "driver") ∷ [])
+-- a feed with columns that tell several rows of one parent apart is not built, nor one with driving keys
+abbrev pub unbuilt_feed : FeedDef → Option (List ℕ)
+unbuilt_feed feed = first_of (key_if (not (length feed.sub == 0)) (codes "sub") ∷ key_if (not (length feed.driver == 0)) (codes "driver") ∷ [])
 
 -- no path is built
-abbrev pub unbuilt_path : ℕ → PathDef → Option (List ℕ)
-unbuilt_path number path = Some (codes "name")
+abbrev pub unbuilt_path : PathDef → Option (List ℕ)
+unbuilt_path path = Some (codes "name")
 
 -- the first place among entries of a kind, counted from a number, whose key has a form that is not built
-abbrev pub first_place : {E : Type 0} → (ℕ → E → Option (List ℕ)) → List ℕ → ℕ → List E → Option (List ℕ)
+abbrev pub first_place : {E : Type 0} → (E → Option (List ℕ)) → List ℕ → ℕ → List E → Option (List ℕ)
 first_place unbuilt kind number [] = None
 first_place unbuilt kind number (entry ∷ entries) =
-    option_or (option_map (place_of kind number) (unbuilt number entry)) (first_place unbuilt kind (number + 1) entries)
+    option_or (option_map (place_of kind number) (unbuilt entry)) (first_place unbuilt kind (number + 1) entries)
 
--- the first place of a mapping with a form that is not built, looked for among the hubs, the links, the feeds and the paths
+-- the first place of a mapping with a form that is not built, looked for among the feeds and the paths: every form of a
+-- hub or a link is built
 abbrev pub unbuilt : Mapping → Option (List ℕ)
-unbuilt mapping =
-    first_of (
-    first_place unbuilt_hub (codes "hub") 1 mapping.hubs ∷ first_place unbuilt_link (codes "link") 1 mapping.links
-    ∷ first_place unbuilt_feed (codes "feed") 1 mapping.feeds ∷ first_place unbuilt_path (codes "path") 1 mapping.paths ∷ [])
+unbuilt mapping = first_of (first_place unbuilt_feed (codes "feed") 1 mapping.feeds ∷ first_place unbuilt_path (codes "path") 1 mapping.paths ∷ [])
 
 -- a mapping, unless it has a form that is not built
 abbrev pub unless_unbuilt : Option (List ℕ) → Mapping → Result Mapping MapError

@@ -9,7 +9,6 @@ use Rattle.dv_catalog.specs.declared.outlines.Outline.{Outline}
 use Rattle.dv_catalog.specs.declared.tables.TableId.TheVariants.{Hub as HubTable, Link as LinkTable, Sat, Multi, Status, Effect}
 use Rattle.dv_catalog.specs.Built.{unbuilt}
 use Rattle.dv_catalog.specs.Checks.{fault_of}
-use Rattle.dv_catalog.specs.FirstForms.{is_first_form}
 use Rattle.dv_catalog.specs.Mappings.{checked, has_shape, is_valid, mapping_of}
 use Rattle.dv_catalog.specs.MapTexts.{map_error_text}
 use Rattle.dv_catalog.specs.SampleOutlines.{assignments_by, assignments_mapping, customers, customers_and_accounts, customers_and_accounts_mapping, customers_with, hub, hub_feed, link, link_feed, outline, path, placements_then_lines, sold_by, sold_mapping}
@@ -75,16 +74,18 @@ pub record MappingsHold : Type 0 where
   pub long_column : has_shape (customers_with (customer_feed (replicate 201 65 ∷ []))) ≡ false
   pub blank_column : has_shape (customers_with (customer_feed (codes " NAME" ∷ []))) ≡ false
   pub empty_column : has_shape (customers_with (customer_feed ([] ∷ []))) ≡ false
-  pub first_form : is_first_form (mapping_of customers) ≡ true
-  pub attributes : is_first_form (mapping_of (customers_with (customer_feed (codes "NAME" ∷ [])))) ≡ false
 
 -- the first place of a mapping with a form that is not built
 pub record BuiltHold : Type 0 where
-  pub all_built : unbuilt (mapping_of customers) ≡ None
-  pub hub_parts_unbuilt : unbuilt (mapping_of (outline (record (hub (codes "a")) { parts = 2 } ∷ hub (codes "b") ∷ []) [] [] [])) ≡ Some (codes "hub 1 parts")
-  pub hub_unbuilt : unbuilt sold_mapping ≡ Some (codes "hub 2 name")
-  pub attributes_unbuilt : unbuilt customers_and_accounts_mapping ≡ Some (codes "feed 1 attrs")
-  pub feed_unbuilt : unbuilt (mapping_of (outline (hub (codes "customer") ∷ []) [] (customer_feed [] ∷ customer_feed (codes "NAME" ∷ []) ∷ []) [])) ≡ Some (codes "feed 2 name")
+  pub keys_built : unbuilt (mapping_of customers) ≡ None
+  pub hubs_built : unbuilt (mapping_of (outline (record (hub (codes "a")) { parts = 2 } ∷ hub (codes "b") ∷ []) [] [] [])) ≡ None
+  pub feeds_built : unbuilt customers_and_accounts_mapping ≡ None
+  pub ignored_built : unbuilt (mapping_of (customers_with (record (customer_feed []) { ignore = codes "CLERK" ∷ [] }))) ≡ None
+  pub links_built : unbuilt (mapping_of (assignments_by [])) ≡ None
+  pub sub_unbuilt : unbuilt (mapping_of (customers_with (with_sub (customer_feed (codes "PHONE" ∷ []))))) ≡ Some (codes "feed 1 sub")
+  pub driver_unbuilt : unbuilt assignments_mapping ≡ Some (codes "feed 1 driver")
+  pub path_unbuilt : unbuilt sold_mapping ≡ Some (codes "path 1 name")
+  pub without_path : unbuilt (record sold_mapping { paths = [] }) ≡ None
 
 -- the raw tables of a mapping, in order
 pub record TablesHold : Type 0 where
@@ -241,7 +242,7 @@ pub record InvalidHold : Type 0 where
 
 -- printed faults
 pub record TextsHold : Type 0 where
-  pub not_yet : map_error_text (NotYet (codes "feed 1 attrs")) ≡ codes "0 NotYet place=feed 1 attrs"
+  pub not_yet : map_error_text (NotYet (codes "feed 1 sub")) ≡ codes "0 NotYet place=feed 1 sub"
   pub text : map_error_text Text ≡ codes "1 Text"
   pub shape : map_error_text (Shape (codes "hub 1 parts")) ≡ codes "2 Shape place=hub 1 parts"
   pub name_twice : map_error_text (NameTwice (codes "customer")) ≡ codes "3 NameTwice name=customer"

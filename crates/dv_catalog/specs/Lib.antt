@@ -5,7 +5,6 @@ pub mod Documents
 pub mod Entries
 pub mod Extracts
 pub mod Feeds
-pub mod FirstForms
 pub mod FirstOf
 pub mod Forms
 pub mod Headers

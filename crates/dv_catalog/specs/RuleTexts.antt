@@ -60,4 +60,3 @@ rule_text (rule.Collision table first second) =
     ++ field_text (codes "second") (refs_shown second)
 rule_text (rule.VaultFull weight windows) =
     codes "W21 VaultFull" ++ field_text (codes "weight") (decimal weight) ++ field_text (codes "windows") (decimal windows)
-rule_text rule.NotYet = codes "W99 NotYet"

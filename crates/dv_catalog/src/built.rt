@@ -1,11 +1,11 @@
 //! What the program takes of the mappings that files declare.
 
-ghost use Rattle.std.specs.Prelude.{◌≡◌, ◌≢◌, ◌∷◌, [], Err, IfErr, IfOk, IsTrue, List as list_of_items, None, Ok, Option as option_of, codes, option_map, ℕ};
+ghost use Rattle.std.specs.Prelude.{◌≡◌, ◌≢◌, ◌∷◌, [], Err, IfErr, IfOk, IsTrue, List as list_of_items, None, Ok, Option as option_of, option_map, ℕ};
 ghost use Rattle.dv_catalog.specs.Built as spec;
 ghost use Rattle.dv_catalog.specs.Mappings.{is_valid};
 
 use crate::catalogs::Catalog;
-use crate::entries::{FeedDef, HubDef, LinkDef, PathDef};
+use crate::entries::{FeedDef, PathDef};
 use crate::map_error::MapError;
 use crate::shapes::place;
 use dv_text::{Memory, Text};
@@ -13,50 +13,19 @@ use std::alloc::Global;
 
 /// An entry of a mapping, of which some forms are not built yet.
 trait Staged {
-    ghost unbuilt_of: { ℕ → Self → option_of (list_of_items ℕ) };
+    ghost unbuilt_of: { Self → option_of (list_of_items ℕ) };
 
-    /// The first key of an entry with this number that has a form that is not built.
-    fn unbuilt(&self, number: u64) -> Option<&'static [u8]>
-        ensures { option_map (λ key. key.now) result ≡ unbuilt_of number self.now };
-}
-
-impl Staged for HubDef {
-    ghost unbuilt_of = { spec.unbuilt_hub };
-
-    fn unbuilt(&self, number: u64) -> Option<&'static [u8]> {
-        if number > 1 {
-            return Some(b"name");
-        }
-        if self.parts != 1 {
-            return Some(b"parts");
-        }
-        None
-    }
-}
-
-impl Staged for LinkDef {
-    ghost unbuilt_of = { spec.unbuilt_link };
-
-    fn unbuilt(&self, _number: u64) -> Option<&'static [u8]> {
-        Some(b"name")
-    }
+    /// The first key of an entry that has a form that is not built.
+    fn unbuilt(&self) -> Option<&'static [u8]>
+        ensures { option_map (λ key. key.now) result ≡ unbuilt_of self.now };
 }
 
 impl Staged for FeedDef {
     ghost unbuilt_of = { spec.unbuilt_feed };
 
-    fn unbuilt(&self, number: u64) -> Option<&'static [u8]> {
-        if number > 1 {
-            return Some(b"name");
-        }
+    fn unbuilt(&self) -> Option<&'static [u8]> {
         if !self.sub.items().is_empty() {
             return Some(b"sub");
-        }
-        if !self.attrs.items().is_empty() {
-            return Some(b"attrs");
-        }
-        if !self.ignore.items().is_empty() {
-            return Some(b"ignore");
         }
         if !self.driver.items().is_empty() {
             return Some(b"driver");
@@ -68,7 +37,7 @@ impl Staged for FeedDef {
 impl Staged for PathDef {
     ghost unbuilt_of = { spec.unbuilt_path };
 
-    fn unbuilt(&self, _number: u64) -> Option<&'static [u8]> {
+    fn unbuilt(&self) -> Option<&'static [u8]> {
         Some(b"name")
     }
 }
@@ -78,9 +47,8 @@ fn first_place<E: Staged>(alloc: Global, kind: &str, entries: &[E]) -> Result<Op
     ensures { IfOk result (λ place. place ≡ spec.first_place E.unbuilt_of kind.now 1 entries.now) }
 {
     for (i, entry) in entries.iter().enumerate() {
-        let number = i as u64 + 1;
-        if let Some(key) = entry.unbuilt(number) {
-            return Ok(Some(place(alloc, kind, number, key)?));
+        if let Some(key) = entry.unbuilt() {
+            return Ok(Some(place(alloc, kind, i as u64 + 1, key)?));
         }
     }
     Ok(None)
@@ -90,12 +58,6 @@ fn first_place<E: Staged>(alloc: Global, kind: &str, entries: &[E]) -> Result<Op
 fn unbuilt(alloc: Global, catalog: &Catalog) -> Result<Option<Text>, Memory>
     ensures { IfOk result (λ place. place ≡ spec.unbuilt catalog.now) }
 {
-    if let Some(place) = first_place(alloc, "hub", catalog.hubs())? {
-        return Ok(Some(place));
-    }
-    if let Some(place) = first_place(alloc, "link", catalog.links())? {
-        return Ok(Some(place));
-    }
     if let Some(place) = first_place(alloc, "feed", catalog.feeds())? {
         return Ok(Some(place));
     }
@@ -103,13 +65,14 @@ fn unbuilt(alloc: Global, catalog: &Catalog) -> Result<Option<Text>, Memory>
 }
 
 impl Catalog {
-    /// The mapping of a mapping file's bytes, where every form in it is built: one hub at most, with keys of
-    /// one part, and one feed of it at most, with its key column and nothing else. A key that is written out
-    /// empty is no form. The errors are those of `Catalog::read`; `NotYet` with the first place of a form
-    /// that is not built, where `Catalog::read` refuses nothing; and `Memory`, which is free.
+    /// The mapping of a mapping file's bytes, where every form in it is built: all but a feed's `sub` and
+    /// `driver`, and paths. A key that is written out empty is no form. The errors are those of
+    /// `Catalog::read`; `NotYet` with the first place of a form that is not built, where `Catalog::read`
+    /// refuses nothing; and `Memory`, which is free.
     pub fn read_built(alloc: Global, bytes: &[u8]) -> Result<Catalog, MapError>
         ensures ok { IfOk result (λ catalog. spec.built_mapping bytes.now ≡ Ok catalog) }
         ensures valid { IfOk result (λ catalog. IsTrue (is_valid catalog)) }
+        ensures built { IfOk result (λ catalog. spec.unbuilt catalog ≡ None) }
         ensures err { IfErr result (λ e. e ≢ MapError.Memory → spec.built_mapping bytes.now ≡ Err e) }
     {
         let catalog = Catalog::read(alloc, bytes)?;

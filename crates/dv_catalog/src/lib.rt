@@ -31,6 +31,7 @@ mod reading_examples;
 mod rules;
 mod shape_faults;
 mod shapes;
+mod sources;
 mod table_lists;
 mod tables;
 mod tops;
@@ -44,6 +45,7 @@ pub use map_error::MapError;
 pub use printing::{add_field, printed};
 pub use reading_examples::readings_hold;
 pub use rules::Rule;
+pub use sources::record_source;
 pub use tables::TableId;
 pub use windows::{ExtractIn, WindowIn};
 

@@ -6,6 +6,7 @@ use crate::sample_files::{
     ACCOUNTS, ASSIGNMENTS, BY_EMPLOYEE, BY_ORDER, CUSTOMERS, NAMES, ORDERS, PHONES, SITES, SOLD,
     fault,
 };
+use crate::sources::record_source;
 use crate::tables::TableId;
 use dv_text::{List, Text};
 use std::alloc::Global;
@@ -491,6 +492,23 @@ fn entries_are_found(rt: HostRuntime) -> Result<(), Fail> {
     for (name, expected) in cases {
         let found = places(&catalog, &Text::of(rt.alloc(), name.as_bytes())?);
         assert!(rt; found == expected, "at {name}");
+    }
+    Ok(())
+}
+
+#[test]
+fn a_record_source_is_the_source_and_the_name(rt: HostRuntime) -> Result<(), Fail> {
+    let cases = [
+        (CUSTOMERS, "crm.customers"),
+        (SITES, "geo.sites"),
+        (PHONES, "crm.phones"),
+        (ASSIGNMENTS, "hr.assignments"),
+    ];
+    for (file, expected) in cases {
+        let catalog = mapping(rt.alloc(), file)?;
+        let feed = catalog.feeds().first().ok_or("no feed")?;
+        let source = record_source(rt.alloc(), feed)?;
+        assert_eq!(rt; source.bytes(), expected.as_bytes(), "at {file}");
     }
     Ok(())
 }

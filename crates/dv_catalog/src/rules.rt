@@ -103,6 +103,4 @@ pub enum Rule {
         weight: u64,
         windows: u32,
     },
-    /// W99: a window that this stage of the program does not take yet.
-    NotYet,
 }

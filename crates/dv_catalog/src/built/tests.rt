@@ -5,6 +5,25 @@ use crate::sample_files::{
 };
 use std::test::Fail;
 
+/// A second feed of the customers, with several rows of one key.
+const PHONES_TOO: &str = r#"
+[[feed]]
+name = "phones"
+source = "crm"
+hub = "customer"
+keys = [["CUST_NO"]]
+sub = ["KIND"]
+attrs = ["PHONE"]
+"#;
+
+/// A path over the feed of assignments.
+const WORKED: &str = r#"
+[[path]]
+name = "worked"
+feeds = ["assignments"]
+via = []
+"#;
+
 #[test]
 fn the_first_form_that_is_not_built_is_named(rt: HostRuntime) -> Result<(), Fail> {
     let cases = [
@@ -15,36 +34,28 @@ fn the_first_form_that_is_not_built_is_named(rt: HostRuntime) -> Result<(), Fail
             "sub = []\nattrs = []\nignore = []\ndriver = []",
             "",
         ),
-        ("[[hub]]\nname = \"customer\"\nparts = 1", "", ""),
         (
             "[[hub]]\nname = \"customer\"\nparts = 5",
             "",
             "2 Shape place=hub 1 parts",
         ),
-        (
-            "[[hub]]\nname = \"customer\"\nparts = 2",
-            "",
-            "0 NotYet place=hub 1 parts",
-        ),
-        ("", SITES, "0 NotYet place=hub 1 parts"),
-        (CUSTOMERS, SITES, "0 NotYet place=hub 2 name"),
-        (SITES, CUSTOMERS, "0 NotYet place=hub 1 parts"),
-        (CUSTOMERS, ACCOUNTS, "0 NotYet place=feed 2 name"),
-        (CUSTOMERS, NAMES, "0 NotYet place=feed 1 attrs"),
+        ("[[hub]]\nname = \"customer\"\nparts = 4", "", ""),
+        (CUSTOMERS, SITES, ""),
+        (CUSTOMERS, ACCOUNTS, ""),
+        (CUSTOMERS, NAMES, ""),
+        (CUSTOMERS, "ignore = [\"CLERK\"]", ""),
+        ("", ORDERS, ""),
+        ("", ASSIGNMENTS, ""),
         ("", PHONES, "0 NotYet place=feed 1 sub"),
+        (CUSTOMERS, PHONES_TOO, "0 NotYet place=feed 2 sub"),
+        (ASSIGNMENTS, BY_EMPLOYEE, "0 NotYet place=feed 1 driver"),
+        (SOLD, BY_ORDER, "0 NotYet place=path 1 name"),
+        (WORKED, ASSIGNMENTS, "0 NotYet place=path 1 name"),
         (
-            CUSTOMERS,
-            "ignore = [\"CLERK\"]",
-            "0 NotYet place=feed 1 ignore",
+            PHONES,
+            "driver = [\"customer\"]",
+            "10 DriverNotInLink feed=phones",
         ),
-        (
-            CUSTOMERS,
-            "ignore = [\"CLERK\"]\nattrs = [\"NAME\"]",
-            "0 NotYet place=feed 1 attrs",
-        ),
-        (ASSIGNMENTS, BY_EMPLOYEE, "0 NotYet place=hub 2 name"),
-        (SOLD, BY_ORDER, "0 NotYet place=hub 2 name"),
-        ("", ORDERS, "0 NotYet place=hub 2 name"),
         (
             CUSTOMERS,
             "attrs = [\"CUST_NO\"]",
@@ -57,8 +68,14 @@ fn the_first_form_that_is_not_built_is_named(rt: HostRuntime) -> Result<(), Fail
         let found = fault(rt.alloc(), Catalog::read_built(rt.alloc(), file.as_bytes()))?;
         assert_eq!(rt; found.bytes(), expected.as_bytes(), "at {file}");
     }
-    let file = format!(in rt.alloc(); "{CUSTOMERS}{NAMES}{ACCOUNTS}")?;
+    let file = format!(in rt.alloc(); "{WORKED}{ASSIGNMENTS}{BY_EMPLOYEE}")?;
     let found = fault(rt.alloc(), Catalog::read_built(rt.alloc(), file.as_bytes()))?;
-    assert_eq!(rt; found.bytes(), b"0 NotYet place=feed 1 attrs".as_slice());
+    assert_eq!(rt; found.bytes(), b"0 NotYet place=feed 1 driver".as_slice());
+    let (without_path, _) = SOLD.split_once("[[path]]").ok_or("no path")?;
+    let found = fault(
+        rt.alloc(),
+        Catalog::read_built(rt.alloc(), without_path.as_bytes()),
+    )?;
+    assert_eq!(rt; found.bytes(), b"".as_slice());
     Ok(())
 }

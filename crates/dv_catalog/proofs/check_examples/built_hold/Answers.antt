@@ -6,9 +6,13 @@ pub returns : goal.returns
 unfolding digits
 returns c =
     record {
-      all_built = refl;
-      hub_parts_unbuilt = refl;
-      hub_unbuilt = refl;
-      attributes_unbuilt = refl;
-      feed_unbuilt = refl;
+      keys_built = refl;
+      hubs_built = refl;
+      feeds_built = refl;
+      ignored_built = refl;
+      links_built = refl;
+      sub_unbuilt = refl;
+      driver_unbuilt = refl;
+      path_unbuilt = refl;
+      without_path = refl;
     }
