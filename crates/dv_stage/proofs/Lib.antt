@@ -1,5 +1,6 @@
 pub mod ColumnFacts
 pub mod FieldFacts
+pub mod NeighbourFacts
 pub mod PartnerFacts
 pub mod Places
 pub mod RecordsFacts
@@ -9,3 +10,4 @@ pub mod RowFacts
 pub mod RuleFacts
 pub mod SeenFacts
 pub mod TextTests
+pub mod WholeFacts

@@ -42,7 +42,7 @@ first_pair_few [] h = refl
 first_pair_few (p ∷ []) h = refl
 first_pair_few (p ∷ q ∷ rest) h = absurd (omega arith)
 
-all_of : {X : Type 0} (P : X → Type 0) (xs : List X) (x : X) → AllByRecursion P xs → Contains xs x → P x
+pub all_of : {X : Type 0} (P : X → Type 0) (xs : List X) (x : X) → AllByRecursion P xs → Contains xs x → P x
 all_of P [] x all (k, under, there) = absurd (omega arith)
 all_of P (y ∷ xs) x all has =
     elim (Contains-cons_cases y xs x has) [
@@ -55,10 +55,10 @@ pub first_pair_end : (partners : List Partner) (h : ℕ) → length partners ≤
 first_pair_end partners h e = first_pair_few (drop h partners) (omega (arith, length-drop h partners, e))
 
 -- the order of driving keys
-refs_cmp_total : IsTotalOrder refs_cmp
+pub refs_cmp_total : IsTotalOrder refs_cmp
 refs_cmp_total = lists_total (on_total (λ (key : Key). key.parts) (lists_total nat_list_cmp_total))
 
-refs_cmp_exact : IsAntisymmetric refs_cmp
+pub refs_cmp_exact : IsAntisymmetric refs_cmp
 refs_cmp_exact = slice_cmp-IsAntisymmetric key_cmp-IsAntisymmetric
 
 refs_cmp-itself : (refs : List Key) → refs_cmp refs refs ≡ Equal
@@ -72,7 +72,7 @@ refs_cmp-itself refs = by (refs_cmp refs refs) (refs_cmp_total.antisymm refs ref
 refs_cmp-same : (a b : List Key) → a ≡ b → refs_cmp a b ≡ Equal
 refs_cmp-same a b e = subst (λ (x : List Key). refs_cmp a x ≡ Equal) e (refs_cmp-itself a)
 
-not_less : (r : Ordering) → r ≡ Less → r ≡ Equal → ⊥
+pub not_less : (r : Ordering) → r ≡ Less → r ≡ Equal → ⊥
 not_less r e f = let no : Less ≡ Equal = sym e ∙ f in cc
 
 not_greater : (r : Ordering) → r ≡ Greater → r ≡ Equal → ⊥

@@ -103,7 +103,7 @@ is_rival row other = are_rivals other row
 not_named : (row other : NRow) → is_named (name_of row) other ≡ false → are_rivals other row ≡ false
 not_named row other e = rw e refl
 
-rival_parts : (a b : NRow) → are_rivals a b ≡ true → (a.refs ≡ b.refs) × (a.sub ≡ b.sub) × (texts_eq a.attrs b.attrs ≡ false)
+pub rival_parts : (a b : NRow) → are_rivals a b ≡ true → (a.refs ≡ b.refs) × (a.sub ≡ b.sub) × (texts_eq a.attrs b.attrs ≡ false)
 rival_parts a b e =
     let outer = both (refs_eq a.refs b.refs && texts_eq a.sub b.sub) (not (texts_eq a.attrs b.attrs)) e in
     let inner = both (refs_eq a.refs b.refs) (texts_eq a.sub b.sub) outer.0 in
@@ -113,7 +113,7 @@ rival_parts a b e =
     turned true h = cc
     turned false h = refl
 
-rival_from : (a b : NRow) → a.refs ≡ b.refs → a.sub ≡ b.sub → texts_eq a.attrs b.attrs ≡ false → are_rivals a b ≡ true
+pub rival_from : (a b : NRow) → a.refs ≡ b.refs → a.sub ≡ b.sub → texts_eq a.attrs b.attrs ≡ false → are_rivals a b ≡ true
 rival_from a b refs sub attrs = rw ((refs_eq-Decides a.refs b.refs).1 refs, (texts_eq-Decides a.sub b.sub).1 sub, attrs) refl
 
 -- the first row of a name is the first rival where its attributes are others
@@ -187,12 +187,12 @@ pub not_both : (b : Bool) → b ≡ true → b ≡ false → ⊥
 not_both true e f = cc
 not_both false e f = cc
 
-rivals-turned : (a b : NRow) → are_rivals a b ≡ true → are_rivals b a ≡ true
+pub rivals-turned : (a b : NRow) → are_rivals a b ≡ true → are_rivals b a ≡ true
 rivals-turned a b e =
     let parts = rival_parts a b e in
     rival_from b a (sym parts.0) (sym parts.1) (no_true (texts_eq b.attrs a.attrs) (λ same. not_both (texts_eq a.attrs b.attrs) ((texts_eq-Decides a.attrs b.attrs).1 (sym ((texts_eq-Decides b.attrs a.attrs).0 same))) parts.2))
 
-no_rival_of_itself : (a b : NRow) → a ≡ b → are_rivals a b ≡ true → ⊥
+pub no_rival_of_itself : (a b : NRow) → a ≡ b → are_rivals a b ≡ true → ⊥
 no_rival_of_itself a b same e = not_both (texts_eq a.attrs b.attrs) ((texts_eq-Decides a.attrs b.attrs).1 (ap (λ (row : NRow). row.attrs) same)) (rival_parts a b e).2
 
 -- a row without a rival leaves the rows without rivals

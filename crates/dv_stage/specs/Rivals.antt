@@ -1,5 +1,5 @@
 -- Rows that have the same references and the same sub, and what is kept to find those with other attributes.
-use Rattle.std.specs.Prelude.{◌≡◌, ℕ, ◌&&◌, true, false, Bool, List, [], Contains, position}
+use Rattle.std.specs.Prelude.{◌≡◌, ℕ, ◌&&◌, ◌||◌, true, false, Bool, List, [], ◌∷◌, Contains, position}
 use Rattle.std.specs.BTreeMap.{BTreeMap, get}
 use Rattle.std.specs.Cmp.Lexicographic.{slice_cmp}
 use Rattle.std.specs.Ordering.{ordering_then}
@@ -21,6 +21,12 @@ is_named name row = refs_eq row.refs name.refs && texts_eq row.sub name.sub
 
 abbrev pub name_of : NRow → RowName
 name_of row = record { refs = row.refs; sub = row.sub }
+
+-- whether a row has the name of the one before it
+abbrev pub repeats_name : List NRow → Bool
+repeats_name [] = false
+repeats_name (before ∷ []) = false
+repeats_name (before ∷ row ∷ rest) = is_named (name_of before) row || repeats_name (row ∷ rest)
 
 -- the map has the place of the first row of each name
 abbrev pub IsFirsts : BTreeMap RowName ℕ → List NRow → Type 0

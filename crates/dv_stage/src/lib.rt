@@ -12,6 +12,7 @@ mod records;
 mod rows;
 mod stages;
 mod taken_rows;
+mod whole;
 
 pub use faults::StageFault;
 pub use stages::{Staged2, stage};

@@ -30,7 +30,7 @@ fn feed_row(alloc: Global, header: &Header, row: &ByteRecord) -> Result<NRow, Me
 }
 
 // The row of a record that breaks no rule by itself.
-fn checked_row(
+pub(crate) fn checked_row(
     alloc: Global,
     header: &Header,
     row_no: u32,

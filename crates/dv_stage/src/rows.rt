@@ -14,7 +14,7 @@ use std::alloc::Global;
 fn texts_at(alloc: Global, row: &ByteRecord, places: &[usize]) -> Result<List<Text>, Memory>
     ensures { IfOk result (λ texts. texts ≡ map norm_field (spec.fields_at (fields_of row.now) places.now)) }
 {
-    let mut texts = List::new(alloc);
+    let mut texts = List::with_room(alloc, places.len())?;
     for place in places {
         if let Some(bytes) = field_at(row, *place) {
             let text = field(alloc, bytes)?;
@@ -28,7 +28,7 @@ fn texts_at(alloc: Global, row: &ByteRecord, places: &[usize]) -> Result<List<Te
 fn key_at(alloc: Global, row: &ByteRecord, places: &[usize]) -> Result<Key, Memory>
     ensures { IfOk result (λ key. key ≡ spec.key_at (fields_of row.now) places.now) }
 {
-    let mut parts = List::new(alloc);
+    let mut parts = List::with_room(alloc, places.len())?;
     for place in places {
         if let Some(bytes) = field_at(row, *place) {
             let part = key_part(alloc, bytes)?;
@@ -41,7 +41,7 @@ fn key_at(alloc: Global, row: &ByteRecord, places: &[usize]) -> Result<Key, Memo
 fn refs_at(alloc: Global, row: &ByteRecord, keys: &[List<usize>]) -> Result<List<Key>, Memory>
     ensures { IfOk result (λ refs. refs ≡ map (spec.key_at (fields_of row.now)) keys.now) }
 {
-    let mut refs = List::new(alloc);
+    let mut refs = List::with_room(alloc, keys.len())?;
     for places in keys {
         refs.push(key_at(alloc, row, places.items())?)?;
     }

@@ -12,6 +12,7 @@ use crate::layouts::{Header, layout_of};
 use crate::partners::two_drivers;
 use crate::readings::read_rows;
 use crate::records::{extract_reader, next_row};
+use crate::whole::whole_extract;
 use csv::{ByteRecord, Reader};
 use dv_catalog::{Catalog, FeedDef, Rule};
 use dv_text::{Duplicate, List, NRow, Staged, sorted_rows};
@@ -77,6 +78,10 @@ pub(crate) fn read_extract(
     ensures ok { IfOk result (λ taken. records_read feed.now room (extract_records bytes.now) ≡ Taken taken.rows taken.count) }
     ensures broken { IfErr result (λ e. TellsRead e (records_read feed.now room (extract_records bytes.now))) }
 {
+    if let Some(taken) = whole_extract(alloc, feed, bytes, room)? {
+        return Ok(taken);
+    }
+    // An extract that may break a rule is read again, record by record, to name the first one.
     let mut reader = extract_reader(alloc, bytes);
     let mut row = ByteRecord::new(alloc);
     if !next_row(&mut reader, &mut row)? {

@@ -1,5 +1,6 @@
 use crate::faults::StageFault;
 use crate::stages::read_extract;
+use crate::whole::whole_extract;
 use dv_catalog::{FeedDef, Parent, Rule};
 use dv_text::{Key, List, Memory, NRow, Text};
 use std::alloc::AllocError;
@@ -215,6 +216,26 @@ fn long_fields_are_refused(rt: HostRuntime) -> Result<(), Fail> {
     bytes.push(b' ')?;
     let got = read(&rt, &keys, &bytes, 9)?;
     assert_eq!(rt; got.as_slice(), b"W14 1 0 ".as_slice());
+    Ok(())
+}
+
+// Extracts, and whether one reading is enough for them.
+static READ_ONCE: [(&[u8], bool); 6] = [
+    (b"K,S,N\nb,2,3\na,2,3\nB,2,3\na,3,4\n", true),
+    (b"K,S,N\n", true),
+    (b"K,S\n", false),
+    (b"K,S,N\na,2,3\nb,2\n", false),
+    (b"K,S,N\na,2,3\nb,2,4\nA,2,4\n", false),
+    (b"K,S,N\na,2,3\na,2,3\na,2,3\na,2,3\na,2,3\n", false),
+];
+
+#[test]
+fn whole_extracts_are_read_once(rt: HostRuntime) -> Result<(), Fail> {
+    let phones = feed(&rt, &[&[b"K"]], &[b"S"], &[b"N"], &[])?;
+    for (bytes, once) in READ_ONCE {
+        let found = whole_extract(rt.alloc(), &phones, bytes, 4)?;
+        assert_eq!(rt; found.is_some(), once);
+    }
     Ok(())
 }
 

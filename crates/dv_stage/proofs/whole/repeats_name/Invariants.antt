@@ -1,0 +1,6 @@
+use Rattle.std.proofs.Common.{◌≡◌, ◌-◌, drop}
+use Rattle.dv_stage.specs.Rivals.{repeats_name}
+use Rattle.dv_stage.proofs.whole.repeats_name.Given as goal
+
+abbrev pub invariant-loop-i : goal.invariant-loop-i
+invariant-loop-i l = repeats_name (drop (l.i - 1) l.rows) ≡ repeats_name l.rows
