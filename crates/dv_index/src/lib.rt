@@ -10,3 +10,6 @@ mod walks;
 
 pub use indexed_rows::IndexedRows;
 pub use placed::Placed;
+
+#[cfg(test)]
+mod tests;

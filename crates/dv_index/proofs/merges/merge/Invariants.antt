@@ -1,4 +1,3 @@
-use Rattle.std.proofs.Common.{ℕ}
 use Rattle.dv_index.specs.Numbers.{parents_of}
 use Rattle.dv_index.proofs.Order.{number_lt, number_order}
 use Rattle.dv_index.proofs.Merging.{IsMerging}

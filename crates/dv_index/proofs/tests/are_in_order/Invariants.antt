@@ -1,0 +1,10 @@
+use Rattle.std.proofs.Common.{◌≡◌, length}
+use Rattle.dv_index.specs.Places.{are_in_load_order}
+use Rattle.dv_index.proofs.tests.are_in_order.Given as goal
+
+-- the rows before are in order with all behind them
+abbrev pub invariant-loop-row : goal.invariant-loop-row
+invariant-loop-row g l = are_in_load_order g.R.Placed.place l.left ≡ are_in_load_order g.R.Placed.place l.rows
+
+abbrev pub decreases-loop-row : goal.decreases-loop-row
+decreases-loop-row g l = length l.left
