@@ -21,7 +21,7 @@ fn is_only(key: &Key, refs: &List<Key>) -> bool
 fn list_of(alloc: Global, key: &Key) -> Result<List<Key>, Memory>
     ensures { IfOk result (λ refs. refs ≡ key.now ∷ []) }
 {
-    let mut refs = List::new(alloc);
+    let mut refs = List::with_room(alloc, 1)?;
     refs.push(key.copy()?)?;
     Ok(refs)
 }

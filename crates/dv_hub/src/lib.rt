@@ -9,3 +9,6 @@ mod new_rows;
 
 pub use hub_table::HubTable;
 pub use laws::hub_delta_is_batch;
+
+#[cfg(test)]
+mod tests;

@@ -2,25 +2,14 @@
 ghost use Rattle.std.specs.Prelude.{◌≡◌, ◌++◌, ◌<◌, IfOk, IsTrue, OnOk, Some, length, nat_lt};
 ghost use Rattle.std.specs.List.{filter_map, list_all};
 ghost use Rattle.std.specs.Option.{option_to_list};
-ghost use Rattle.dv_catalog.specs.Feeds as feeds;
 ghost use Rattle.dv_records.specs.Hubs as hubs;
 ghost use Rattle.dv_hub.specs.NewRows as spec;
 
-use dv_catalog::{Catalog, FeedDef};
+use dv_catalog::{Catalog, record_source};
 use dv_deliveries::HashedList;
 use dv_records::HubRow;
-use dv_text::{Key, List, Memory, Stamp, Text};
+use dv_text::{Key, List, Memory, Stamp};
 use std::alloc::Global;
-
-// The record source of a feed: its source, a dot and its name.
-fn record_source(alloc: Global, feed: &FeedDef) -> Result<Text, Memory>
-    ensures { IfOk result (λ text. text ≡ feeds.source_by (Some feed.now)) }
-{
-    let mut bytes = Vec::from_slice(alloc, feed.source.bytes())?;
-    bytes.push(b'.')?;
-    bytes.extend_from_slice(feed.name.bytes())?;
-    Ok(Text::from_vec(bytes))
-}
 
 fn only_key(refs: List<Key>) -> Option<Key>
     ensures { result ≡ hubs.only_key refs }

@@ -1,34 +1,23 @@
 // The rows of reference lists that a link's table has not yet.
-ghost use Rattle.std.specs.Prelude.{◌≡◌, ◌<◌, ◌∷◌, [], IfOk, IsTrue, Some, length, map, nat_lt};
+ghost use Rattle.std.specs.Prelude.{◌≡◌, ◌<◌, ◌∷◌, [], IfOk, IsTrue, length, map, nat_lt};
 ghost use Rattle.std.specs.List.{list_all};
 ghost use Rattle.dv_text.specs.Keys.{hashes_of};
-ghost use Rattle.dv_catalog.specs.Feeds as feeds;
 ghost use Rattle.dv_digest.specs.Fits.{refs_fit};
 ghost use Rattle.dv_records.specs.Hubs.{each_hash};
 ghost use Rattle.dv_link.specs.NewRows as spec;
 
-use dv_catalog::{Catalog, FeedDef};
+use dv_catalog::{Catalog, record_source};
 use dv_deliveries::HashedList;
 use dv_digest::{Room, hash_key};
 use dv_records::LinkRow;
-use dv_text::{Digest, Key, KeyDigest, List, Memory, Stamp, Text};
+use dv_text::{Digest, Key, KeyDigest, List, Memory, Stamp};
 use std::alloc::Global;
-
-// The record source of a feed: its source, a dot and its name.
-fn record_source(alloc: Global, feed: &FeedDef) -> Result<Text, Memory>
-    ensures { IfOk result (λ text. text ≡ feeds.source_by (Some feed.now)) }
-{
-    let mut bytes = Vec::from_slice(alloc, feed.source.bytes())?;
-    bytes.push(b'.')?;
-    bytes.extend_from_slice(feed.name.bytes())?;
-    Ok(Text::from_vec(bytes))
-}
 
 // The list of one key.
 fn single(alloc: Global, key: Key) -> Result<List<Key>, Memory>
     ensures { IfOk result (λ refs. refs ≡ key ∷ []) }
 {
-    let mut refs = List::new(alloc);
+    let mut refs = List::with_room(alloc, 1)?;
     refs.push(key)?;
     Ok(refs)
 }
@@ -57,7 +46,7 @@ fn each_key_hash<H: KeyDigest>(
     requires { IsTrue (list_all (λ key. refs_fit (key ∷ [])) refs) }
     ensures { IfOk result (λ made. made ≡ each_hash (hashes_of H.digest_of H.size) refs) }
 {
-    let mut made = List::new(alloc);
+    let mut made = List::with_room(alloc, refs.items().len())?;
     for key in refs.into_vec() {
         made.push(key_hash(alloc, key, digest, room)?)?;
     }

@@ -248,6 +248,26 @@ fn rows_are_found_by_hash_key(rt: HostRuntime) -> Result<(), Fail> {
     Ok(())
 }
 
+// Whether three lists, delivered in this order to a new table, collide, and the first two of all are named.
+fn names_the_least(alloc: Global, lists: &[&[&[u8]]]) -> Result<bool, Fail> {
+    let names = names_of(alloc, b"A1", b"B1")?;
+    let table = empty(alloc)?;
+    let answer = delta(alloc, &table, FIRST, 0, lists, &names, &TinyKeys)?;
+    Ok(collides(alloc, &answer, &[b"A1", b"B"], &[b"A1", b"C"])?)
+}
+
+#[test]
+fn the_least_pair_of_three_is_named(rt: HostRuntime) -> Result<(), Fail> {
+    let alloc = rt.alloc();
+    assert!(rt; names_the_least(alloc, &[&[b"A1", b"B"], &[b"A1", b"C"], &[b"A2", b"B"]])?);
+    assert!(rt; names_the_least(alloc, &[&[b"A1", b"B"], &[b"A2", b"B"], &[b"A1", b"C"]])?);
+    assert!(rt; names_the_least(alloc, &[&[b"A1", b"C"], &[b"A1", b"B"], &[b"A2", b"B"]])?);
+    assert!(rt; names_the_least(alloc, &[&[b"A1", b"C"], &[b"A2", b"B"], &[b"A1", b"B"]])?);
+    assert!(rt; names_the_least(alloc, &[&[b"A2", b"B"], &[b"A1", b"B"], &[b"A1", b"C"]])?);
+    assert!(rt; names_the_least(alloc, &[&[b"A2", b"B"], &[b"A1", b"C"], &[b"A1", b"B"]])?);
+    Ok(())
+}
+
 #[test]
 fn a_list_of_the_table_collides(rt: HostRuntime) -> Result<(), Fail> {
     let alloc = rt.alloc();

@@ -5,7 +5,9 @@ mod laws;
 mod sat_changes;
 mod sat_tables;
 mod sorting;
-mod sources;
 
 pub use laws::sat_delta_is_batch;
 pub use sat_tables::SatTable;
+
+#[cfg(test)]
+mod tests;

@@ -10,8 +10,7 @@ ghost use Rattle.dv_sat.specs.SatRows as spec;
 
 use crate::sat_changes::{add, diff, hash, new_row};
 use crate::sorting::in_batch_order;
-use crate::sources::record_source;
-use dv_catalog::Catalog;
+use dv_catalog::{Catalog, record_source};
 use dv_digest::Room;
 use dv_index::IndexedRows;
 use dv_records::SatRow;

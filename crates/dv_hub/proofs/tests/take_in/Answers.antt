@@ -1,0 +1,14 @@
+use Rattle.std.proofs.Common.{◌≡◌, true, nat_le, sym, subst, ◌∙◌}
+use Rattle.std.specs.List.{list_all}
+use Rattle.dv_catalog.specs.declared.entries.Parent.TheVariants.{Hub}
+use Rattle.dv_deliveries.specs.ItemTests.{are_items}
+use Rattle.dv_hub.proofs.HubItems.{hub_items}
+use Rattle.dv_hub.proofs.tests.take_in.Goals as goal
+
+pub delta-requires-clause-dated : goal.delta-requires-clause-dated
+delta-requires-clause-dated g c κs within =
+    subst (λ l. list_all (λ row. nat_le row.load c.in_ok-load.load) l ≡ true) c.rows.ensures.value (sym c.are_up_to.ensures ∙ c.if-not-are_up_to.false)
+
+pub delta-requires-clause-items : goal.delta-requires-clause-items
+delta-requires-clause-items g c κs within =
+    hub_items c.in_ok-catalog.catalog 0 c.in_ok-items.items (subst (λ l. are_items c.in_ok-catalog.catalog (Hub 0) l ≡ true) c.items-2.ensures (sym c.are_items.ensures ∙ c.if-not-are_items.false))
