@@ -1,0 +1,91 @@
+-- Digests in a list, sorted or not.
+use Rattle.std.proofs.Common.{◌≡◌, ◌↔◌, ℕ, ◌+◌, inl, inr, Bool, true, false, List, [], ◌∷◌, Option, Some, None, Result, Ok, Err, refl, sym, ap, subst, arith, length, get_or, filter, reverse, ◌&&◌, nat_le}
+use Rattle.std.specs.Prelude.{Contains, is_ok}
+use Rattle.std.specs.Bool.{Decides, IsTrue}
+use Rattle.std.specs.declared.cmp.Ordering.{Ordering}
+use Rattle.std.specs.declared.cmp.Ordering.TheVariants.{Equal}
+use Rattle.std.specs.Cmp.{IsTotalOrder}
+use Rattle.std.specs.FinMap.{nat_cmp-IsAntisymmetric, slice_cmp-IsAntisymmetric, IsAntisymmetric}
+use Rattle.std.specs.List.{filter_map}
+use Rattle.std.specs.List.Sorted.{IsBinarySearchResult, IsSearchInRange, IsStrictlySortedBy, IsSortedBy}
+use Rattle.std.specs.Ordering.{is_lt}
+use Rattle.std.specs.Str.{bytes_eq}
+use Rattle.std.proofs.lemmas.Bool.{and_parts, cases_lt, false≢true}
+use Rattle.std.proofs.lemmas.Cmp.{tied_itself}
+use Rattle.std.proofs.lemmas.List.Sorted.{searchable_from_sorted}
+use Rattle.std.proofs.lemmas.Map.Keys.{Less-from_sorted}
+use Rattle.std.proofs.lemmas.Slice.Eq.{bytes_eq-Decides}
+use Rattle.dv_text.specs.Sorting.{sorted_by}
+use Rattle.dv_text.proofs.SortedLists.{member_after_sort, member_before_sort}
+use Rattle.dv_records.specs.declared.raw_rows.StatusRow.{StatusRow}
+use Rattle.dv_records.specs.declared.raw_rows.Code.{Code}
+use Rattle.dv_records.specs.declared.raw_rows.Code.TheVariants.{I, D}
+use Rattle.dv_records.specs.Batches.{digest_cmp}
+use Rattle.dv_records.specs.StatusPlaces.{status_place}
+use Rattle.dv_index.specs.Places.{latest_at, latest_of_each}
+use Rattle.dv_records.specs.Reconstruction.{is_appearance, says_present}
+use Rattle.dv_records.proofs.Memberships.{any_from_member, any_member, found_member}
+use Rattle.dv_track.specs.Tracks.{is_among, parents_of, present_parents}
+
+pub is_among-Decides : (digests : List (List ℕ)) (digest : List ℕ) → Decides (is_among digests digest) (Contains digests digest)
+is_among-Decides digests digest = (
+  λ e. let (other, member, same) = any_member (λ other. bytes_eq other digest) digests e in subst (Contains digests) ((bytes_eq-Decides other digest).0 same) member,
+  λ member. any_from_member (λ other. bytes_eq other digest) digests digest member ((bytes_eq-Decides digest digest).1 refl),
+)
+
+module _ {X : Type 0} {R : X → X → Ordering} (o : IsTotalOrder R) where
+  pub sorted_from_strictly : (xs : List X) → IsStrictlySortedBy R xs → IsSortedBy (λ a b. is_lt (R a b)) xs
+  sorted_from_strictly xs up k d low under =
+      let less = Less-from_sorted R xs k (k + 1) d up (omega arith) under in
+      rw (o.antisymm (get_or xs (k + 1) d) (get_or xs k d), less)
+
+  -- a binary search over an ascending list finds exactly its members
+  pub searched_members : IsAntisymmetric R → (xs : List X) (x : X) (r : Result ℕ ℕ) → IsStrictlySortedBy R xs → IsSearchInRange r (length xs) → IsBinarySearchResult (λ y. R y x) xs r → IsTrue (is_ok r) ↔ Contains xs x
+  searched_members exact xs x (Ok i) up inside found = (λ found_it. (i, inside, exact (get_or xs i x) x (found x)), λ has. refl)
+  searched_members exact xs x (Err i) up inside found = (
+    λ found_it. absurd (false≢true found_it),
+    λ (k, under, there).
+        let parts = found (searchable_from_sorted o (λ y. y) xs x (sorted_from_strictly xs up)) in
+        let tie : R (get_or xs k x) x ≡ Equal = rw there (tied_itself o x) in
+        elim (cases_lt k i) [
+          | inl before ↦ let less = parts.0 k x (omega arith) before in cc
+          | inr behind ↦ let more = parts.1 k x behind under in cc
+        ],
+  )
+
+pub same_answer : (a b : Bool) → (a ≡ true → b ≡ true) → (b ≡ true → a ≡ true) → a ≡ b
+same_answer true true f g = refl
+same_answer false false f g = refl
+same_answer true false f g = sym (f refl)
+same_answer false true f g = g refl
+
+-- it does not matter whether they are sorted
+pub among_sorted : (digests : List (List ℕ)) (digest : List ℕ) → is_among (sorted_by digest_cmp digests) digest ≡ is_among digests digest
+among_sorted digests digest =
+    same_answer (is_among (sorted_by digest_cmp digests) digest) (is_among digests digest)
+    (λ e. (is_among-Decides digests digest).1 (member_before_sort digest_cmp digests digest ((is_among-Decides (sorted_by digest_cmp digests) digest).0 e)))
+    (λ e. (is_among-Decides (sorted_by digest_cmp digests) digest).1 (member_after_sort digest_cmp digests digest (λ x member tied. slice_cmp-IsAntisymmetric nat_cmp-IsAntisymmetric x digest tied) ((is_among-Decides digests digest).0 e)))
+
+-- the parents of those latest rows that say that it appeared are the parents that are present
+pub appeared_present : (latest : List ℕ → Option StatusRow) → ((parent : List ℕ) (row : StatusRow) → latest parent ≡ Some row → row.parent ≡ parent) → (parents : List (List ℕ))
+    → parents_of (filter (λ row. is_appearance row.code) (filter_map latest parents)) ≡ filter (λ parent. says_present (latest parent)) parents
+appeared_present latest own [] = refl
+appeared_present latest own (parent ∷ parents) = by (latest parent) refl (appeared_present latest own parents)
+  where
+    by : (o : Option StatusRow) → latest parent ≡ o → parents_of (filter (λ row. is_appearance row.code) (filter_map latest parents)) ≡ filter (λ parent. says_present (latest parent)) parents
+        → parents_of (filter (λ row. is_appearance row.code) (filter_map latest (parent ∷ parents))) ≡ filter (λ parent. says_present (latest parent)) (parent ∷ parents)
+    by None e rest = rw e rest
+    by (Some row) e rest = code row.code refl
+      where
+        code : (c : Code) → row.code ≡ c → parents_of (filter (λ row. is_appearance row.code) (filter_map latest (parent ∷ parents))) ≡ filter (λ parent. says_present (latest parent)) (parent ∷ parents)
+        code I is = rw (e, is, own parent row e) (ap (λ list. parent ∷ list) rest)
+        code D is = rw (e, is) rest
+
+-- a parent's latest row is its own
+own_row : (rows : List StatusRow) (date : ℕ) (parent : List ℕ) (row : StatusRow) → latest_at status_place rows parent date ≡ Some row → row.parent ≡ parent
+own_row rows date parent row e =
+    (bytes_eq-Decides row.parent parent).0 (and_parts _ (nat_le row.load date) (found_member (λ (row : StatusRow). bytes_eq row.parent parent && nat_le row.load date) (reverse rows) row e).1).0
+
+-- so the walk over the latest rows gives the parents that are present
+pub latest_present : (rows : List StatusRow) (date : ℕ) → parents_of (filter (λ row. is_appearance row.code) (latest_of_each status_place rows date)) ≡ present_parents rows date
+latest_present rows date = appeared_present (λ parent. latest_at status_place rows parent date) (own_row rows date) (sorted_by digest_cmp (parents_of rows))

@@ -1,0 +1,182 @@
+-- Over the table of older extracts, what the newest one adds row by row is its batch.
+use Rattle.std.proofs.Common.{◌≡◌, ℕ, ◌==◌, ◌<◌, inl, inr, Bool, true, false, List, [], ◌∷◌, ◌++◌, Option, Some, refl, sym, ◌∙◌, ap, subst, arith}
+use Rattle.std.specs.Prelude.{Contains}
+use Rattle.std.specs.Cmp.{ranked}
+use Rattle.std.specs.Cmp.Lexicographic.{nat_list_cmp_total}
+use Rattle.std.specs.declared.cmp.Ordering.TheVariants.{Less}
+use Rattle.std.specs.FinMap.{nat_cmp-IsAntisymmetric, slice_cmp-IsAntisymmetric}
+use Rattle.std.specs.List.{AllByRecursion, filter_map}
+use Rattle.std.specs.List.Sorted.{IsStrictlySortedBy}
+use Rattle.std.specs.Ordering.{nat_cmp}
+use Rattle.std.specs.Str.{bytes_eq}
+use Rattle.std.proofs.lemmas.Bool.{eqb-true}
+use Rattle.std.proofs.lemmas.List.Elements.{Contains-append_cases, Contains-append_left, Contains-append_right}
+use Rattle.std.proofs.lemmas.Slice.Eq.{bytes_eq-Decides}
+use Rattle.dv_text.specs.declared.rows.Key.{Key}
+use Rattle.dv_text.specs.Keys.{Hashes}
+use Rattle.dv_text.specs.Sorting.{sorted_by}
+use Rattle.dv_text.proofs.Members.{Contains-cons_cases, filter_map_member, member_of_filter_map, IsStrictlySortedBy-filter_map}
+use Rattle.dv_text.proofs.SortedLists.{ascending-sorted_by, member_after_sort, member_before_sort}
+use Rattle.dv_records.specs.declared.raw_rows.StatusRow.{StatusRow}
+use Rattle.dv_records.specs.Batches.{appended, digest_cmp}
+use Rattle.dv_records.specs.Collisions.{IsApart}
+use Rattle.dv_records.specs.History.{Extract, all_refs, delivers, lists_of, newest_rows, AreNewestFirst}
+use Rattle.dv_records.specs.Reconstruction.{present_at}
+use Rattle.dv_records.specs.Statuses.{code_between, code_of, status_batch, status_cmp, status_row, IsStatusBatch}
+use Rattle.dv_records.proofs.BatchTies.{given}
+use Rattle.dv_records.proofs.Deciding.{Contains-all_refs, delivers-from_Contains}
+use Rattle.dv_records.proofs.Memberships.{any_from_member, any_member, Contains-map, Contains-nil, map_member}
+use Rattle.dv_records.proofs.Reversing.{IsNewestFirst, made_of}
+use Rattle.dv_records.proofs.StatusReconstruct.{all_up_to, both_lists, tells}
+use Rattle.dv_records.proofs.StatusTies.{status_parent, status_stands, status_tied}
+use Rattle.dv_track.specs.Tracks.{has_load, hashes_in, is_among, parents_of, status_change, status_delta}
+use Rattle.dv_track.proofs.Presence.{present_parent}
+
+-- ---- load dates
+
+all_before : (date : ℕ) (extracts : List Extract) → AllByRecursion (λ (extract : Extract). nat_cmp extract.load date ≡ Less) extracts → (extract : Extract) → Contains extracts extract → extract.load < date
+all_before date [] all extract has = Contains-nil extract has
+all_before date (first ∷ rest) all extract has =
+    elim (Contains-cons_cases first rest extract has) [
+      | inl same ↦ subst (λ (e : Extract). e.load < date) same (ranked first.load date Less (sym all.0))
+      | inr member ↦ all_before date rest all.1 extract member
+    ]
+
+newest_first : (extracts : List Extract) → AreNewestFirst extracts → IsNewestFirst (λ (extract : Extract). extract.load) extracts
+unfolding IsStrictlySortedBy
+newest_first [] order = tt
+newest_first (newest ∷ older) order = (all_before newest.load older order.0, newest_first older order.1)
+
+-- ---- rows of a table of extracts
+
+module _ (hashes : Hashes) (source : List ℕ) where
+  -- a row of a batch is of a list of one of the two extracts
+  of_batch : (older : List Extract) (newest : Extract) (row : StatusRow) → Contains (status_batch hashes source older newest) row
+      → (refs : List Key) × Contains (all_refs (newest_rows older) ++ all_refs newest.rows) refs × (status_row hashes source older newest refs ≡ Some row)
+  of_batch older newest row has =
+      filter_map_member (status_row hashes source older newest) (all_refs (newest_rows older) ++ all_refs newest.rows) row
+      (member_before_sort status_cmp (filter_map (status_row hashes source older newest) (all_refs (newest_rows older) ++ all_refs newest.rows)) row has)
+
+  -- a row of the table is of a list that the extracts deliver
+  table_list : (extracts : List Extract) (row : StatusRow) → Contains (appended (status_batch hashes source) extracts) row → (refs : List Key) × Contains (lists_of extracts) refs × (row.parent ≡ hashes.hash refs)
+  table_list [] row has = Contains-nil row has
+  table_list (newest ∷ older) row has =
+      elim (Contains-append_cases (appended (status_batch hashes source) older) (status_batch hashes source older newest) row has) [
+        | inl before ↦ let (refs, member, is) = table_list older row before in (refs, Contains-append_right (all_refs newest.rows) (lists_of older) refs member, is)
+        | inr batch ↦
+            let (refs, member, gives) = of_batch older newest row batch in
+            (refs, both_lists newest older refs member, status_parent hashes source older newest refs row gives)
+      ]
+
+  -- and has the load date of one of them
+  table_before : (date : ℕ) (extracts : List Extract) → ((extract : Extract) → Contains extracts extract → extract.load < date) → (row : StatusRow) → Contains (appended (status_batch hashes source) extracts) row → row.load < date
+  table_before date [] before row has = Contains-nil row has
+  table_before date (newest ∷ older) before row has =
+      elim (Contains-append_cases (appended (status_batch hashes source) older) (status_batch hashes source older newest) row has) [
+        | inl early ↦ table_before date older (λ extract member. before extract (Contains-append_right (newest ∷ []) older extract member)) row early
+        | inr batch ↦
+            let (refs, member, gives) = of_batch older newest row batch in
+            let (code, found, made) = made_of _ (code_of older newest refs) row gives in
+            let load : newest.load ≡ row.load = ap (λ (r : StatusRow). r.load) made in
+            subst (λ load. load < date) load (before newest (Contains-append_left (newest ∷ []) older newest (0, omega arith, refl)))
+      ]
+
+-- ---- the newest extract
+
+module _ (hashes : Hashes) (source : List ℕ) (older : List Extract) (newest : Extract) (order : AreNewestFirst (newest ∷ older)) (apart : IsApart hashes (lists_of (newest ∷ older))) where
+  abbrev rows : List StatusRow
+  rows = appended (status_batch hashes source) older
+
+  abbrev refs_now : List (List Key)
+  refs_now = all_refs newest.rows
+
+  abbrev change : List ℕ → Option StatusRow
+  change = status_change source rows newest.load (hashes_in hashes refs_now)
+
+  abbrev digests : List (List ℕ)
+  digests = parents_of rows ++ hashes_in hashes refs_now
+
+  -- no row of the table has the new load date
+  no_load : has_load rows newest.load ≡ false
+  no_load = by (has_load rows newest.load) refl
+    where
+      by : (b : Bool) → has_load rows newest.load ≡ b → has_load rows newest.load ≡ false
+      by false e = e
+      by true e =
+          let (row, member, same) = any_member (λ (row : StatusRow). row.load == newest.load) rows e in
+          let load = eqb-true row.load newest.load same in
+          let early = table_before hashes source newest.load older (newest_first (newest ∷ older) order).0 row member in
+          absurd (omega arith)
+
+  -- at the new load date the table says what the last extract before delivered
+  was : (refs : List Key) → Contains (lists_of (newest ∷ older)) refs → present_at rows (hashes.hash refs) newest.load ≡ delivers (newest_rows older) refs
+  was refs here =
+      let first = newest_first (newest ∷ older) order in
+      let own : (other : List Key) → Contains (lists_of older) other → hashes.hash other ≡ hashes.hash refs → other ≡ refs =
+      λ other member same. apart other refs (Contains-append_right (all_refs newest.rows) (lists_of older) other member) here same in
+      tells hashes source refs newest.load older first.1
+      (λ a b a_in b_in. apart a b (Contains-append_right (all_refs newest.rows) (lists_of older) a a_in) (Contains-append_right (all_refs newest.rows) (lists_of older) b b_in))
+      own
+      ∙ ap (λ extracts. delivers (newest_rows extracts) refs) (all_up_to newest.load newest.load older first.0 (omega arith))
+
+  -- and the lists have the hash keys of those that the new one delivers
+  now : (refs : List Key) → Contains (lists_of (newest ∷ older)) refs → is_among (hashes_in hashes refs_now) (hashes.hash refs) ≡ delivers newest.rows refs
+  now refs here = by (is_among (hashes_in hashes refs_now) (hashes.hash refs)) (delivers newest.rows refs) refl refl
+    where
+      by : (is there : Bool) → is_among (hashes_in hashes refs_now) (hashes.hash refs) ≡ is → delivers newest.rows refs ≡ there → is ≡ there
+      by true true i t = refl
+      by false false i t = refl
+      by false true i t =
+          let hashed = any_from_member (λ other. bytes_eq other (hashes.hash refs)) (hashes_in hashes refs_now) (hashes.hash refs) (Contains-map hashes.hash refs_now refs (Contains-all_refs newest.rows refs t)) ((bytes_eq-Decides (hashes.hash refs) (hashes.hash refs)).1 refl) in
+          sym i ∙ hashed
+      by true false i t =
+          let (other, among, equal) = any_member (λ other. bytes_eq other (hashes.hash refs)) (hashes_in hashes refs_now) i in
+          let (list, member, is) = map_member hashes.hash refs_now other among in
+          let same : list ≡ refs = apart list refs (Contains-append_left (all_refs newest.rows) (lists_of older) list member) here (is ∙ (bytes_eq-Decides other (hashes.hash refs)).0 equal) in
+          sym (delivers-from_Contains newest.rows refs (subst (Contains refs_now) same member)) ∙ t
+
+  -- so a list's change is its row
+  same_row : (refs : List Key) → Contains (lists_of (newest ∷ older)) refs → change (hashes.hash refs) ≡ status_row hashes source older newest refs
+  same_row refs here = rw (was refs here, now refs here) refl
+
+  -- each digest is the hash key of a list that was delivered
+  digest_list : (digest : List ℕ) → Contains digests digest → (refs : List Key) × Contains (lists_of (newest ∷ older)) refs × (hashes.hash refs ≡ digest)
+  digest_list digest has =
+      elim (Contains-append_cases (parents_of rows) (hashes_in hashes refs_now) digest has) [
+        | inl parent ↦
+            let (row, member, is) = map_member (λ (row : StatusRow). row.parent) rows digest parent in
+            let (refs, here, hashed) = table_list hashes source older row member in
+            (refs, Contains-append_right (all_refs newest.rows) (lists_of older) refs here, sym hashed ∙ is)
+        | inr hash ↦
+            let (refs, member, is) = map_member hashes.hash refs_now digest hash in
+            (refs, Contains-append_left (all_refs newest.rows) (lists_of older) refs member, is)
+      ]
+
+  -- and a list of one of the two newest extracts has its hash key among the digests
+  has_digest : (refs : List Key) → Contains (all_refs (newest_rows older) ++ refs_now) refs → Contains digests (hashes.hash refs)
+  has_digest refs has =
+      elim (Contains-append_cases (all_refs (newest_rows older)) refs_now refs has) [
+        | inl before ↦ Contains-append_left (parents_of rows) (hashes_in hashes refs_now) (hashes.hash refs) (present_parent rows (hashes.hash refs) newest.load (was refs (both_lists newest older refs has) ∙ delivers-from_Contains (newest_rows older) refs before))
+        | inr member ↦ Contains-append_right (parents_of rows) (hashes_in hashes refs_now) (hashes.hash refs) (Contains-map hashes.hash refs_now refs member)
+      ]
+
+  change_parent : (digest : List ℕ) (row : StatusRow) → change digest ≡ Some row → row.parent ≡ digest
+  change_parent digest row e = given _ (λ (row : StatusRow). row.parent) digest (λ code. refl) (code_between (present_at rows digest newest.load) (is_among (hashes_in hashes refs_now) digest)) row e
+
+  is_batch : IsStatusBatch hashes source older newest (filter_map change (sorted_by digest_cmp digests))
+  is_batch = record {
+    ascending = IsStrictlySortedBy-filter_map digest_cmp change (λ (row : StatusRow). row.parent) change_parent (sorted_by digest_cmp digests) (ascending-sorted_by digest_cmp nat_list_cmp_total digests);
+    only = λ row has.
+        let (digest, member, gives) = filter_map_member change (sorted_by digest_cmp digests) row has in
+        let (refs, here, is) = digest_list digest (member_before_sort digest_cmp digests digest member) in
+        (refs, sym (same_row refs here) ∙ ap change is ∙ gives);
+    each = λ refs row gives.
+        let stands = status_stands hashes source older newest refs row gives in
+        let sorted = member_after_sort digest_cmp digests (hashes.hash refs) (λ x member e. slice_cmp-IsAntisymmetric nat_cmp-IsAntisymmetric x (hashes.hash refs) e) (has_digest refs stands) in
+        member_of_filter_map change (sorted_by digest_cmp digests) (hashes.hash refs) row sorted (same_row refs (both_lists newest older refs stands) ∙ gives);
+  }
+
+  pub delta_is_batch : status_delta hashes source rows newest.load refs_now ≡ status_batch hashes source older newest
+  delta_is_batch =
+      rw no_load
+      ((status_tied hashes source older newest (λ a b a_in b_in. apart a b (both_lists newest older a a_in) (both_lists newest older b b_in)) (filter_map change (sorted_by digest_cmp digests))).1 is_batch)

@@ -1,0 +1,12 @@
+use Rattle.std.specs.Bool.{one_answer}
+use Rattle.std.specs.Cmp.Lexicographic.{nat_list_cmp_total}
+use Rattle.std.specs.FinMap.{nat_cmp-IsAntisymmetric, slice_cmp-IsAntisymmetric}
+use Rattle.dv_track.proofs.Amongst.{is_among-Decides, searched_members}
+use Rattle.dv_track.proofs.changes.is_among.Goals as goal
+
+pub returns : goal.returns
+returns c =
+    rw (c.is_ok.ensures.value)
+    (one_answer _ _
+    (searched_members nat_list_cmp_total (slice_cmp-IsAntisymmetric nat_cmp-IsAntisymmetric) c.args.digests.now c.args.digest.now c.binary_search.result c.requires c.binary_search.ensures.bound c.binary_search.ensures.position)
+    (is_among-Decides c.args.digests.now c.args.digest.now))

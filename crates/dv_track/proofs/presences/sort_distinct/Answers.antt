@@ -1,0 +1,11 @@
+use Rattle.std.specs.Cmp.Lexicographic.{nat_list_cmp_total, texts_ties}
+use Rattle.dv_text.proofs.Distinct.{ascending-sort_dedup, members-sort_dedup}
+use Rattle.dv_text.proofs.SortedLists.{sorted_by-members}
+use Rattle.dv_track.proofs.Presence.{exact}
+use Rattle.dv_track.proofs.presences.sort_distinct.Goals as goal
+
+pub returns-clause-value : goal.returns-clause-value
+returns-clause-value c =
+    sorted_by-members nat_list_cmp_total exact _ _
+    (ascending-sort_dedup nat_list_cmp_total texts_ties _ _ c.sort_unstable.ensures.sorted c.dedup.ensures.filtered)
+    (members-sort_dedup nat_list_cmp_total texts_ties exact _ _ _ c.sort_unstable.ensures.permutation c.dedup.ensures.filtered)

@@ -1,0 +1,7 @@
+use Rattle.std.specs.Cmp.Lexicographic.{nat_list_cmp_total}
+use Rattle.dv_text.proofs.SortedLists.{ascending-sorted_by}
+use Rattle.dv_records.specs.Batches.{digest_cmp}
+use Rattle.dv_track.proofs.presences.update.Goals as goal
+
+pub merge-requires-clause-touched : goal.merge-requires-clause-touched
+merge-requires-clause-touched c = rw (c.deref-2.ensures.value, c.sort_distinct.ensures.value) (ascending-sorted_by digest_cmp nat_list_cmp_total c.args.touched.now.items)

@@ -1,0 +1,31 @@
+// The load dates of a table in order, which its last row tells.
+ghost use Rattle.std.specs.Prelude.{◌≡◌, IsTrue};
+ghost use Rattle.std.specs.List.Sorted.{IsStrictlySortedBy};
+ghost use Rattle.dv_track.specs.Tracks.{are_up_to, status_order};
+ghost use Rattle.dv_track.specs.Tracks as spec;
+
+use dv_records::StatusRow;
+use dv_text::Stamp;
+
+// A date that no row is later than. Takes no memory.
+pub(crate) fn last_load(rows: &[StatusRow]) -> Stamp
+    requires { IsStrictlySortedBy status_order rows.now }
+    ensures { IsTrue (are_up_to rows.now result) }
+{
+    match rows.last() {
+        Some(row) => row.load,
+        None => Stamp::OPEN,
+    }
+}
+
+// Whether a row has this load date, where none is later. Takes no memory.
+pub(crate) fn has_load(rows: &[StatusRow], load: Stamp) -> bool
+    requires order { IsStrictlySortedBy status_order rows.now }
+    requires not_later { IsTrue (are_up_to rows.now load) }
+    ensures { result ≡ spec.has_load rows.now load }
+{
+    match rows.last() {
+        Some(row) => row.load == load,
+        None => false,
+    }
+}

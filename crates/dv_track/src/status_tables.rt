@@ -1,0 +1,208 @@
+ghost use Rattle.std.specs.Prelude.{◌≡◌, ◌≤◌, ◌<◌, ◌++◌, All, IfOk, IsTrue, OnOk, length};
+ghost use Rattle.std.specs.List.{list_all};
+ghost use Rattle.std.specs.List.Sorted.{IsStrictlySortedBy};
+ghost use Rattle.dv_text.specs.Keys.{hashes_of};
+ghost use Rattle.dv_digest.specs.Fits as fits;
+ghost use Rattle.dv_catalog.specs.Feeds.{source};
+ghost use Rattle.dv_records.specs.History.{all_refs};
+ghost use Rattle.dv_records.specs.Reconstruction.{present_at};
+ghost use Rattle.dv_track.specs.Tracks.{are_up_to, present_parents, status_changes, status_delta, status_order, IsBatchAfter};
+ghost use Rattle.dv_track.specs.Tracks as spec;
+
+use crate::changes::changes_between;
+use crate::hashing::hash_keys;
+use crate::loads::{has_load, last_load};
+use crate::presences::{is_present, present_parents, put_parents, update};
+use dv_catalog::{Catalog, record_source};
+use dv_index::IndexedRows;
+use dv_records::StatusRow;
+use dv_text::{Digest, KeyDigest, List, Memory, Staged, Stamp, Text, sorted_distinct};
+use std::alloc::Global;
+use std::marker::Model;
+
+/// The status table of a feed: when each parent appeared and vanished. Contracts see it as its rows, and for
+/// how many more there is room. The rows ascend by load date, then by parent.
+#[derive(Drop)]
+pub struct StatusTable {
+    indexed: IndexedRows<StatusRow>,
+    // Those that are present after the last row, ascending: what the next extract is compared with.
+    present: Vec<Digest>,
+    // Empty between calls: room in which the parents of new rows are put in order.
+    touched: Vec<Digest>,
+    // Empty between calls: room in which the next list of present parents is made.
+    spare: Vec<Digest>,
+}
+
+impl Model for StatusTable {
+    ghost use Rattle.std.specs.Prelude.{◌≡◌, ◌-◌, [], length, min, vec_capacity};
+    ghost use Rattle.std.specs.List.Sorted.{IsStrictlySortedBy};
+    ghost use Rattle.dv_index.specs.Places.{Indexed};
+    ghost use Rattle.dv_records.specs.declared.raw_rows.StatusRow.{StatusRow};
+    ghost use Rattle.dv_track.specs.Presences.{ArePresent};
+    ghost use Rattle.dv_track.specs.Tracks.{status_order};
+
+    ghost Value = { Indexed StatusRow };
+
+    ghost view = { λ t. record {
+      rows = t.indexed.rows;
+      spare = min t.indexed.spare (min (vec_capacity t.touched) (vec_capacity t.spare - length t.present.items));
+    } };
+
+    ghost invariant = { λ t. IsStrictlySortedBy status_order t.indexed.rows × ArePresent t.indexed.rows t.present.items × (t.touched.items ≡ []) × (t.spare.items ≡ []) };
+}
+
+impl StatusTable {
+    /// The table of these rows. Condition: they ascend strictly by load date, then by parent.
+    pub fn from_rows(alloc: Global, rows: List<StatusRow>) -> Result<StatusTable, Memory>
+        requires { IsStrictlySortedBy status_order rows }
+        ensures { IfOk result (λ table. table.rows ≡ rows) }
+    {
+        let last = last_load(rows.items());
+        let indexed = IndexedRows::from_rows(alloc, rows)?;
+        let present = present_parents(alloc, &indexed, last)?;
+        Ok(StatusTable {
+            indexed,
+            present,
+            touched: Vec::new(alloc),
+            spare: Vec::new(alloc),
+        })
+    }
+
+    /// The rows, in their order. Takes no memory.
+    pub fn rows(&self) -> &[StatusRow]
+        ensures value { result.now ≡ self.now.rows }
+        ensures kept { IsStrictlySortedBy status_order self.now.rows }
+    {
+        self.indexed.rows()
+    }
+
+    /// Makes room for so many more rows. The rows stay as they are, also for want of memory.
+    pub fn reserve(&mut self, more: u64) -> Result<(), Memory>
+        ensures rows { self.new.rows ≡ self.old.rows }
+        ensures room { OnOk result (more ≤ self.new.spare) }
+    {
+        self.indexed.reserve(more)?;
+        self.touched.reserve(more as usize)?;
+        let all = self.present.len().saturating_add(more as usize);
+        self.spare.reserve(all)?;
+        Ok(())
+    }
+
+    /// Appends rows. Conditions: there is room for them, and all rows ascend strictly by load date, then by
+    /// parent. Takes no memory.
+    pub fn apply(&mut self, rows: List<StatusRow>)
+        requires room { length rows ≤ self.old.spare }
+        requires order { IsStrictlySortedBy status_order (self.old.rows ++ rows) }
+        ensures { self.new.rows ≡ self.old.rows ++ rows }
+    {
+        if !rows.items().is_empty() {
+            self.append(rows);
+        }
+    }
+
+    fn append(&mut self, rows: List<StatusRow>)
+        requires some { 0 < length rows }
+        requires room { length rows ≤ self.old.spare }
+        requires order { IsStrictlySortedBy status_order (self.old.rows ++ rows) }
+        ensures { self.new.rows ≡ self.old.rows ++ rows }
+    {
+        put_parents(&mut self.touched, rows.items());
+        self.indexed.apply(rows);
+        let last = last_load(self.indexed.rows());
+        update(
+            &mut self.present,
+            &mut self.touched,
+            &mut self.spare,
+            &self.indexed,
+            last,
+        );
+    }
+
+    /// Whether a parent is present at a date: its last row that is not later says so. Takes no memory.
+    pub fn present(&self, parent: &Digest, date: Stamp) -> bool
+        ensures { result ≡ present_at self.now.rows parent.now date }
+    {
+        is_present(&self.indexed, parent, date)
+    }
+
+    /// The parents that are present at a date, ascending.
+    pub fn parents(&self, alloc: Global, date: Stamp) -> Result<List<Digest>, Memory>
+        ensures { IfOk result (λ found. found ≡ present_parents self.now.rows date) }
+    {
+        let found = present_parents(alloc, &self.indexed, date)?;
+        Ok(List::from_vec(found))
+    }
+
+    fn has_load(&self, load: Stamp) -> bool
+        requires { IsTrue (are_up_to self.now.rows load) }
+        ensures value { result ≡ spec.has_load self.now.rows load }
+        ensures ascending { IsStrictlySortedBy status_order self.now.rows }
+    {
+        has_load(self.indexed.rows(), load)
+    }
+
+    // The rows of the digests that appeared or vanished, without a walk over the table.
+    fn changes(
+        &self,
+        alloc: Global,
+        load: Stamp,
+        source: &Text,
+        now: Vec<Digest>,
+    ) -> Result<List<StatusRow>, Memory>
+        requires { IsTrue (are_up_to self.now.rows load) }
+        ensures { IfOk result (λ made. made ≡ status_changes source.now self.now.rows load now.items) }
+    {
+        let now = sorted_distinct(now);
+        let made = changes_between(alloc, load, source, &self.present, now.items())?;
+        Ok(made)
+    }
+
+    /// The rows that an extract adds: by hash key, one for each parent that appeared or vanished; none where
+    /// the table has a row of this load date. They have the load date, and the table's rows followed by them
+    /// ascend. Over the table of a feed's extracts before it, they are the extract's batch, where no two
+    /// reference lists that the extracts deliver have one hash key. Conditions: the feed is in the mapping, the
+    /// reference lists are no longer than those of staged rows, and no row of the table is later than the load
+    /// date.
+    pub fn delta<H: KeyDigest>(
+        &self,
+        alloc: Global,
+        load: Stamp,
+        staged: &Staged,
+        catalog: &Catalog,
+        digest: &H,
+    ) -> Result<List<StatusRow>, Memory>
+        requires feed { staged.now.feed < length catalog.now.feeds }
+        requires fit { IsTrue (list_all (λ row. fits.refs_fit row.refs) staged.now.rows) }
+        requires not_later { IsTrue (are_up_to self.now.rows load) }
+        ensures delta { IfOk result (λ rows. rows ≡ status_delta (hashes_of H.digest_of H.size) (source catalog.now staged.now.feed) self.now.rows load (all_refs staged.now.rows)) }
+        ensures stamped { IfOk result (All (λ row. row.load ≡ load)) }
+        ensures follows { IfOk result (λ rows. IsStrictlySortedBy status_order (self.now.rows ++ rows)) }
+        ensures batch { IfOk result (IsBatchAfter (hashes_of H.digest_of H.size) (source catalog.now staged.now.feed) self.now.rows (record { load = load; rows = staged.now.rows })) }
+    {
+        let rows = self.delta_rows(alloc, load, staged, catalog, digest)?;
+        Ok(rows)
+    }
+
+    fn delta_rows<H: KeyDigest>(
+        &self,
+        alloc: Global,
+        load: Stamp,
+        staged: &Staged,
+        catalog: &Catalog,
+        digest: &H,
+    ) -> Result<List<StatusRow>, Memory>
+        requires feed { staged.now.feed < length catalog.now.feeds }
+        requires fit { IsTrue (list_all (λ row. fits.refs_fit row.refs) staged.now.rows) }
+        requires not_later { IsTrue (are_up_to self.now.rows load) }
+        ensures value { IfOk result (λ rows. rows ≡ status_delta (hashes_of H.digest_of H.size) (source catalog.now staged.now.feed) self.now.rows load (all_refs staged.now.rows)) }
+        ensures order { IsStrictlySortedBy status_order self.now.rows }
+    {
+        if self.has_load(load) {
+            return Ok(List::new(alloc));
+        }
+        let source = record_source(alloc, catalog.feed(staged.feed))?;
+        let now = hash_keys(alloc, digest, staged.rows.items())?;
+        let rows = self.changes(alloc, load, &source, now)?;
+        Ok(rows)
+    }
+}
