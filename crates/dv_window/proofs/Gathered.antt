@@ -1,6 +1,6 @@
 -- What is gathered from a window's rows and sorted is what the window delivers.
 use Rattle.std.proofs.Common.{◌≡◌, ℕ, zero, suc, ◌+◌, ◌<◌, ◌≤◌, Bool, true, false, List, [], ◌∷◌, ◌++◌, Option, Some, None, drop, filter, get_or, refl, sym, ◌∙◌, ap, map, append_assoc}
-use Rattle.std.specs.Prelude.{◌==◌, Contains, find, if◌then◌else◌, length, not, slice_get}
+use Rattle.std.specs.Prelude.{◌==◌, find, if◌then◌else◌, length, not, slice_get}
 use Rattle.std.specs.Option.{option_map_or}
 use Rattle.std.specs.declared.cmp.Ordering.{Ordering}
 use Rattle.std.specs.Cmp.{IsTotalOrder, on_total}
@@ -16,7 +16,7 @@ use Rattle.dv_text.specs.declared.rows.Key.{Key}
 use Rattle.dv_text.specs.declared.rows.NRow.{NRow}
 use Rattle.dv_text.specs.declared.rows.Staged.{Staged}
 use Rattle.dv_text.specs.declared.rows.Window.{Window}
-use Rattle.dv_text.specs.Keys.{is_missing, key_eq, refs_eq}
+use Rattle.dv_text.specs.Keys.{is_missing, refs_eq}
 use Rattle.dv_text.specs.Orders.{key_cmp, refs_cmp, text_cmp}
 use Rattle.dv_text.specs.Sorting.{sorted_by}
 use Rattle.dv_text.proofs.Members.{IsStrictlySortedBy-filter_map}
@@ -24,7 +24,6 @@ use Rattle.dv_text.proofs.SortedLists.{ascending-sorted_by, same_ascending}
 use Rattle.dv_catalog.specs.declared.entries.FeedDef.{FeedDef}
 use Rattle.dv_catalog.specs.declared.entries.Parent.{Parent}
 use Rattle.dv_catalog.specs.declared.entries.Parent.TheVariants.{Hub, Link}
-use Rattle.dv_catalog.specs.declared.tables.TableId.{TableId}
 use Rattle.dv_catalog.specs.Entries.{Mapping}
 use Rattle.dv_catalog.specs.Feeds.{feed_hubs, is_fed_by, keys_at}
 use Rattle.dv_catalog.specs.Mappings.{is_declared, is_valid}

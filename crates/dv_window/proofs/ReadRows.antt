@@ -1,15 +1,15 @@
 -- The rows that an extract reads as, where it breaks no rule, have the form of the feed.
-use Rattle.std.proofs.Common.{◌≡◌, ℕ, zero, suc, ◌+◌, ◌-◌, ◌<◌, ◌≤◌, ◌⊎◌, inl, inr, Bool, true, false, not, ◌&&◌, ◌||◌, List, [], ◌∷◌, ◌++◌, Option, Some, None, cond, find, length, map, filter, nat_le, nat_lt, refl, sym, ◌∙◌, ap, subst, arith, append_assoc, eq-eqb, leb-true, le-leb}
-use Rattle.std.specs.Prelude.{◌==◌, Contains, if◌then◌else◌, is_some, min, position, slice_get}
+use Rattle.std.proofs.Common.{◌≡◌, ℕ, suc, ◌+◌, ◌≤◌, inl, inr, Bool, true, false, not, ◌&&◌, ◌||◌, List, [], ◌∷◌, ◌++◌, Option, Some, None, length, map, filter, nat_le, nat_lt, refl, sym, ◌∙◌, ap, subst, arith, append_assoc, eq-eqb, le-leb}
+use Rattle.std.specs.Prelude.{◌==◌, Contains, if◌then◌else◌, is_some, position, slice_get}
 use Rattle.std.specs.Cmp.{IsTotalOrder, on_total, then_total}
 use Rattle.std.specs.Cmp.Lexicographic.{lists_total, nat_list_cmp_total, pointwise}
 use Rattle.std.specs.FinMap.{slice_cmp-IsAntisymmetric}
 use Rattle.std.specs.List.{filter_map, flat_map, list_all, list_any, zip}
-use Rattle.std.specs.Option.{option_and_then, option_map, option_or}
+use Rattle.std.specs.Option.{option_and_then}
 use Rattle.std.specs.Str.{bytes_eq}
 use Rattle.std.specs.declared.cmp.Ordering.{Ordering}
 use Rattle.std.specs.declared.cmp.Ordering.TheVariants.{Less, Equal, Greater}
-use Rattle.std.proofs.lemmas.Bool.{and_parts, eqb-true, false≢true, or_parts}
+use Rattle.std.proofs.lemmas.Bool.{and_parts, eqb-true, or_parts}
 use Rattle.std.proofs.lemmas.Bool.Decides.{nat_tests}
 use Rattle.std.proofs.lemmas.List.{append-nil, length-map}
 use Rattle.std.proofs.lemmas.List.Elements.{Contains-append_left, Contains-append_right}

@@ -1,10 +1,10 @@
 -- The window that extracts read as, where they break no rule, is a window of the mapping.
-use Rattle.std.proofs.Common.{◌≡◌, ℕ, zero, suc, ◌+◌, ◌-◌, ◌<◌, ◌≤◌, Bool, true, false, not, ◌&&◌, List, [], ◌∷◌, Option, Some, None, find, length, map, nat_le, nat_lt, refl, sym, ◌∙◌, ap, subst, arith, leb-true, le-leb, zero-add}
-use Rattle.std.specs.Prelude.{◌==◌, Contains, if◌then◌else◌, is_some, min, position, slice_get, sum_by}
-use Rattle.std.specs.List.{cons_option, filter_map, list_all, list_any, range_with_len}
-use Rattle.std.specs.Option.{option_and_then, option_map, option_map_or, option_or}
+use Rattle.std.proofs.Common.{◌≡◌, ℕ, zero, suc, ◌+◌, ◌-◌, ◌<◌, ◌≤◌, Bool, true, not, ◌&&◌, List, [], ◌∷◌, Option, Some, None, find, length, map, nat_le, nat_lt, refl, sym, ◌∙◌, ap, subst, arith, leb-true, le-leb, zero-add}
+use Rattle.std.specs.Prelude.{◌==◌, Contains, if◌then◌else◌, is_some, min, slice_get, sum_by}
+use Rattle.std.specs.List.{cons_option, filter_map, list_all, range_with_len}
+use Rattle.std.specs.Option.{option_and_then, option_map}
 use Rattle.std.specs.Str.{bytes_eq}
-use Rattle.std.proofs.lemmas.Bool.{and_parts, eq-eqb, eqb-true}
+use Rattle.std.proofs.lemmas.Bool.{and_parts}
 use Rattle.std.proofs.lemmas.Bool.Decides.{nat_tests}
 use Rattle.std.proofs.lemmas.List.{length-map}
 use Rattle.std.proofs.lemmas.List.FromFn.{get_or-range_with_len, length-range_with_len}
@@ -14,7 +14,6 @@ use Rattle.dv_text.specs.declared.rows.Staged.{Staged}
 use Rattle.dv_text.specs.declared.rows.Window.{Window}
 use Rattle.dv_text.proofs.Members.{Contains-cons_here, Contains-cons_there, filter_map_member, member_of_filter_map}
 use Rattle.dv_catalog.specs.declared.entries.FeedDef.{FeedDef}
-use Rattle.dv_catalog.specs.declared.rules.Rule.{Rule}
 use Rattle.dv_catalog.specs.declared.rules.Rule.TheVariants.{NoExtracts, UnknownFeed}
 use Rattle.dv_catalog.specs.declared.windows.ExtractIn.{ExtractIn}
 use Rattle.dv_catalog.specs.declared.windows.WindowIn.{WindowIn}
@@ -24,11 +23,11 @@ use Rattle.dv_catalog.specs.FirstOf.{first_of}
 use Rattle.dv_catalog.specs.Mappings.{is_valid}
 use Rattle.dv_catalog.specs.Readings.{Read, broken_rule, read_by, reads, records_read, taken_count}
 use Rattle.dv_catalog.specs.Readings.Read.{Broken, Taken}
-use Rattle.dv_catalog.specs.Windows.{PlacedExtract, ReadExtract, extract_at, given_for, placed_extracts, reads_after, room_after, staged_from, window_of, window_rule}
+use Rattle.dv_catalog.specs.Windows.{PlacedExtract, extract_at, given_for, placed_extracts, reads_after, room_after, staged_from, window_of, window_rule}
 use Rattle.dv_catalog.proofs.ValidReads.{valid_feed}
 use Rattle.dv_stage.proofs.Places.{found_at, place_where, position-is}
 use Rattle.dv_records.specs.Outcomes.{feed_twice, is_feed, no_extracts, unknown_feed}
-use Rattle.dv_records.specs.States.{are_rows_of, ascends, is_staged, is_window}
+use Rattle.dv_records.specs.States.{ascends, is_staged, is_window}
 use Rattle.dv_records.proofs.Memberships.{finds}
 use Rattle.dv_window.proofs.FeedSteps.{placed_at}
 use Rattle.dv_window.proofs.GivenSteps.{some_place}

@@ -1,30 +1,28 @@
 -- What the rows of a window of the mapping fit: what they are hashed in, and the tables of hubs and links.
-use Rattle.std.proofs.Common.{◌≡◌, ℕ, zero, suc, ◌+◌, ◌<◌, ◌≤◌, inl, inr, Bool, true, false, not, ◌&&◌, List, [], ◌∷◌, Option, Some, None, cond, length, map, nat_le, nat_lt, refl, sym, ◌∙◌, ap, subst, arith, leb-true, le-leb}
+use Rattle.std.proofs.Common.{◌≡◌, ℕ, suc, ◌+◌, ◌<◌, ◌≤◌, inl, inr, Bool, true, false, not, List, [], ◌∷◌, Option, Some, None, cond, length, map, nat_le, refl, sym, ◌∙◌, ap, subst, arith, le-leb}
 use Rattle.std.specs.Prelude.{◌==◌, Contains, if◌then◌else◌, slice_get, sum_by}
 use Rattle.std.specs.List.{flat_map, list_all}
 use Rattle.std.specs.Option.{option_map_or}
-use Rattle.std.proofs.lemmas.Bool.{and_parts, eq-eqb, eqb-true}
-use Rattle.std.proofs.lemmas.Bool.Decides.{nat_tests}
+use Rattle.std.proofs.lemmas.Bool.{and_parts, eqb-true}
 use Rattle.dv_text.specs.declared.rows.Key.{Key}
 use Rattle.dv_text.specs.declared.rows.NRow.{NRow}
 use Rattle.dv_text.specs.declared.rows.Staged.{Staged}
 use Rattle.dv_text.specs.declared.rows.Window.{Window}
 use Rattle.dv_text.specs.Keys.{is_missing, texts_eq}
 use Rattle.dv_text.specs.Normal.{norm_field, norm_key}
-use Rattle.dv_text.proofs.Members.{Contains-cons_cases, Contains-cons_here, Contains-cons_there, filtered_members}
+use Rattle.dv_text.proofs.Members.{Contains-cons_cases, filtered_members}
 use Rattle.dv_catalog.specs.declared.entries.FeedDef.{FeedDef}
 use Rattle.dv_catalog.specs.declared.entries.HubDef.{HubDef}
 use Rattle.dv_catalog.specs.declared.entries.LinkDef.{LinkDef}
 use Rattle.dv_catalog.specs.declared.entries.Parent.{Parent}
 use Rattle.dv_catalog.specs.declared.entries.Parent.TheVariants.{Hub, Link}
-use Rattle.dv_catalog.specs.Checks.{mapped_count}
 use Rattle.dv_catalog.specs.Entries.{Mapping}
 use Rattle.dv_catalog.specs.Feeds.{feed_hubs, hubs_by, is_fed_by, keys_at, parent_eq, link_hubs, parent_hubs, parts_of}
 use Rattle.dv_catalog.specs.Mappings.{is_valid}
 use Rattle.dv_catalog.proofs.ValidReads.{valid_feed, valid_hub, valid_link}
 use Rattle.dv_digest.specs.Fits.{attrs_fit, refs_fit, texts_fit}
 use Rattle.dv_records.specs.declared.deliveries.Delivery.{Delivery}
-use Rattle.dv_records.specs.Deliveries.{deliveries, offers, offers_of, refs_from, table_of}
+use Rattle.dv_records.specs.Deliveries.{deliveries, offers_of, refs_from, table_of}
 use Rattle.dv_records.specs.History.{all_refs}
 use Rattle.dv_records.specs.States.{are_rows_of, fit_hubs, fits_hub, is_field, is_key_part, is_row_of, is_staged, is_window}
 use Rattle.dv_records.proofs.Delivered.{deliveries_member, first_offer-member}

@@ -169,7 +169,7 @@ fn first_offers(offers: Vec<Offer>) -> Result<Vec<Offer>, Memory>
 fn copy_refs(alloc: Global, refs: &[Key]) -> Result<List<Key>, Memory>
     ensures { IfOk result (λ made. made ≡ refs.now) }
 {
-    let mut made = List::new(alloc);
+    let mut made = List::with_room(alloc, refs.len())?;
     for key in refs {
         made.push(key.copy()?)?;
     }
@@ -180,7 +180,7 @@ fn copy_refs(alloc: Global, refs: &[Key]) -> Result<List<Key>, Memory>
 fn to_deliveries(alloc: Global, table: TableId, offers: &[Offer]) -> Result<List<Delivery>, Memory>
     ensures { IfOk result (λ items. items ≡ map (offered.delivery_to table) (map offered.offered_by offers.now)) }
 {
-    let mut items = List::new(alloc);
+    let mut items = List::with_room(alloc, offers.len())?;
     for offer in offers {
         let refs = copy_refs(alloc, offer.refs)?;
         items.push(Delivery {

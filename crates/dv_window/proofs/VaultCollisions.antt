@@ -1,0 +1,254 @@
+-- A table of a vault whose lists clash is the hub or the link in which windows collide, and without a clash they don't.
+use Rattle.std.proofs.Common.{◌≡◌, ℕ, ◌+◌, inl, inr, true, List, [], ◌∷◌, ◌++◌, Option, Some, None, refl, sym, ◌∙◌, ap, subst, append-nil, map, length, reverse}
+use Rattle.std.specs.Prelude.{All, Contains, is_none, nat_le}
+use Rattle.std.specs.List.{list_all, range_with_len}
+use Rattle.std.specs.Option.{option_map, option_or, option_to_list}
+use Rattle.std.proofs.lemmas.Bool.{and_parts}
+use Rattle.std.proofs.lemmas.List.{map-append, reverse-append, reverse-reverse}
+use Rattle.std.proofs.lemmas.List.Elements.{All-head, All-nil, All-cons, All-tail, Contains-append_cases, Contains-append_right}
+use Rattle.dv_text.specs.declared.rows.Window.{Window}
+use Rattle.dv_text.specs.Keys.{Hashes}
+use Rattle.dv_text.proofs.Members.{Contains-cons_cases, Contains-cons_here}
+use Rattle.dv_catalog.specs.declared.entries.FeedDef.{FeedDef}
+use Rattle.dv_catalog.specs.declared.entries.Parent.{Parent}
+use Rattle.dv_catalog.specs.declared.entries.Parent.TheVariants.{Hub, Link}
+use Rattle.dv_catalog.specs.declared.tables.TableId.{TableId}
+use Rattle.dv_catalog.specs.declared.tables.TableId.TheVariants as ids
+use Rattle.dv_catalog.specs.Entries.{Mapping}
+use Rattle.dv_catalog.specs.Mappings.{is_valid}
+use Rattle.dv_catalog.specs.Tables.{effect_tables, feed_tables, sat_tables, tables}
+use Rattle.dv_records.specs.declared.stores.TableRows.{TableRows}
+use Rattle.dv_records.specs.Collisions.{Collision, Pair, collision, collision_in, first_collision, parents}
+use Rattle.dv_records.specs.Deliveries.{table_of}
+use Rattle.dv_records.specs.Deltas.{Hashed, HasNoClash, IsLeastClash}
+use Rattle.dv_records.specs.HubNames.{HubName}
+use Rattle.dv_records.specs.States.{State, all_windows, are_dates_valid, are_windows_valid, ascends, is_window}
+use Rattle.dv_records.specs.Vault.{table_entry, vault}
+use Rattle.dv_records.specs.Weights.{vault_weight}
+use Rattle.dv_records.proofs.CollisionTies.{collision_free, none_collide}
+use Rattle.dv_records.proofs.Memberships.{map_member}
+use Rattle.dv_records.proofs.Reversing.{reverse_member}
+use Rattle.dv_records.proofs.ValidWindows.{hub_apart}
+use Rattle.dv_hub.proofs.WindowDeltas.{next_least as hub_least, next_none as hub_none}
+use Rattle.dv_link.specs.LinkDeltas.{TellLists}
+use Rattle.dv_link.proofs.WindowDeltas.{next_least as link_least, next_none as link_none}
+use Rattle.dv_window.specs.Offices.{Held, StandsFor}
+use Rattle.dv_window.specs.Plans.{AreApart, AreApartBy, IsFirstClash}
+use Rattle.dv_window.specs.Vaults.{hashed_in, hub_names}
+use Rattle.dv_window.proofs.NamedHubs.{hubs_named}
+use Rattle.dv_window.proofs.Passing.{all_pass, in_none, passes_at}
+
+-- windows with one more, the newest first and back again
+pub turned_back : (sealed : List Window) (window : Window) → reverse (window ∷ reverse sealed) ≡ sealed ++ window ∷ []
+turned_back sealed window =
+    let turned : reverse (sealed ++ window ∷ []) ≡ window ∷ reverse sealed = reverse-append sealed (window ∷ []) in
+    ap reverse (sym turned) ∙ reverse-reverse (sealed ++ window ∷ [])
+
+-- what an office stands for has valid windows
+pub windows_stand : (hashes : Hashes) (state : State) (held : Held) → StandsFor hashes state held → are_windows_valid held.mapping hashes state.sealed ≡ true
+windows_stand hashes state held stands =
+    let (windows, dates) = and_parts (are_windows_valid held.mapping hashes (all_windows state)) (are_dates_valid held.mapping hashes state) stands.valid in
+    ap (are_windows_valid held.mapping hashes) (sym (ap (λ begun. state.sealed ++ option_to_list begun) stands.none_open ∙ append-nil state.sealed)) ∙ windows
+
+-- ---- the hubs and the links come first among the tables
+
+hubs_first : (ns : List ℕ) → map table_of (map (λ n. Hub n) ns) ≡ map (λ n. ids.Hub n) ns
+hubs_first [] = refl
+hubs_first (n ∷ ns) = ap (λ rest. ids.Hub n ∷ rest) (hubs_first ns)
+
+links_next : (ns : List ℕ) → map table_of (map (λ n. Link n) ns) ≡ map (λ n. ids.Link n) ns
+links_next [] = refl
+links_next (n ∷ ns) = ap (λ rest. ids.Link n ∷ rest) (links_next ns)
+
+pub parents_first : (mapping : Mapping) → tables mapping ≡ map table_of (parents mapping) ++ feed_tables 0 mapping.feeds
+parents_first mapping =
+    let hubs = range_with_len 0 (length mapping.hubs) in
+    let links = range_with_len 0 (length mapping.links) in
+    ap (λ all. all ++ feed_tables 0 mapping.feeds)
+    (sym (map-append table_of (map (λ n. Hub n) hubs) (map (λ n. Link n) links) ∙ (λ i. hubs_first hubs i ++ links_next links i)))
+
+-- what valid windows keep to
+pub record SealedParts (mapping : Mapping) (hashes : Hashes) (sealed : List Window) : Type 0 where
+  pub ordered : ascends (map (λ window. window.load) sealed) ≡ true
+  pub whole : list_all (is_window mapping) sealed ≡ true
+  pub free : All (λ parent. collision_in mapping hashes sealed parent ≡ None) (parents mapping)
+
+pub sealed_parts : (mapping : Mapping) (hashes : Hashes) (sealed : List Window) → are_windows_valid mapping hashes sealed ≡ true → SealedParts mapping hashes sealed
+sealed_parts mapping hashes sealed valid =
+    let (e1, few) = and_parts _ (nat_le (length sealed) 10000) valid in
+    let (e2, light) = and_parts _ (nat_le (vault_weight mapping hashes sealed) 1073741824) e1 in
+    let (e3, apart) = and_parts _ (is_none (collision mapping hashes sealed)) e2 in
+    let (ordered, whole) = and_parts (ascends (map (λ window. window.load) sealed)) (list_all (is_window mapping) sealed) e3 in
+    record { ordered = ordered; whole = whole; free = (none_collide mapping hashes sealed).0 (by (collision mapping hashes sealed) apart) }
+  where
+    by : (found : Option Collision) → is_none found ≡ true → found ≡ None
+    by None e = refl
+    by (Some found) e = cc
+
+same_head : {X : Type 0} (x y : X) (xs ys : List X) → x ∷ xs ≡ y ∷ ys → x ≡ y
+same_head x y xs ys e = cc
+
+same_tail : {X : Type 0} (x y : X) (xs ys : List X) → x ∷ xs ≡ y ∷ ys → xs ≡ ys
+same_tail x y xs ys e = cc
+
+module _ (mapping : Mapping) (hashes : Hashes) (sealed : List Window) (window : Window) where
+  -- a table of the vault
+  abbrev entry_at : TableId → TableRows
+  entry_at = table_entry mapping hashes (reverse sealed)
+
+  abbrev names : List HubName
+  names = hub_names mapping (vault mapping hashes sealed)
+
+  -- what must have hash keys of its own there
+  abbrev lists_in : TableRows → List Hashed
+  lists_in entry = hashed_in mapping hashes names window entry
+
+  -- ---- tables of feeds have nothing that clashes
+
+  bare_sat : (n : ℕ) (sub attrs : List (List ℕ)) (id : TableId) → Contains (sat_tables n sub attrs) id → lists_in (entry_at id) ≡ []
+  bare_sat n sub [] id has = absurd (in_none has)
+  bare_sat n [] (a ∷ attrs) id has =
+      elim (Contains-cons_cases (ids.Sat n) [] id has) [ inl same ↦ ap (λ (id : TableId). lists_in (entry_at id)) (sym same) | inr none ↦ absurd (in_none none) ]
+  bare_sat n (s ∷ sub) (a ∷ attrs) id has =
+      elim (Contains-cons_cases (ids.Multi n) [] id has) [ inl same ↦ ap (λ (id : TableId). lists_in (entry_at id)) (sym same) | inr none ↦ absurd (in_none none) ]
+
+  bare_effect : (n : ℕ) (driver : List ℕ) (id : TableId) → Contains (effect_tables n driver) id → lists_in (entry_at id) ≡ []
+  bare_effect n [] id has = absurd (in_none has)
+  bare_effect n (d ∷ driver) id has =
+      elim (Contains-cons_cases (ids.Effect n) [] id has) [ inl same ↦ ap (λ (id : TableId). lists_in (entry_at id)) (sym same) | inr none ↦ absurd (in_none none) ]
+
+  bare_feeds : (n : ℕ) (feeds : List FeedDef) (id : TableId) → Contains (feed_tables n feeds) id → lists_in (entry_at id) ≡ []
+  bare_feeds n [] id has = absurd (in_none has)
+  bare_feeds n (feed ∷ feeds) id has =
+      elim (Contains-append_cases (sat_tables n feed.sub feed.attrs ++ ids.Status n ∷ effect_tables n feed.driver) (feed_tables (n + 1) feeds) id has) [
+        | inl here ↦
+            elim (Contains-append_cases (sat_tables n feed.sub feed.attrs) (ids.Status n ∷ effect_tables n feed.driver) id here) [
+              | inl sat ↦ bare_sat n feed.sub feed.attrs id sat
+              | inr more ↦
+                  elim (Contains-cons_cases (ids.Status n) (effect_tables n feed.driver) id more) [
+                    | inl same ↦ ap (λ (id : TableId). lists_in (entry_at id)) (sym same)
+                    | inr effect ↦ bare_effect n feed.driver id effect
+                  ]
+            ]
+        | inr rest ↦ bare_feeds (n + 1) feeds id rest
+      ]
+
+  -- the tables of the vault: those of the hubs and the links, and those of the feeds
+  split_vault : vault mapping hashes sealed ≡ map (λ parent. entry_at (table_of parent)) (parents mapping) ++ map entry_at (feed_tables 0 mapping.feeds)
+  split_vault = ap (map entry_at) (parents_first mapping) ∙ map-append entry_at (map table_of (parents mapping)) (feed_tables 0 mapping.feeds) ∙ ap (λ all. all ++ map entry_at (feed_tables 0 mapping.feeds)) (twice (parents mapping))
+    where
+      twice : (all : List Parent) → map entry_at (map table_of all) ≡ map (λ parent. entry_at (table_of parent)) all
+      twice [] = refl
+      twice (parent ∷ all) = ap (λ rest. entry_at (table_of parent) ∷ rest) (twice all)
+
+  bare_rest : (entry : TableRows) → Contains (map entry_at (feed_tables 0 mapping.feeds)) entry → lists_in entry ≡ []
+  bare_rest entry has =
+      let (id, member, is) = map_member entry_at (feed_tables 0 mapping.feeds) entry has in
+      ap lists_in (sym is) ∙ bare_feeds 0 mapping.feeds id member
+
+  module _ (valid : is_valid mapping ≡ true) (windows_valid : are_windows_valid mapping hashes sealed ≡ true) where
+    -- the names tell the lists of the sealed windows
+    pub sealed_told : TellLists mapping hashes (hub_names mapping (vault mapping hashes sealed)) (reverse sealed)
+    sealed_told = record {
+      named = reverse sealed;
+      among = λ window has. has;
+      are = record {
+        of_rows = hubs_named mapping hashes sealed;
+        apart = λ hub under.
+            ap (λ windows. collision_in mapping hashes windows (Hub hub)) (reverse-reverse sealed)
+            ∙ (collision_free mapping hashes sealed (Hub hub)).1 (hub_apart mapping hashes sealed windows_valid hub under);
+      };
+      valid = valid;
+      whole = all_pass (is_window mapping) (reverse sealed)
+          (λ window has. passes_at (is_window mapping) sealed window (sealed_parts mapping hashes sealed windows_valid).whole ((reverse_member sealed window).0 has));
+    }
+
+    -- ---- a hub or a link
+
+    pub unturned : (parent : Parent) → collision_in mapping hashes sealed parent ≡ None → collision_in mapping hashes (reverse (reverse sealed)) parent ≡ None
+    unturned parent free = ap (λ windows. collision_in mapping hashes windows parent) (reverse-reverse sealed) ∙ free
+
+    none_at : (parent : Parent) → collision_in mapping hashes sealed parent ≡ None → HasNoClash (lists_in (entry_at (table_of parent))) → collision_in mapping hashes (sealed ++ window ∷ []) parent ≡ None
+    none_at (Hub hub) free none =
+        ap (λ windows. collision_in mapping hashes windows (Hub hub)) (sym (turned_back sealed window))
+        ∙ hub_none mapping hashes hub (reverse sealed) window (unturned (Hub hub) free) none
+    none_at (Link link) free none =
+        ap (λ windows. collision_in mapping hashes windows (Link link)) (sym (turned_back sealed window))
+        ∙ link_none mapping hashes link names (reverse sealed) window sealed_told (unturned (Link link) free) none
+
+    least_at : (parent : Parent) → collision_in mapping hashes sealed parent ≡ None → (pair : Pair) → IsLeastClash (lists_in (entry_at (table_of parent))) pair
+        → collision_in mapping hashes (sealed ++ window ∷ []) parent ≡ Some pair
+    least_at (Hub hub) free pair least =
+        ap (λ windows. collision_in mapping hashes windows (Hub hub)) (sym (turned_back sealed window))
+        ∙ hub_least mapping hashes hub (reverse sealed) window (unturned (Hub hub) free) pair least
+    least_at (Link link) free pair least =
+        ap (λ windows. collision_in mapping hashes windows (Link link)) (sym (turned_back sealed window))
+        ∙ link_least mapping hashes link names (reverse sealed) window sealed_told (unturned (Link link) free) pair least
+
+    -- ---- all of them
+
+    abbrev IsFree : Parent → Type 0
+    IsFree parent = collision_in mapping hashes sealed parent ≡ None
+
+    abbrev HasClear : TableRows → Type 0
+    HasClear entry = HasNoClash (lists_in entry)
+
+    abbrev StaysFree : Parent → Type 0
+    StaysFree parent = collision_in mapping hashes (sealed ++ window ∷ []) parent ≡ None
+
+    all_free : (all : List Parent) (rest : List TableRows) → All IsFree all → All HasClear (map (λ parent. entry_at (table_of parent)) all ++ rest) → All StaysFree all
+    all_free [] rest free clear = All-nil StaysFree
+    all_free (parent ∷ all) rest free clear =
+        let behind = map (λ parent. entry_at (table_of parent)) all ++ rest in
+        All-cons StaysFree parent all
+        (none_at parent (All-head IsFree parent all free) (All-head HasClear (entry_at (table_of parent)) behind clear))
+        (all_free all rest (All-tail IsFree parent all free) (All-tail HasClear (entry_at (table_of parent)) behind clear))
+
+    pub stay_free : AreApartBy mapping hashes (hub_names mapping (vault mapping hashes sealed)) window (vault mapping hashes sealed) → All (λ parent. collision_in mapping hashes (sealed ++ window ∷ []) parent ≡ None) (parents mapping)
+    stay_free apart =
+        all_free (parents mapping) (map entry_at (feed_tables 0 mapping.feeds)) (sealed_parts mapping hashes sealed windows_valid).free (subst (All HasClear) split_vault apart)
+
+    -- the first one with a clash
+    first_is : (all : List Parent) → All IsFree all → (rest : List TableRows) → ((entry : TableRows) → Contains rest entry → lists_in entry ≡ [])
+        → (before : List TableRows) (entry : TableRows) (behind : List TableRows) → map (λ parent. entry_at (table_of parent)) all ++ rest ≡ before ++ entry ∷ behind
+        → All HasClear before → (pair : Pair) → IsLeastClash (lists_in entry) pair
+        → first_collision mapping hashes (sealed ++ window ∷ []) all ≡ Some (record { table = entry.table; pair = pair })
+    first_is [] free rest bare before entry behind split clear pair least =
+        let within : Contains rest entry = subst (λ (all : List TableRows). Contains all entry) (sym split) (Contains-append_right before (entry ∷ behind) entry (Contains-cons_here entry behind)) in
+        let nothing : Contains [] (record { digest = least.is.digest; refs = pair.first }) = subst (λ (all : List Hashed). Contains all (record { digest = least.is.digest; refs = pair.first })) (bare entry within) least.is.has_first in
+        absurd (in_none nothing)
+    first_is (parent ∷ all) free rest bare [] entry behind split clear pair least =
+        let others = map (λ parent. entry_at (table_of parent)) all ++ rest in
+        let same : entry_at (table_of parent) ≡ entry = same_head (entry_at (table_of parent)) entry others behind split in
+        let here = least_at parent (All-head IsFree parent all free) pair (subst (λ (entry : TableRows). IsLeastClash (lists_in entry) pair) (sym same) least) in
+        ap (λ (found : Option Pair). option_or (option_map (λ (pair : Pair). record { table = table_of parent; pair = pair }) found) (first_collision mapping hashes (sealed ++ window ∷ []) all)) here
+        ∙ ap (λ (entry : TableRows). Some (record { table = entry.table; pair = pair })) same
+    first_is (parent ∷ all) free rest bare (first ∷ before) entry behind split clear pair least =
+        let others = map (λ parent. entry_at (table_of parent)) all ++ rest in
+        let same : entry_at (table_of parent) ≡ first = same_head (entry_at (table_of parent)) first others (before ++ entry ∷ behind) split in
+        let none = none_at parent (All-head IsFree parent all free) (subst HasClear (sym same) (All-head HasClear first before clear)) in
+        ap (λ (found : Option Pair). option_or (option_map (λ (pair : Pair). record { table = table_of parent; pair = pair }) found) (first_collision mapping hashes (sealed ++ window ∷ []) all)) none
+        ∙ first_is all (All-tail IsFree parent all free) rest bare before entry behind (same_tail (entry_at (table_of parent)) first others (before ++ entry ∷ behind) split) (All-tail HasClear first before clear) pair least
+
+    pub first_clash : (table : TableId) (pair : Pair) → IsFirstClash mapping hashes (hub_names mapping (vault mapping hashes sealed)) window (vault mapping hashes sealed) table pair
+        → collision mapping hashes (sealed ++ window ∷ []) ≡ Some (record { table = table; pair = pair })
+    first_clash table pair clash =
+        first_is (parents mapping) (sealed_parts mapping hashes sealed windows_valid).free (map entry_at (feed_tables 0 mapping.feeds)) bare_rest clash.before clash.entry clash.behind (sym split_vault ∙ clash.split) clash.none_before pair clash.is
+        ∙ ap (λ (table : TableId). Some (record { table = table; pair = pair })) clash.is_table
+
+-- ---- an office
+
+module _ (hashes : Hashes) (state : State) (held : Held) (stands : StandsFor hashes state held) (valid : is_valid held.mapping ≡ true) (window : Window) where
+  -- where no table has a clash, the sealed windows and the new one don't collide
+  pub apart_is_free : AreApart hashes held window held.tables → collision held.mapping hashes (state.sealed ++ window ∷ []) ≡ None
+  apart_is_free apart =
+      (none_collide held.mapping hashes (state.sealed ++ window ∷ [])).1
+      (stay_free held.mapping hashes state.sealed window valid (windows_stand hashes state held stands)
+      (subst (λ (tables : List TableRows). AreApartBy held.mapping hashes (hub_names held.mapping tables) window tables) stands.tables_are apart))
+
+  -- and the first table with a clash is the first that collides, in the least pair there
+  pub clash_collides : (table : TableId) (pair : Pair) → IsFirstClash held.mapping hashes (hub_names held.mapping held.tables) window held.tables table pair
+      → collision held.mapping hashes (state.sealed ++ window ∷ []) ≡ Some (record { table = table; pair = pair })
+  clash_collides table pair clash =
+      first_clash held.mapping hashes state.sealed window valid (windows_stand hashes state held stands) table pair
+      (subst (λ (tables : List TableRows). IsFirstClash held.mapping hashes (hub_names held.mapping tables) window tables table pair) stands.tables_are clash)

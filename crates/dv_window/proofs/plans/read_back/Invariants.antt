@@ -1,0 +1,9 @@
+use Rattle.std.proofs.Common.{◌≡◌, map, take}
+use Rattle.dv_records.specs.ReadBack.{content_read}
+use Rattle.dv_window.proofs.plans.read_back.Given as goal
+
+-- the feeds so far are read back
+abbrev pub invariant-loop-feed : goal.invariant-loop-feed
+invariant-loop-feed l =
+    l.extracts
+    ≡ map (λ feed. record { feed = feed; rows = content_read l.office.mapping l.office.tables feed l.head.load }) (take l.feed-index l.feed-items)
