@@ -1,10 +1,23 @@
 //! Marts and their texts: what is asked for, the rules of queries, and the CSV of each mart and table.
 #![tactic(auto)]
 
+mod csv_texts;
+mod feed_texts;
+mod fields;
+mod marts;
 mod query_rules;
+mod raw_records;
+mod recorded;
+mod table_texts;
 mod whats;
 
+pub use feed_texts::feed_text;
+pub use marts::{feed_mart, mart_text};
 pub use query_rules::QueryRule;
+pub use table_texts::{
+    effect_table_text, hub_table_text, link_table_text, multi_table_text, sat_table_text,
+    status_table_text,
+};
 pub use whats::What;
 
 #[cfg(test)]

@@ -1,7 +1,10 @@
 use crate::{QueryRule, What};
-use dv_catalog::Catalog;
+use dv_catalog::{Catalog, TableId};
 use dv_text::{Stamp, Text};
 use std::test::Fail;
+
+mod marts;
+mod texts;
 
 const MAPPING: &[u8] =
     b"[[hub]]\nname = \"customer\"\nparts = 1\n\n[[feed]]\nname = \"customers\"\nsource = \"crm\"\nhub = \"customer\"\nkeys = [[\"CUST_NO\"]]\n\n[[feed]]\nname = \"accounts\"\nsource = \"shop\"\nhub = \"customer\"\nkeys = [[\"ACCOUNT\"]]\n";
@@ -52,7 +55,7 @@ fn rules_are_printed_with_their_fields(rt: HostRuntime) -> Result<(), Fail> {
 }
 
 #[test]
-fn words_name_the_marts_of_feeds(rt: HostRuntime) -> Result<(), Fail> {
+fn words_name_the_marts_of_feeds_and_the_raw_tables(rt: HostRuntime) -> Result<(), Fail> {
     let alloc = rt.alloc();
     let catalog = Catalog::read(alloc, MAPPING).ok().ok_or("no mapping")?;
     for (word, expected) in [
@@ -62,6 +65,16 @@ fn words_name_the_marts_of_feeds(rt: HostRuntime) -> Result<(), Fail> {
         ("feed:Customers", None),
         ("customers", None),
         ("feed", None),
+        ("table:hub_customer", Some(What::Table(TableId::Hub(0)))),
+        (
+            "table:status_accounts",
+            Some(What::Table(TableId::Status(1))),
+        ),
+        ("table:sat_customers", None),
+        ("table:customers", None),
+        ("table:", None),
+        ("hub:customer", None),
+        ("pit:customer", None),
     ] {
         let word = Text::of(alloc, word.as_bytes())?;
         assert_eq!(rt; What::read(alloc, &catalog, &word)?, expected);

@@ -32,19 +32,43 @@ fn behind<'a>(kind: &[u8], word: &'a [u8]) -> Option<&'a [u8]>
     word.strip_prefix(kind)
 }
 
+// The feed's mart that a word names.
+fn feed_word(alloc: Global, catalog: &Catalog, word: &Text) -> Result<Option<What>, Memory>
+    ensures { IfOk result (λ what. what ≡ spec.feed_word catalog.now word.now) }
+{
+    let Some(rest) = behind(b"feed:", word.bytes()) else {
+        return Ok(None);
+    };
+    let name = Text::of(alloc, rest)?;
+    match catalog.find_feed(&name) {
+        Some(feed) => Ok(Some(What::Feed(feed))),
+        None => Ok(None),
+    }
+}
+
+// The raw table that a word names.
+fn table_word(alloc: Global, catalog: &Catalog, word: &Text) -> Result<Option<What>, Memory>
+    ensures { IfOk result (λ what. what ≡ spec.table_word catalog.now word.now) }
+{
+    let Some(rest) = behind(b"table:", word.bytes()) else {
+        return Ok(None);
+    };
+    let name = Text::of(alloc, rest)?;
+    match catalog.find_table(alloc, &name)? {
+        Some(table) => Ok(Some(What::Table(table))),
+        None => Ok(None),
+    }
+}
+
 impl What {
-    /// What a word names; none where it names no mart that is offered. In this stage the marts of feeds
-    /// are offered, as `feed:F`.
+    /// What a word names; none where it names nothing that is offered. In this stage the marts of feeds are
+    /// offered, as `feed:F`, and the raw tables, as `table:T`.
     pub fn read(alloc: Global, catalog: &Catalog, word: &Text) -> Result<Option<What>, Memory>
         ensures { IfOk result (λ what. what ≡ spec.offered_what catalog.now word.now) }
     {
-        let Some(rest) = behind(b"feed:", word.bytes()) else {
-            return Ok(None);
-        };
-        let name = Text::of(alloc, rest)?;
-        match catalog.find_feed(&name) {
-            Some(feed) => Ok(Some(What::Feed(feed))),
-            None => Ok(None),
+        match feed_word(alloc, catalog, word)? {
+            Some(what) => Ok(Some(what)),
+            None => table_word(alloc, catalog, word),
         }
     }
 }

@@ -1,7 +1,7 @@
 use Rattle.std.proofs.Common.{◌∙◌, ap, codes}
 use Rattle.dv_mart.specs.Whats.{behind}
 use Rattle.dv_mart.proofs.NoFeeds.{no_feed}
-use Rattle.dv_mart.proofs.whats.What.read.Goals as goal
+use Rattle.dv_mart.proofs.whats.feed_word.Goals as goal
 
 pub returns : goal.returns
 returns c =

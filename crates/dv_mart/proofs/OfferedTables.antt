@@ -1,0 +1,71 @@
+-- What an offered word can name: a feed of the mapping, or one of its tables.
+use Rattle.std.proofs.Common.{◌≡◌, ℕ, ◌<◌, Bool, true, false, List, [], ◌∷◌, Option, Some, None, refl, sym, ◌∙◌, ap, subst, arith, codes, length, nat_lt}
+use Rattle.std.specs.Prelude.{Contains, cond, option_and_then, option_map}
+use Rattle.std.specs.List.{list_all, position_or_len}
+use Rattle.std.specs.Str.{bytes_eq}
+use Rattle.std.proofs.lemmas.Bool.Decides.{nat_tests}
+use Rattle.dv_catalog.specs.declared.tables.TableId.{TableId}
+use Rattle.dv_catalog.specs.Built.{unbuilt}
+use Rattle.dv_catalog.specs.Entries.{Mapping}
+use Rattle.dv_catalog.specs.FirstOf.{first_of}
+use Rattle.dv_catalog.specs.Tables.{table_name, tables}
+use Rattle.dv_records.proofs.Memberships.{found_member}
+use Rattle.dv_window.proofs.Passing.{passes_at}
+use Rattle.dv_window.specs.Vaults.{is_kept}
+use Rattle.dv_window.proofs.BuiltTables.{tables_kept}
+use Rattle.dv_mart.specs.declared.whats.What.{What}
+use Rattle.dv_mart.specs.declared.whats.What.TheVariants.{Feed, Table}
+use Rattle.dv_mart.specs.OfferedMarts.{IsOffered}
+use Rattle.dv_mart.specs.Whats.{behind, feed_place, feed_word, table_named, table_word}
+
+abbrev pub CanBe : Mapping → What → Type 0
+CanBe mapping (Feed feed) = feed < length mapping.feeds
+CanBe mapping (Table table) = Contains (tables mapping) table
+CanBe mapping what = ⊥
+
+found_under : (n i count : ℕ) → cond (nat_lt n count) (Some n) None ≡ Some i → i < count
+found_under n i count e = by (nat_lt n count) refl e
+  where
+    by : (b : Bool) → nat_lt n count ≡ b → cond b (Some n) None ≡ Some i → i < count
+    by true under is =
+        let got : Some n ≡ Some i = is in
+        let same : n ≡ i = cc in
+        grind (arith, nat_tests, under, same)
+    by false under is = let no : None ≡ Some i = is in cc
+
+feed_named : (mapping : Mapping) (rest : Option (List ℕ)) (what : What) → option_map (λ feed. Feed feed) (option_and_then (feed_place mapping) rest) ≡ Some what → CanBe mapping what
+feed_named mapping None what e = let no : None ≡ Some what = e in cc
+feed_named mapping (Some name) what e = by (feed_place mapping name) refl e
+  where
+    by : (place : Option ℕ) → feed_place mapping name ≡ place → option_map (λ feed. Feed feed) place ≡ Some what → CanBe mapping what
+    by None at is = let no : None ≡ Some what = is in cc
+    by (Some feed) at is =
+        let got : Some (Feed feed) ≡ Some what = is in
+        let same : Feed feed ≡ what = cc in
+        subst (CanBe mapping) same (found_under (position_or_len (λ feed. bytes_eq feed.name name) mapping.feeds) feed (length mapping.feeds) at)
+
+table_found : (mapping : Mapping) (rest : Option (List ℕ)) (what : What) → option_map (λ table. Table table) (option_and_then (table_named mapping) rest) ≡ Some what → CanBe mapping what
+table_found mapping None what e = let no : None ≡ Some what = e in cc
+table_found mapping (Some name) what e = by (table_named mapping name) refl e
+  where
+    by : (found : Option TableId) → table_named mapping name ≡ found → option_map (λ table. Table table) found ≡ Some what → CanBe mapping what
+    by None at is = let no : None ≡ Some what = is in cc
+    by (Some table) at is =
+        let got : Some (Table table) ≡ Some what = is in
+        let same : Table table ≡ what = cc in
+        subst (CanBe mapping) same (found_member (λ table. bytes_eq (table_name mapping table) name) (tables mapping) table at).0
+
+only_one : {X : Type 0} (o : Option X) (x : X) → first_of (o ∷ []) ≡ Some x → o ≡ Some x
+only_one None x e = e
+only_one (Some y) x e = e
+
+pub can_be : (mapping : Mapping) (what : What) → IsOffered mapping what → CanBe mapping what
+can_be mapping what offered = by (feed_word mapping offered.word) refl offered.offered
+  where
+    by : (fed : Option What) → feed_word mapping offered.word ≡ fed → first_of (fed ∷ table_word mapping offered.word ∷ []) ≡ Some what → CanBe mapping what
+    by (Some named) at is = feed_named mapping (behind (codes "feed:") offered.word) what (at ∙ is)
+    by None at is = table_found mapping (behind (codes "table:") offered.word) what (only_one (table_word mapping offered.word) what is)
+
+-- a table of a mapping in which every form is built is kept
+pub named_kept : (mapping : Mapping) (table : TableId) → unbuilt mapping ≡ None → Contains (tables mapping) table → is_kept table ≡ true
+named_kept mapping table built has = passes_at is_kept (tables mapping) table (tables_kept mapping built) has

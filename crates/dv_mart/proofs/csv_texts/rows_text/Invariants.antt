@@ -1,0 +1,10 @@
+use Rattle.std.proofs.Common.{◌≡◌, ◌∷◌, map, take, Some, false}
+use Rattle.csv.specs.Writing.{fields_written, has_written, text_written, writer_setup}
+use Rattle.dv_mart.specs.Texts.{csv_text}
+use Rattle.dv_mart.specs.Writers.{row_writer}
+use Rattle.dv_mart.proofs.csv_texts.rows_text.Given as goal
+
+abbrev pub invariant-loop-row : goal.invariant-loop-row
+invariant-loop-row g l =
+    (text_written (λ w. Some w.items) l.writer ≡ Some (csv_text (l.fn.header ∷ map g.R.Recorded.record_of (take l.row-index l.rows))))
+    × (writer_setup l.writer ≡ row_writer) × (fields_written l.writer ≡ 0) × (has_written l.writer ≡ false)

@@ -1,0 +1,6 @@
+use Rattle.std.proofs.Common.{◌≡◌, ◌++◌, take}
+use Rattle.std.specs.Prelude.{flat_map}
+use Rattle.dv_mart.proofs.fields.Fields.push_columns.Given as goal
+
+abbrev pub invariant-loop-columns : goal.invariant-loop-columns
+invariant-loop-columns l = l.self ≡ l.initial.self ++ flat_map (λ columns. columns) (take l.columns-index l.keys)

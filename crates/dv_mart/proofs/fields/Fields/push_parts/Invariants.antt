@@ -1,0 +1,6 @@
+use Rattle.std.proofs.Common.{◌≡◌, ◌++◌, take}
+use Rattle.dv_mart.specs.Texts.{all_parts}
+use Rattle.dv_mart.proofs.fields.Fields.push_parts.Given as goal
+
+abbrev pub invariant-loop-key : goal.invariant-loop-key
+invariant-loop-key l = l.self ≡ l.initial.self ++ all_parts (take l.key-index l.refs)

@@ -1,0 +1,8 @@
+use Rattle.std.proofs.Common.{◌≡◌, ◌++◌, codes, map}
+use Rattle.std.specs.Fmt.{decimal}
+use Rattle.std.specs.List.{range_with_len}
+use Rattle.dv_mart.specs.Texts.{raw_header}
+use Rattle.dv_mart.proofs.table_texts.hub_header.Given as goal
+
+abbrev pub invariant-loop-n : goal.invariant-loop-n
+invariant-loop-n l = l.header ≡ raw_header (map (λ n. codes "part_" ++ decimal n) (range_with_len 1 l.n))

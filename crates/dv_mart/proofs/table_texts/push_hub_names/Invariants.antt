@@ -1,0 +1,7 @@
+use Rattle.std.proofs.Common.{◌≡◌, ◌++◌, map, take}
+use Rattle.std.specs.Prelude.{slice_get}
+use Rattle.dv_catalog.specs.Tables.{hub_name}
+use Rattle.dv_mart.proofs.table_texts.push_hub_names.Given as goal
+
+abbrev pub invariant-loop-hub : goal.invariant-loop-hub
+invariant-loop-hub l = l.header ≡ l.initial.header ++ map (λ hub. hub_name (slice_get l.catalog.hubs hub)) (take l.hub-index l.hubs)
