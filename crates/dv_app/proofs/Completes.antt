@@ -1,5 +1,5 @@
 -- With no fault and memory enough, a command does all that the definitions say.
-use Rattle.std.proofs.Common.{◌≡◌, ◌⊎◌, ℕ, List, [], ◌∷◌, Option, inl, inr, refl, sym, subst, ⊎_elim}
+use Rattle.std.proofs.Common.{◌≡◌, ◌⊎◌, ℕ, List, Option, inl, inr, refl, sym, subst, ⊎_elim}
 use Rattle.dv_text.specs.Causes.{Rose}
 use Rattle.dv_text.specs.Keys.{Hashes}
 use Rattle.dv_text.specs.Told.{Told}
@@ -7,7 +7,7 @@ use Rattle.dv_outside.specs.declared.folders.NamedFile.{NamedFile}
 use Rattle.dv_outside.specs.declared.statuses.Status.{Status}
 use Rattle.dv_outside.specs.declared.statuses.Status.TheVariants.{Done, Refused, Usage, Mapping as Mapped, ReadFault, KeeperFault, WriteFault, Memory, Damaged}
 use Rattle.dv_app.specs.declared.words.Asked.{Asked}
-use Rattle.dv_app.specs.Firsts.{trial_of}
+use Rattle.dv_app.specs.Loadings.{trial_of}
 use Rattle.dv_app.specs.Run.{CommandCompletes, NoFault, RunCompletes}
 use Rattle.dv_app.specs.Says.{Gives, Heard, Trial, TrySays, tried_of}
 use Rattle.dv_app.specs.Words.{Tries, asked}
@@ -27,7 +27,7 @@ try_completes t before now heard Damaged none no_fault memory write = absurd non
 
 -- where `try` was asked for
 pub run_completes : (words : List (List ℕ)) (hashes : Hashes) (told : Option (List NamedFile)) (a : Asked) (before now out_before out err_before err : ℕ) (heard : Heard) (result : Status)
-    → asked words ≡ Tries a.what.now a.date.now (a.manifest.now ∷ [])
+    → asked words ≡ Tries a.what.now a.date.now a.manifests.now
     → Told told (λ files. TrySays (trial_of hashes files a) before now heard result)
     → (result ≡ WriteFault → Rose out_before out ⊎ Rose err_before err)
     → NoFault before now → NoFault out_before out → NoFault err_before err → (result ≡ Memory → ⊥)

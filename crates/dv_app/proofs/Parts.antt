@@ -1,5 +1,5 @@
 -- How the parts of `try` are parts of what it says.
-use Rattle.std.proofs.Common.{◌≡◌, ℕ, ◌≤◌, List, [], ◌∷◌, ◌++◌, Option, Some, None, Result, Ok, Err, inl, inr, refl, sym, ◌∙◌, ap, subst, arith, ⊎_elim, slice_get}
+use Rattle.std.proofs.Common.{◌≡◌, ℕ, ◌≤◌, List, [], ◌++◌, Option, Some, None, Result, Ok, Err, inl, inr, refl, sym, ◌∙◌, ap, subst, arith, ⊎_elim}
 use Rattle.std.proofs.lemmas.List.{append-nil}
 use Rattle.dv_text.specs.Keys.{Hashes}
 use Rattle.dv_text.specs.Stamps.{stamp_of}
@@ -14,8 +14,8 @@ use Rattle.dv_outside.specs.Ends.{Ends, Stops}
 use Rattle.dv_outside.specs.declared.statuses.Status.{Status}
 use Rattle.dv_outside.specs.declared.statuses.Status.TheVariants.{Done, Refused, Usage, Mapping as Mapped, ReadFault, KeeperFault, WriteFault, Memory, Damaged}
 use Rattle.dv_app.specs.declared.lines.TheConstants.{MEMORY, MAPPING_NAME}
-use Rattle.dv_app.specs.declared.takings.Loaded.{Loaded}
-use Rattle.dv_app.specs.Firsts.{FinishSays, LoadStops, Loads, Reached, after_first, end_of}
+use Rattle.dv_app.specs.declared.takings.Loading.{Loading}
+use Rattle.dv_app.specs.Loadings.{Begins, FinishSays, LoadsAll, LoadStops, Reached, after_some, end_of}
 use Rattle.dv_app.specs.Given.{read_fault_line}
 use Rattle.dv_app.specs.Parts.{DateStops, MappingStops, WhatStops}
 use Rattle.dv_app.specs.Says.{Gives, Heard, IsEnded, Trial, TrySays, lines_before, lines_with, tried_of}
@@ -85,50 +85,45 @@ module _ (t : Trial) where
         the_run : tried_of t ≡ tried_from mapping t.hashes t.files what at start t.names
         the_run = ap with_mapping is ∙ ap with_what offered ∙ ap with_date dated
 
-        lines_are : (k : ℕ) (text : List ℕ) → lines_of mapping t.hashes t.files t.names k ++ text ≡ lines_before t k ++ text
-        lines_are k text = ap (λ m. lines_with t k m ++ text) (sym is)
+        -- what is asked for is in order
+        pub begins : Begins t mapping what at
+        begins = record { tried_is = the_run; lines_are = λ k. ap (lines_with t k) is }
 
-        module _ (name : List ℕ) (one : t.names ≡ name ∷ []) where
-          run_of_one : tried_of t ≡ tried_from mapping t.hashes t.files what at start (name ∷ [])
-          run_of_one = the_run ∙ ap (tried_from mapping t.hashes t.files what at start) one
+module _ (t : Trial) (mapping : Mapping) (what : What) (at : ℕ) (begins : Begins t mapping what at) where
+  -- the manifests are not taken
+  pub load_ends : (before then now : ℕ) → before ≤ then → (status : Status) (text : List ℕ) → LoadStops mapping t.hashes t.files t.names then now status text → IsEnded t before now status text
+  load_ends before then now le ReadFault text (inl is_end) = inl (begins.tried_is ∙ is_end what at)
+  load_ends before then now le ReadFault text (inr failed) = inr (
+    (
+      failed.0,
+      failed.1,
+      inr (⊎_elim
+          (λ itself. inl (failed.2.1 ∙ ap Some (sym itself)))
+          (λ (named : _). inr (failed.2.0, named.0, failed.2.1, named.1, named.2))
+          failed.2.2),
+      failed.3 ∙ ap (λ l. l ++ read_fault_line failed.1) (sym (begins.lines_are failed.0)),
+    ),
+    omega (arith, le, failed.4),
+  )
+  load_ends before then now le Memory text memory = (memory.0, memory.1 ∙ ap (λ l. l ++ MEMORY.now) (sym (begins.lines_are memory.0)))
+  load_ends before then now le Done text none = absurd none
+  load_ends before then now le Refused text none = absurd none
+  load_ends before then now le Usage text none = absurd none
+  load_ends before then now le Mapped text none = absurd none
+  load_ends before then now le KeeperFault text none = absurd none
+  load_ends before then now le WriteFault text none = absurd none
+  load_ends before then now le Damaged text none = absurd none
 
-          lines_of_one : (k : ℕ) → lines_of mapping t.hashes t.files (name ∷ []) k ≡ lines_before t k
-          lines_of_one k = ap (λ names. lines_of mapping t.hashes t.files names k) (sym one) ∙ ap (λ m. lines_with t k m) (sym is)
-
-          -- the manifest is not taken
-          pub load_ends : (before then now : ℕ) → before ≤ then → (status : Status) (text : List ℕ) → LoadStops mapping t.hashes t.files name then now status text → IsEnded t before now status text
-          load_ends before then now le ReadFault text (inl is_end) = inl (run_of_one ∙ is_end what at)
-          load_ends before then now le ReadFault text (inr failed) = inr (
-            (
-              0,
-              failed.0,
-              inr (⊎_elim
-                  (λ itself. inl (ap (λ names. slice_get names 0) one ∙ ap Some (sym itself)))
-                  (λ (named : _). inr (name, named.0, ap (λ names. slice_get names 0) one, named.1, named.2))
-                  failed.1),
-              failed.2 ∙ behind_none (read_fault_line failed.0),
-            ),
-            omega (arith, le, failed.3),
-          )
-          load_ends before then now le Memory text memory = (memory.0, memory.1 ∙ ap (λ l. l ++ MEMORY.now) (lines_of_one memory.0))
-          load_ends before then now le Done text none = absurd none
-          load_ends before then now le Refused text none = absurd none
-          load_ends before then now le Usage text none = absurd none
-          load_ends before then now le Mapped text none = absurd none
-          load_ends before then now le KeeperFault text none = absurd none
-          load_ends before then now le WriteFault text none = absurd none
-          load_ends before then now le Damaged text none = absurd none
-
-          -- the manifest was taken
-          pub reached : (loaded : Loaded) (said mid says : Option (List ℕ)) → mid ≡ said → Loads mapping t.hashes t.files name loaded mid says → Reached t mapping what at loaded said says
-          reached loaded said mid says quiet loads = record {
-            progress = after_first mapping t.hashes t.files name;
-            loaded_is = loads.loaded_is;
-            count = 1;
-            lines_are = lines_of_one 1;
-            said_is = loads.said_is ∙ ap (λ o. after o (lines_of mapping t.hashes t.files (name ∷ []) 1)) quiet;
-            tried_is = run_of_one ∙ loads.goes what at;
-          }
+  -- they were taken
+  pub reached : (loading : Loading) (said mid says : Option (List ℕ)) → mid ≡ said → LoadsAll mapping t.hashes t.files t.names loading mid says → Reached t mapping what at loading said says
+  reached loading said mid says quiet loads = record {
+    progress = after_some mapping t.hashes t.files t.names loads.count;
+    loaded_is = loads.loaded_is;
+    count = loads.count;
+    lines_are = sym (begins.lines_are loads.count);
+    said_is = loads.said_is ∙ ap (λ o. after o (lines_of mapping t.hashes t.files t.names loads.count)) quiet;
+    tried_is = begins.tried_is ∙ loads.goes what at;
+  }
 
 -- what comes behind the lines, and the lines
 abbrev behind : List ℕ → Tried → Tried
@@ -139,7 +134,7 @@ at_end_is mapping hashes what date p =
     ap (λ l. record { out = mart_text mapping hashes p.state.sealed what date; err = l; status = (end_of mapping hashes what date p).status }) (sym (append-nil p.lines))
 
 module _ (t : Trial) (before now : ℕ) where
-  module _ (mapping : Mapping) (what : What) (date : ℕ) (loaded : Loaded) (out_old out err_old mid err : Option (List ℕ)) (reached : Reached t mapping what date loaded err_old mid) where
+  module _ (mapping : Mapping) (what : What) (date : ℕ) (loading : Loading) (out_old out err_old mid err : Option (List ℕ)) (reached : Reached t mapping what date loading err_old mid) where
     abbrev p : Progress
     p = reached.progress
 

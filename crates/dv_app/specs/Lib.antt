@@ -1,14 +1,8 @@
-pub mod FirstBatches
-pub mod FirstLoads
-pub mod FirstSteps
-pub mod Firsts
 pub mod Given
-pub mod HashedKeys
-pub mod HashedOrder
-pub mod KeptRows
+pub mod Loadings
 pub mod Parts
 pub mod Run
 pub mod Says
-pub mod Takings
 pub mod Tried
 pub mod Words
+pub mod WholeWindows

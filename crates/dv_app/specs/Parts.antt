@@ -16,9 +16,10 @@ use Rattle.dv_outside.specs.declared.statuses.Status.{Status}
 use Rattle.dv_outside.specs.declared.statuses.Status.TheVariants.{Mapping as Mapped, ReadFault, Refused, Memory}
 use Rattle.dv_app.specs.declared.lines.TheConstants.{MAPPING_NAME, MEMORY}
 use Rattle.dv_app.specs.declared.arrivals.Arrived.{Arrived}
+use Rattle.dv_app.specs.declared.arrivals.Reading.{Reading as ReadSoFar}
 use Rattle.dv_app.specs.declared.arrivals.Arrived.TheVariants as arrived
 use Rattle.dv_app.specs.Given.{absent_line, read_fault_line}
-use Rattle.dv_app.specs.Tried.{Arrival, Absent, Broken, Brought, not_taken, brought, mapping_at, query_line, refused_mapping_line}
+use Rattle.dv_app.specs.Tried.{Arrival, Absent, Broken, Brought, Reading, brought, extract_bytes, mapping_at, no_reading, query_line, read_from, refused_mapping_line}
 
 -- a mapping that is refused, or not read for want of memory
 abbrev pub MapErrorStops : MapError → Status → List ℕ → Type 0
@@ -53,14 +54,33 @@ DateStops date Memory text = text ≡ MEMORY.now
 DateStops date _ text = ⊥
 
 -- what a manifest brings, as the code has it
-abbrev pub IsArrival : Arrived → Arrival → Type 0
-IsArrival arrived.Broken arrival = arrival ≡ Broken not_taken
-IsArrival (arrived.Brought given) arrival = arrival ≡ Brought given
+abbrev pub arrival_of : Arrived → Arrival
+arrival_of (arrived.Broken rule) = Broken rule
+arrival_of (arrived.Brought given) = Brought given
 
 -- a file that a manifest of these bytes names
 abbrev pub IsFileOf : List ℕ → List ℕ → Type 0
 IsFileOf bytes file =
     (manifest : Manifest) × (extract : ManifestExtract) × (manifest_in bytes ≡ Ok manifest) × Contains manifest.extracts extract × (extract.file ≡ file)
+
+-- the reading of a manifest's extracts, as the code has it
+abbrev pub reading_of : ReadSoFar → Reading
+reading_of r = record { extracts = r.extracts; left = r.left; is_over = r.is_over }
+
+-- the reading of an extract's file
+abbrev pub ExtractStops : List NamedFile → Reading → List ℕ → ℕ → ℕ → Status → List ℕ → Type 0
+ExtractStops files r file before now ReadFault text =
+    ((extract_bytes files r file ≡ None) × (text ≡ absent_line file)) ⊎ ((text ≡ read_fault_line file) × Rose before now)
+ExtractStops files r file before now Memory text = text ≡ MEMORY.now
+ExtractStops files r file before now _ text = ⊥
+
+-- the reading of the files of extracts
+abbrev pub ExtractsStop : List NamedFile → List ManifestExtract → ℕ → ℕ → Status → List ℕ → Type 0
+ExtractsStop files extracts before now ReadFault text =
+    ((file : List ℕ) × (read_from files no_reading extracts ≡ Err file) × (text ≡ absent_line file))
+    ⊎ ((extract : ManifestExtract) × Contains extracts extract × (text ≡ read_fault_line extract.file) × Rose before now)
+ExtractsStop files extracts before now Memory text = text ≡ MEMORY.now
+ExtractsStop files extracts before now _ text = ⊥
 
 -- the reading of the files that a manifest names
 abbrev pub BringStops : List NamedFile → List ℕ → ℕ → ℕ → Status → List ℕ → Type 0

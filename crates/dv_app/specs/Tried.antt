@@ -1,5 +1,5 @@
 -- What `try` writes for a folder's files, and its status.
-use Rattle.std.specs.Prelude.{ℕ, ◌+◌, Bool, true, false, ◌||◌, List, [], ◌∷◌, ◌++◌, Option, Some, None, Result, Ok, Err, codes, length, nat_lt, take, unwrap_or, option_map, if◌then◌else◌}
+use Rattle.std.specs.Prelude.{ℕ, ◌+◌, ◌-◌, Bool, true, false, ◌||◌, List, [], ◌∷◌, ◌++◌, Option, Some, None, Result, Ok, Err, codes, length, min, nat_lt, take, unwrap_or, option_map, if◌then◌else◌}
 use Rattle.std.specs.Fmt.{decimal}
 use Rattle.dv_text.specs.Keys.{Hashes}
 use Rattle.dv_text.specs.Stamps.{stamp_of}
@@ -11,7 +11,8 @@ use Rattle.dv_catalog.specs.RuleTexts.{rule_text}
 use Rattle.dv_catalog.specs.Windows.{window_of}
 use Rattle.dv_catalog.specs.declared.map_error.MapError.{MapError}
 use Rattle.dv_catalog.specs.declared.rules.Rule.{Rule}
-use Rattle.dv_catalog.specs.declared.rules.Rule.TheVariants.{NotYet}
+use Rattle.dv_catalog.specs.declared.rules.Rule.TheVariants.{Manifest as ManifestRule}
+use Rattle.dv_catalog.specs.declared.windows.ExtractIn.{ExtractIn}
 use Rattle.dv_catalog.specs.declared.windows.WindowIn.{WindowIn}
 use Rattle.dv_mart.specs.MartTexts.{mart_text}
 use Rattle.dv_mart.specs.QueryTexts.{query_text}
@@ -24,7 +25,7 @@ use Rattle.dv_outside.specs.declared.folders.NamedFile.{NamedFile}
 use Rattle.dv_outside.specs.declared.statuses.Status.{Status}
 use Rattle.dv_outside.specs.declared.statuses.Status.TheVariants as statuses
 use Rattle.dv_records.specs.Loads.{loaded}
-use Rattle.dv_records.specs.Outcomes.{outcome}
+use Rattle.dv_records.specs.Outcomes.{most_bytes, most_window_bytes, outcome}
 use Rattle.dv_records.specs.States.{State, beginning}
 use Rattle.dv_records.specs.Steps.{sealed_with}
 use Rattle.dv_records.specs.declared.answers.Outcome.{Outcome}
@@ -45,10 +46,6 @@ pub record Tried : Type 0 where
 abbrev pub ended : Status → List ℕ → Tried
 ended status err = record { out = []; err = err; status = status }
 
--- the rule of a window that this stage does not take
-abbrev pub not_taken : Rule
-not_taken = NotYet
-
 -- ---- what a manifest brings
 
 -- what the manifest and its files bring: a file that the folder hasn't, a rule that is broken before the load, or a window
@@ -57,42 +54,60 @@ pub data Arrival : Type 0 where
   Broken : (rule : Rule) → Arrival
   Brought : (given : WindowIn) → Arrival
 
--- the most bytes of an extract in this stage
-abbrev pub most_extract : ℕ
-most_extract = 16384
+-- how far the reading of a manifest's extracts has come: the extracts so far, how many bytes are left of a window's, and whether one of
+-- the extracts has too many
+pub record Reading : Type 0 where
+  pub extracts : List ExtractIn
+  pub left : ℕ
+  pub is_over : Bool
 
-abbrev pub brought_with : ℕ → List ℕ → List ℕ → Option (List ℕ) → Arrival
-brought_with load feed file None = Absent file
-brought_with load feed file (Some bytes) =
-    if nat_lt most_extract (length bytes) then Broken not_taken
-    else Brought (record { load = load; extracts = record { feed = feed; bytes = bytes } ∷ [] })
+abbrev pub no_reading : Reading
+no_reading = record { extracts = []; left = most_window_bytes; is_over = false }
 
--- the one extract of a manifest; none where it has none or several
-abbrev pub only : List ManifestExtract → Option ManifestExtract
-only (extract ∷ []) = Some extract
-only extracts = None
+-- how many bytes the next extract may have: not more than an extract may, and not more than are left of a window's
+abbrev pub allowed : ℕ → ℕ
+allowed left = min most_bytes left
 
--- in this stage a window has exactly one extract
-abbrev pub brought_by : List NamedFile → ℕ → Option ManifestExtract → Arrival
-brought_by files load None = Broken not_taken
-brought_by files load (Some extract) = brought_with load extract.feed extract.file (given (most_extract + 1) files extract.file)
+-- the next extract, with its bytes
+abbrev pub with_extract : List ℕ → List ℕ → Reading → Reading
+with_extract feed bytes r = record {
+  extracts = r.extracts ++ record { feed = feed; bytes = bytes } ∷ [];
+  left = r.left - length bytes;
+  is_over = r.is_over || nat_lt (allowed r.left) (length bytes);
+}
+
+-- the first bytes of an extract's file, one more than it may have; behind an extract with too many no file is read, and none stand there
+abbrev pub extract_bytes : List NamedFile → Reading → List ℕ → Option (List ℕ)
+extract_bytes files r file = if r.is_over then Some [] else given (allowed r.left + 1) files file
+
+-- the next extract is read; the name of its file, where the folder hasn't it
+abbrev pub read_more : ManifestExtract → Option (List ℕ) → Reading → Result Reading (List ℕ)
+read_more extract None r = Err extract.file
+read_more extract (Some bytes) r = Ok (with_extract extract.feed bytes r)
+
+abbrev pub read_next : List NamedFile → ManifestExtract → Reading → Result Reading (List ℕ)
+read_next files extract r = read_more extract (extract_bytes files r extract.file) r
+
+abbrev pub read_on : Result Reading (List ℕ) → (Reading → Result (List ExtractIn) (List ℕ)) → Result (List ExtractIn) (List ℕ)
+read_on (Err file) rest = Err file
+read_on (Ok r) rest = rest r
+
+-- the extracts are read one after another
+abbrev pub read_from : List NamedFile → Reading → List ManifestExtract → Result (List ExtractIn) (List ℕ)
+read_from files r [] = Ok r.extracts
+read_from files r (extract ∷ extracts) = read_on (read_next files extract r) (λ q. read_from files q extracts)
+
+abbrev pub brought_with : ℕ → Result (List ExtractIn) (List ℕ) → Arrival
+brought_with load (Err file) = Absent file
+brought_with load (Ok extracts) = Brought (record { load = load; extracts = extracts })
 
 abbrev pub brought_if : List NamedFile → Result Manifest (List ℕ) → Arrival
-brought_if files (Err place) = Broken not_taken
-brought_if files (Ok manifest) = brought_by files manifest.load (only manifest.extracts)
+brought_if files (Err place) = Broken (ManifestRule place)
+brought_if files (Ok manifest) = brought_with manifest.load (read_from files no_reading manifest.extracts)
 
 -- what a manifest of these bytes brings
 abbrev pub brought : List NamedFile → List ℕ → Arrival
 brought files bytes = brought_if files (manifest_in bytes)
-
--- in this stage each broken rule is one
-abbrev pub in_this_stage : Outcome → Outcome
-in_this_stage outcomes.Load = outcomes.Load
-in_this_stage outcomes.Repeated = outcomes.Repeated
-in_this_stage (outcomes.Refused rule) = outcomes.Refused not_taken
-
-abbrev pub outcome_of : Mapping → Hashes → State → WindowIn → Outcome
-outcome_of mapping hashes state given = in_this_stage (outcome mapping hashes state given)
 
 -- ---- the run over manifests
 
@@ -131,9 +146,9 @@ is_refused (outcomes.Refused rule) = true
 -- the run after a window that was brought
 abbrev pub with_window : Mapping → Hashes → List ℕ → WindowIn → Progress → Progress
 with_window mapping hashes name given p = record {
-  state = state_after mapping given (outcome_of mapping hashes p.state given) p.state;
-  refused = p.refused || is_refused (outcome_of mapping hashes p.state given);
-  lines = p.lines ++ window_line name (outcome_text mapping hashes p.state given (outcome_of mapping hashes p.state given));
+  state = state_after mapping given (outcome mapping hashes p.state given) p.state;
+  refused = p.refused || is_refused (outcome mapping hashes p.state given);
+  lines = p.lines ++ window_line name (outcome_text mapping hashes p.state given (outcome mapping hashes p.state given));
 }
 
 -- the run after a manifest that breaks a rule before the load
@@ -172,16 +187,18 @@ tried_from mapping hashes files what date p [] = at_end mapping hashes what date
 tried_from mapping hashes files what date p (name ∷ names) =
     came mapping hashes files name (manifest_bytes files name) p (λ q. tried_from mapping hashes files what date q names)
 
--- the run after manifests, while none of their files is absent
+-- the run after a manifest, and after manifests, while none of their files is absent
 abbrev pub went_on : Mapping → Hashes → List ℕ → Arrival → Progress → Progress
 went_on mapping hashes name (Absent file) p = p
 went_on mapping hashes name (Broken rule) p = with_refusal name rule p
 went_on mapping hashes name (Brought given) p = with_window mapping hashes name given p
 
+abbrev pub after_manifest : Mapping → Hashes → List NamedFile → List ℕ → Progress → Progress
+after_manifest mapping hashes files name p = went_on mapping hashes name (brought files (unwrap_or (manifest_bytes files name) [])) p
+
 abbrev pub progressed : Mapping → Hashes → List NamedFile → Progress → List (List ℕ) → Progress
 progressed mapping hashes files p [] = p
-progressed mapping hashes files p (name ∷ names) =
-    progressed mapping hashes files (went_on mapping hashes name (brought files (unwrap_or (manifest_bytes files name) [])) p) names
+progressed mapping hashes files p (name ∷ names) = progressed mapping hashes files (after_manifest mapping hashes files name p) names
 
 -- the lines of the first k manifests
 abbrev pub lines_of : Mapping → Hashes → List NamedFile → List (List ℕ) → ℕ → List ℕ

@@ -12,11 +12,11 @@ pub data Command : Type 0 where
 abbrev pub tries_if : Bool → List ℕ → List ℕ → List (List ℕ) → Command
 tries_if is_try what date manifests = if is_try then Tries what date manifests else NoCommand
 
--- exactly `try`, what is wanted, a date and one manifest
+-- exactly `try`, what is wanted, a date, and one or more manifests
 abbrev pub asked : List (List ℕ) → Command
-asked (word ∷ what ∷ date ∷ manifest ∷ []) = tries_if (bytes_eq word (codes "try")) what date (manifest ∷ [])
+asked (word ∷ what ∷ date ∷ manifest ∷ manifests) = tries_if (bytes_eq word (codes "try")) what date (manifest ∷ manifests)
 asked words = NoCommand
 
 abbrev pub IsAsked : Option Asked → List (List ℕ) → Type 0
 IsAsked None words = asked words ≡ NoCommand
-IsAsked (Some a) words = asked words ≡ Tries a.what.now a.date.now (a.manifest.now ∷ [])
+IsAsked (Some a) words = asked words ≡ Tries a.what.now a.date.now a.manifests.now

@@ -2,15 +2,11 @@
 #![tactic(auto)]
 
 mod arrivals;
-mod batches;
 mod checks;
-mod csv_texts;
 mod endings;
 mod lines;
-mod loads;
-mod marts;
-mod pages;
 mod reads;
+mod rule_texts;
 mod takings;
 mod top;
 mod tries;

@@ -1,37 +1,148 @@
-// One manifest is taken: its window is loaded, or refused, and its line is made.
-ghost use Rattle.std.specs.Prelude.{◌≡◌, ◌++◌, [], IfOk, IsTrue, OnOk};
-ghost use Rattle.dv_text.specs.Keys.{hashes_of};
-ghost use Rattle.dv_catalog.specs.FirstForms.{is_first_form};
-ghost use Rattle.dv_records.specs.MemoryKeepers.{keeper_plan, keeper_store};
-ghost use Rattle.dv_app.specs.FirstSteps.{IsEmpty};
-ghost use Rattle.dv_app.specs.Firsts.{IsShort, NeverFails, Takes};
-ghost use Rattle.dv_app.specs.Takings as spec;
-ghost use Rattle.dv_app.specs.Takings.{taken_line, taken_text, ArrivedStep};
+// One manifest is taken: its window is loaded, repeated or refused, and its line is made.
+ghost use Rattle.std.specs.Prelude.{◌≡◌, ◌++◌, IfOk, OnOk, Ok};
+ghost use Rattle.dv_text.specs.Keys.{Hashes, hashes_of};
+ghost use Rattle.dv_catalog.specs.Built.{built_mapping};
+ghost use Rattle.dv_catalog.specs.Entries.{Mapping};
+ghost use Rattle.dv_records.specs.MemoryKeepers.{empty_store, keeper_store};
+ghost use Rattle.dv_records.specs.Stores.{with_mapping};
+ghost use Rattle.dv_window.specs.Offices.{StandsFor};
+ghost use Rattle.dv_app.specs.Loadings as spec;
+ghost use Rattle.dv_app.specs.Loadings.{arrival_line, taken_text, IsLoaded, IsMappingText, IsReady, TakenAs, TakenWindow};
+ghost use Rattle.dv_app.specs.Parts.{arrival_of};
+ghost use Rattle.dv_app.specs.Tried.{start, window_line as line_of_window, went_on, Progress};
 
 use crate::arrivals::Arrived;
-use crate::loads::{Taken, load_window};
-use dv_catalog::{Catalog, printed};
-use dv_records::MemoryKeeper;
+use crate::rule_texts::rule_text;
+use dv_catalog::{Rule, WindowIn, printed};
+use dv_outside::Gate;
+use dv_records::{Keeper, LoadAnswer, MemoryKeeper};
 use dv_text::{KeyDigest, List, Memory, Text};
+use dv_window::{Office, Order};
 use std::alloc::Global;
 
-/// What is loaded: the keeper, and whether a window was refused.
+/// What is loaded: the office over a keeper of its own, and whether a window was refused.
 #[derive(Drop)]
-pub(crate) struct Loaded {
+pub(crate) struct Loading {
     pub keeper: MemoryKeeper,
+    pub office: Office,
     pub refused: bool,
 }
 
-/// A manifest that was taken, and its line.
-#[derive(Drop)]
-pub(crate) struct Taking {
-    pub loaded: Loaded,
-    pub line: Text,
+/// What came of a window: so many rows were loaded, or it repeats a sealed one, or it breaks a rule.
+#[derive(Debug, Drop)]
+pub(crate) enum Taken {
+    Loaded { rows: u64 },
+    Repeated,
+    Refused(Rule),
 }
 
-// What a line says of a window that was loaded or refused.
-fn push_taken(alloc: Global, line: &mut Vec<u8>, taken: Taken) -> Result<(), Memory>
-    ensures { OnOk result (line.new.items ≡ line.old.items ++ taken_text taken) }
+// A keeper of which no failure is planned, with nothing but the text of a mapping.
+fn new_keeper(alloc: Global, mapping: &Text) -> Result<MemoryKeeper, Memory>
+    ensures { IfOk result (λ keeper. keeper_store keeper ≡ with_mapping mapping.now empty_store) }
+{
+    let mut keeper = MemoryKeeper::new(alloc, List::new(alloc));
+    match keeper.put_mapping(alloc, mapping) {
+        Ok(()) => Ok(keeper),
+        Err(_) => Err(Memory),
+    }
+}
+
+/// An office over a keeper of its own, which has nothing but the text of a mapping. A fault of that keeper,
+/// which plans none, is answered as want of memory.
+pub(crate) fn begin_loading<H: KeyDigest>(
+    alloc: Global,
+    mapping: &Text,
+    digest: &H,
+) -> Result<Loading, Memory>
+    requires { IsMappingText mapping.now }
+    ensures ready { IfOk result (IsReady (hashes_of H.digest_of H.size)) }
+    ensures mapping { IfOk result (λ loading. built_mapping mapping.now ≡ Ok loading.office.mapping) }
+    ensures loaded { IfOk result (λ loading. IsLoaded loading.office.mapping (hashes_of H.digest_of H.size) loading start) }
+{
+    let mut keeper = new_keeper(alloc, mapping)?;
+    match Office::start(alloc, &mut keeper, digest) {
+        Ok(office) => Ok(Loading {
+            keeper,
+            office,
+            refused: false,
+        }),
+        Err(_) => Err(Memory),
+    }
+}
+
+// What came of a window, by the office's answer; nothing is known where its keeper failed or memory ran out.
+fn taken_of(answer: LoadAnswer) -> Option<Taken>
+    ensures { result ≡ spec.taken_of answer }
+{
+    match answer {
+        LoadAnswer::Loaded { rows } => Some(Taken::Loaded { rows }),
+        LoadAnswer::Repeated => Some(Taken::Repeated),
+        LoadAnswer::Refused(rule) => Some(Taken::Refused(rule)),
+        LoadAnswer::KeeperFault | LoadAnswer::Memory => None,
+    }
+}
+
+// Gives a window to the office. A fault of its own keeper is answered as want of memory.
+fn load_window<H: KeyDigest, G: Gate>(
+    alloc: Global,
+    loading: &mut Loading,
+    given: &WindowIn,
+    digest: &H,
+    gate: &G,
+) -> Result<Taken, Memory>
+    requires { IsReady (hashes_of H.digest_of H.size) loading.old }
+    ensures ready { OnOk result (IsReady (hashes_of H.digest_of H.size) loading.new) }
+    ensures taken { (mapping : Mapping) (p : Progress) → IsLoaded mapping (hashes_of H.digest_of H.size) loading.old p
+        → IfOk result (TakenWindow mapping (hashes_of H.digest_of H.size) given.now p.state) }
+    ensures stands { (mapping : Mapping) (p : Progress) → IsLoaded mapping (hashes_of H.digest_of H.size) loading.old p
+        → IfOk result (λ taken. StandsFor (hashes_of H.digest_of H.size) (spec.state_taken mapping given.now taken p.state) loading.new.office) }
+    ensures mapping { loading.new.office.mapping ≡ loading.old.office.mapping }
+    ensures refused { loading.new.refused ≡ loading.old.refused }
+{
+    let answer = loading.office.load(
+        alloc,
+        &mut loading.keeper,
+        given,
+        1,
+        Order::Declared,
+        digest,
+        gate,
+    );
+    match taken_of(answer) {
+        Some(taken) => Ok(taken),
+        None => Err(Memory),
+    }
+}
+
+// Gives what a manifest brought to the office, where it is a window.
+fn load_arrived<H: KeyDigest, G: Gate>(
+    alloc: Global,
+    loading: &mut Loading,
+    arrived: Arrived,
+    digest: &H,
+    gate: &G,
+) -> Result<Taken, Memory>
+    requires { IsReady (hashes_of H.digest_of H.size) loading.old }
+    ensures ready { OnOk result (IsReady (hashes_of H.digest_of H.size) loading.new) }
+    ensures taken { (mapping : Mapping) (p : Progress) → IsLoaded mapping (hashes_of H.digest_of H.size) loading.old p
+        → IfOk result (TakenAs mapping (hashes_of H.digest_of H.size) (arrival_of arrived) p.state) }
+    ensures stands { (mapping : Mapping) (p : Progress) → IsLoaded mapping (hashes_of H.digest_of H.size) loading.old p
+        → OnOk result (StandsFor (hashes_of H.digest_of H.size) (spec.arrival_state mapping (hashes_of H.digest_of H.size) (arrival_of arrived) p.state) loading.new.office) }
+    ensures mapping { loading.new.office.mapping ≡ loading.old.office.mapping }
+    ensures refused { loading.new.refused ≡ loading.old.refused }
+{
+    match arrived {
+        Arrived::Broken(rule) => Ok(Taken::Refused(rule)),
+        Arrived::Brought(given) => {
+            let taken = load_window(alloc, loading, &given, digest, gate)?;
+            Ok(taken)
+        }
+    }
+}
+
+// Puts a line's words for what came of a window at its end.
+fn push_taken(alloc: Global, line: &mut Vec<u8>, taken: &Taken) -> Result<(), Memory>
+    ensures { OnOk result (line.new.items ≡ line.old.items ++ taken_text taken.now) }
 {
     match taken {
         Taken::Loaded { rows } => {
@@ -39,14 +150,19 @@ fn push_taken(alloc: Global, line: &mut Vec<u8>, taken: Taken) -> Result<(), Mem
             let rows = rows.to_string(alloc)?;
             line.extend_from_slice(rows.as_bytes())?;
         }
-        Taken::Refused => line.extend_from_slice(b": W99 NotYet")?,
+        Taken::Repeated => line.extend_from_slice(b": Repeated")?,
+        Taken::Refused(rule) => {
+            line.extend_from_slice(b": ")?;
+            let rule = rule_text(alloc, rule)?;
+            line.extend_from_slice(rule.bytes())?;
+        }
     }
     Ok(())
 }
 
 // The line of a window, by the manifest's name and what came of it.
-fn window_line(alloc: Global, name: &Text, taken: Taken) -> Result<Text, Memory>
-    ensures { IfOk result (λ line. line ≡ taken_line name.now taken) }
+fn window_line(alloc: Global, name: &Text, taken: &Taken) -> Result<Text, Memory>
+    ensures { IfOk result (λ line. line ≡ line_of_window name.now (taken_text taken.now)) }
 {
     let shown = printed(alloc, name.bytes())?;
     let mut line = Vec::from_slice(alloc, shown.bytes())?;
@@ -56,55 +172,34 @@ fn window_line(alloc: Global, name: &Text, taken: Taken) -> Result<Text, Memory>
 }
 
 // Whether a window was refused.
-fn is_refusal(taken: Taken) -> bool
-    ensures { result ≡ spec.is_refusal taken }
+fn is_refusal(taken: &Taken) -> bool
+    ensures { result ≡ spec.is_refusal taken.now }
 {
     match taken {
-        Taken::Loaded { .. } => false,
-        Taken::Refused => true,
+        Taken::Loaded { .. } | Taken::Repeated => false,
+        Taken::Refused(_) => true,
     }
 }
 
-// Loads what a manifest brought, where it is a window.
-fn load_arrived<H: KeyDigest>(
+/// Takes what a manifest brought, and makes its line.
+pub(crate) fn take<H: KeyDigest, G: Gate>(
     alloc: Global,
-    catalog: &Catalog,
-    arrived: &Arrived,
-    keeper: &mut MemoryKeeper,
-    digest: &H,
-) -> Result<Taken, Memory>
-    requires first { IsTrue (is_first_form catalog.now) }
-    requires short { IsShort arrived.now }
-    requires empty { IsEmpty (keeper_store keeper.old) }
-    requires never_fails { (keeper_plan keeper.old).fails ≡ [] }
-    ensures taken { IfOk result (λ taken. ArrivedStep catalog.now (hashes_of H.digest_of H.size) arrived.now (keeper_store keeper.new) taken) }
-    ensures never_fails { (keeper_plan keeper.new).fails ≡ [] }
-{
-    match arrived {
-        Arrived::Broken => Ok(Taken::Refused),
-        Arrived::Brought(given) => load_window(alloc, catalog, given, keeper, digest),
-    }
-}
-
-/// Takes what a manifest brought into a keeper of its own.
-pub(crate) fn take<H: KeyDigest>(
-    alloc: Global,
-    catalog: &Catalog,
+    loading: &mut Loading,
     name: &Text,
     arrived: Arrived,
     digest: &H,
-) -> Result<Taking, Memory>
-    requires first { IsTrue (is_first_form catalog.now) }
-    requires short { IsShort arrived }
-    ensures taken { IfOk result (λ taking. Takes catalog.now (hashes_of H.digest_of H.size) name.now arrived taking) }
-    ensures never_fails { IfOk result (λ taking. NeverFails taking.loaded) }
+    gate: &G,
+) -> Result<Text, Memory>
+    requires { IsReady (hashes_of H.digest_of H.size) loading.old }
+    ensures ready { OnOk result (IsReady (hashes_of H.digest_of H.size) loading.new) }
+    ensures line { (mapping : Mapping) (p : Progress) → IsLoaded mapping (hashes_of H.digest_of H.size) loading.old p
+        → IfOk result (λ line. line ≡ arrival_line mapping (hashes_of H.digest_of H.size) name.now (arrival_of arrived) p.state) }
+    ensures loaded { (mapping : Mapping) (p : Progress) → IsLoaded mapping (hashes_of H.digest_of H.size) loading.old p
+        → OnOk result (IsLoaded mapping (hashes_of H.digest_of H.size) loading.new (went_on mapping (hashes_of H.digest_of H.size) name.now (arrival_of arrived) p)) }
+    ensures mapping { loading.new.office.mapping ≡ loading.old.office.mapping }
 {
-    let mut keeper = MemoryKeeper::new(alloc, List::new(alloc));
-    let taken = load_arrived(alloc, catalog, &arrived, &mut keeper, digest)?;
-    let line = window_line(alloc, name, taken)?;
-    let refused = is_refusal(taken);
-    Ok(Taking {
-        loaded: Loaded { keeper, refused },
-        line,
-    })
+    let taken = load_arrived(alloc, loading, arrived, digest, gate)?;
+    let line = window_line(alloc, name, &taken)?;
+    loading.refused |= is_refusal(&taken);
+    Ok(line)
 }

@@ -1,22 +1,27 @@
-ghost use Rattle.std.specs.Prelude.{◌≡◌};
-
 use crate::{Md5Keys, run};
 use dv_outside::{MemoryFolder, MemorySink, NamedFile, OpenGate, Status};
 use dv_records::MemoryKeeper;
-use dv_text::{List, Memory, Text};
+use dv_text::{KeyDigest, List, Memory, Text};
 use std::alloc::Global;
+use std::process::Abort;
+use std::str;
 use std::test::Fail;
 
-const MAPPING: &[u8] =
-    b"[[hub]]\nname = \"customer\"\nparts = 1\n\n[[feed]]\nname = \"customers\"\nsource = \"crm\"\nhub = \"customer\"\nkeys = [[\"CUST_NO\"]]\n";
+mod ends;
+mod large;
+mod mappings;
+mod marts;
+mod rules;
 
-const WITH_NAMES: &[u8] =
-    b"[[hub]]\nname = \"customer\"\nparts = 1\n\n[[feed]]\nname = \"customers\"\nsource = \"crm\"\nhub = \"customer\"\nkeys = [[\"CUST_NO\"]]\nattrs = [\"NAME\"]\n";
-
-const MANIFEST: &[u8] =
-    b"load = \"2024-03-01T02:00:00\"\n\n[[extract]]\nfeed = \"customers\"\nfile = \"customers.csv\"\n";
-
-const KEYS: &[u8] = b"CUST_NO\na1\n A2 \n";
+/// A trial: the words, the files of the folder, and what has to come of it.
+#[derive(Clone, Copy)]
+struct Case {
+    words: &'static [&'static str],
+    files: &'static [(&'static [u8], &'static [u8])],
+    out: &'static str,
+    err: &'static str,
+    status: Status,
+}
 
 /// What was written, and the status.
 #[derive(Drop)]
@@ -26,72 +31,18 @@ struct Heard {
     status: Status,
 }
 
-/// A folder of files, and which calls of the folder and of the sinks fail.
+/// Which calls of the folder and of the sinks fail, by their numbers from 1.
 #[derive(Clone, Copy)]
-struct Given {
-    files: &'static [(&'static [u8], &'static [u8])],
-    reads_fail: &'static [u64],
-    out_fails: &'static [u64],
-    err_fails: &'static [u64],
+struct Faults {
+    reads: &'static [u64],
+    out: &'static [u64],
+    err: &'static [u64],
 }
 
-const WHOLE: Given = Given {
-    files: &[
-        (b"mapping.toml", MAPPING),
-        (b"w1.toml", MANIFEST),
-        (b"customers.csv", KEYS),
-    ],
-    reads_fail: &[],
-    out_fails: &[],
-    err_fails: &[],
-};
-
-const WITH_ATTRIBUTES: Given = Given {
-    files: &[
-        (b"mapping.toml", WITH_NAMES),
-        (b"w1.toml", MANIFEST),
-        (b"customers.csv", KEYS),
-    ],
-    ..WHOLE
-};
-
-const OF_NO_BYTES: Given = Given {
-    files: &[
-        (b"mapping.toml", MAPPING),
-        (b"w1.toml", MANIFEST),
-        (b"customers.csv", b""),
-    ],
-    ..WHOLE
-};
-
-const WITHOUT_MANIFEST: Given = Given {
-    files: &[(b"mapping.toml", MAPPING)],
-    ..WHOLE
-};
-
-const WITHOUT_EXTRACT: Given = Given {
-    files: &[(b"mapping.toml", MAPPING), (b"w1.toml", MANIFEST)],
-    ..WHOLE
-};
-
-const WITHOUT_FILES: Given = Given {
-    files: &[],
-    ..WHOLE
-};
-
-const THIRD_READ_FAILS: Given = Given {
-    reads_fail: &[3],
-    ..WHOLE
-};
-
-const OUT_FAILS: Given = Given {
-    out_fails: &[1],
-    ..WHOLE
-};
-
-const ERR_FAILS: Given = Given {
-    err_fails: &[1],
-    ..WHOLE
+const NO_FAULTS: Faults = Faults {
+    reads: &[],
+    out: &[],
+    err: &[],
 };
 
 fn numbers(alloc: Global, numbers: &[u64]) -> Result<List<u64>, Memory> {
@@ -105,223 +56,69 @@ fn file(alloc: Global, name: &[u8], bytes: &[u8]) -> Result<NamedFile, Memory> {
     })
 }
 
-fn folder(alloc: Global, given: Given) -> Result<MemoryFolder, Memory> {
+fn files(
+    alloc: Global,
+    given: &[(&'static [u8], &'static [u8])],
+) -> Result<List<NamedFile>, Memory> {
     let mut all = List::new(alloc);
-    for (name, bytes) in given.files {
+    for (name, bytes) in given {
         all.push(file(alloc, name, bytes)?)?;
     }
-    Ok(MemoryFolder::new(all, numbers(alloc, given.reads_fail)?))
+    Ok(all)
 }
 
-fn sink(alloc: Global, fails: &[u64]) -> Result<MemorySink, Memory> {
-    MemorySink::new(alloc, 1_000, numbers(alloc, fails)?)
-}
-
-fn run_in(
-    alloc: Global,
-    words: &[&str],
-    mut folder: MemoryFolder,
-    mut out: MemorySink,
-    mut err: MemorySink,
-) -> Result<Heard, Memory> {
-    let mut keeper = MemoryKeeper::new(alloc, List::new(alloc));
+fn texts(alloc: Global, words: &[&str]) -> Result<Vec<String>, Memory> {
     let mut all = Vec::new(alloc);
     for word in words {
         all.push(String::from_str(alloc, word)?)?;
     }
+    Ok(all)
+}
+
+// Runs the words over files, under a digest, where these calls fail.
+fn run_over<H: KeyDigest>(
+    alloc: Global,
+    words: &[&str],
+    files: List<NamedFile>,
+    faults: Faults,
+    digest: &H,
+) -> Result<Heard, Memory> {
+    let mut folder = MemoryFolder::new(files, numbers(alloc, faults.reads)?);
+    let mut out = MemorySink::new(alloc, 4_000, numbers(alloc, faults.out)?)?;
+    let mut err = MemorySink::new(alloc, 4_000, numbers(alloc, faults.err)?)?;
+    let mut keeper = MemoryKeeper::new(alloc, List::new(alloc));
+    let words = texts(alloc, words)?;
     let status = run(
         alloc,
-        all.as_slice(),
+        words.as_slice(),
         &mut folder,
         &mut keeper,
         &mut out,
         &mut err,
-        &Md5Keys,
+        digest,
         &OpenGate,
     );
     Ok(Heard { out, err, status })
 }
 
-fn run_over(alloc: Global, words: &[&str], given: Given) -> Result<Heard, Memory> {
-    let folder = folder(alloc, given)?;
-    let out = sink(alloc, given.out_fails)?;
-    let err = sink(alloc, given.err_fails)?;
-    run_in(alloc, words, folder, out, err)
+// What a sink has, as text.
+fn shown(sink: &MemorySink) -> &str {
+    str::from_utf8(sink.written()).unwrap_or("no text")
 }
 
-fn run_with_mapping(alloc: Global, mapping: &[u8]) -> Result<Heard, Memory> {
-    let mut files = List::new(alloc);
-    files.push(file(alloc, b"mapping.toml", mapping)?)?;
-    let folder = MemoryFolder::new(files, List::new(alloc));
-    run_in(alloc, TRY, folder, sink(alloc, &[])?, sink(alloc, &[])?)
+// What was heard is this.
+fn is_heard(rt: &impl Abort, heard: &Heard, out: &str, err: &str, status: Status) {
+    assert_eq!(rt; shown(&heard.err), err);
+    assert_eq!(rt; shown(&heard.out), out, "for {err}");
+    assert_eq!(rt; heard.status, status, "for {err}");
 }
 
-const TRY: &[&str] = &["try", "feed:customers", "2024-03-01T02:00:00", "w1.toml"];
-
-const TRY_LATE: &[&str] = &["try", "feed:customers", "2024-02-29T00:00:00", "w1.toml"];
-
-const TRY_HUB: &[&str] = &["try", "hub:customer", "2024-03-01T02:00:00", "w1.toml"];
-
-const TRY_NO_DATE: &[&str] = &["try", "feed:customers", "2024-02-30T00:00:00", "w1.toml"];
-
-const TRY_TWICE: &[&str] = &[
-    "try",
-    "feed:customers",
-    "2024-03-01T02:00:00",
-    "w1.toml",
-    "w1.toml",
-];
-
-#[test]
-fn a_window_is_loaded_and_its_keys_are_written(rt: HostRuntime) -> Result<(), Fail> {
-    let heard = run_over(rt.alloc(), TRY, WHOLE)?;
-    assert_eq!(rt; heard.out.written(), b"CUST_NO\nA1\nA2\n".as_slice());
-    assert_eq!(rt; heard.err.written(), b"w1.toml: Loaded 4\n".as_slice());
-    assert_eq!(rt; heard.status, Status::Done);
-    Ok(())
-}
-
-#[test]
-fn words_that_are_no_command_are_usage(rt: HostRuntime) -> Result<(), Fail> {
-    let alone = run_over(rt.alloc(), &["try"], WHOLE)?;
-    assert_eq!(rt; alone.err.written(), b"vaultdesk: usage\n".as_slice());
-    assert_eq!(rt; alone.status, Status::Usage);
-    let two_manifests = run_over(rt.alloc(), TRY_TWICE, WHOLE)?;
-    assert_eq!(rt;
-        two_manifests.err.written(),
-        b"vaultdesk: usage\n".as_slice()
-    );
-    assert_eq!(rt; two_manifests.status, Status::Usage);
-    Ok(())
-}
-
-#[test]
-fn each_refusal_and_fault_has_its_line_and_status(rt: HostRuntime) -> Result<(), Fail> {
-    let cases = [
-        (
-            TRY,
-            WITH_ATTRIBUTES,
-            "",
-            "vaultdesk: mapping 0 NotYet place=feed 1 attrs\n",
-            Status::Mapping,
-        ),
-        (
-            TRY,
-            OF_NO_BYTES,
-            "CUST_NO\n",
-            "w1.toml: W99 NotYet\n",
-            Status::Refused,
-        ),
-        (
-            TRY_LATE,
-            WHOLE,
-            "CUST_NO\n",
-            "w1.toml: Loaded 4\n",
-            Status::Done,
-        ),
-        (
-            TRY_HUB,
-            WHOLE,
-            "",
-            "vaultdesk: Q1 UnknownMart name=hub:customer\n",
-            Status::Refused,
-        ),
-        (
-            TRY_NO_DATE,
-            WHOLE,
-            "",
-            "vaultdesk: Q2 BadDate text=2024-02-30T00:00:00\n",
-            Status::Refused,
-        ),
-        (
-            TRY,
-            WITHOUT_MANIFEST,
-            "",
-            "vaultdesk: absent w1.toml\n",
-            Status::ReadFault,
-        ),
-        (
-            TRY,
-            WITHOUT_EXTRACT,
-            "",
-            "vaultdesk: absent customers.csv\n",
-            Status::ReadFault,
-        ),
-        (
-            TRY,
-            WITHOUT_FILES,
-            "",
-            "vaultdesk: absent mapping.toml\n",
-            Status::ReadFault,
-        ),
-        (
-            TRY,
-            THIRD_READ_FAILS,
-            "",
-            "vaultdesk: read fault customers.csv\n",
-            Status::ReadFault,
-        ),
-        (
-            TRY,
-            OUT_FAILS,
-            "",
-            "w1.toml: Loaded 4\n",
-            Status::WriteFault,
-        ),
-        (TRY, ERR_FAILS, "", "", Status::WriteFault),
-    ];
-    for (words, given, out, err, status) in cases {
-        let heard = run_over(rt.alloc(), words, given)?;
-        assert_eq!(rt; heard.out.written(), out.as_bytes());
-        assert_eq!(rt; heard.err.written(), err.as_bytes(), "for {err}");
-        assert_eq!(rt; heard.status, status);
-    }
-    Ok(())
-}
-
-const OF_FIVE_PARTS: &[u8] = b"[[hub]]\nname = \"customer\"\nparts = 5\n";
-
-const OF_TWO_FEEDS: &[u8] =
-    b"[[hub]]\nname = \"customer\"\nparts = 1\n\n[[feed]]\nname = \"customers\"\nsource = \"crm\"\nhub = \"customer\"\nkeys = [[\"CUST_NO\"]]\n\n[[feed]]\nname = \"accounts\"\nsource = \"shop\"\nhub = \"customer\"\nkeys = [[\"ACCOUNT\"]]\nattrs = [\"TIER\"]\n";
-
-const OF_TWO_FEEDS_WITH_ATTRIBUTES: &[u8] =
-    b"[[hub]]\nname = \"customer\"\nparts = 1\n\n[[feed]]\nname = \"customers\"\nsource = \"crm\"\nhub = \"customer\"\nkeys = [[\"CUST_NO\"]]\nattrs = [\"NAME\"]\n\n[[feed]]\nname = \"accounts\"\nsource = \"shop\"\nhub = \"customer\"\nkeys = [[\"ACCOUNT\"]]\nattrs = [\"TIER\"]\n";
-
-const OF_TWO_PARTS: &[u8] =
-    b"[[hub]]\nname = \"site\"\nparts = 2\n\n[[feed]]\nname = \"sites\"\nsource = \"geo\"\nhub = \"site\"\nkeys = [[\"REGION\", \"SITE\"]]\n";
-
-const OF_UNKNOWN_HUB: &[u8] =
-    b"[[hub]]\nname = \"customer\"\nparts = 1\n\n[[feed]]\nname = \"customers\"\nsource = \"crm\"\nhub = \"client\"\nkeys = [[\"CUST_NO\"]]\n";
-
-#[test]
-fn each_mapping_that_is_refused_has_its_line(rt: HostRuntime) -> Result<(), Fail> {
-    for (mapping, line) in [
-        (
-            OF_FIVE_PARTS,
-            "vaultdesk: mapping 2 Shape place=hub 1 parts\n",
-        ),
-        (
-            OF_TWO_FEEDS,
-            "vaultdesk: mapping 0 NotYet place=feed 2 name\n",
-        ),
-        (
-            OF_TWO_FEEDS_WITH_ATTRIBUTES,
-            "vaultdesk: mapping 0 NotYet place=feed 1 attrs\n",
-        ),
-        (
-            OF_TWO_PARTS,
-            "vaultdesk: mapping 0 NotYet place=hub 1 parts\n",
-        ),
-        (
-            OF_UNKNOWN_HUB,
-            "vaultdesk: mapping 4 UnknownHub name=client\n",
-        ),
-        (b"hub = ", "vaultdesk: mapping 1 Text\n"),
-    ] {
-        let heard = run_with_mapping(rt.alloc(), mapping)?;
-        assert_eq!(rt; heard.out.written(), b"".as_slice());
-        assert_eq!(rt; heard.err.written(), line.as_bytes(), "for {line}");
-        assert_eq!(rt; heard.status, Status::Mapping);
+// The cases, under MD5.
+fn hold(rt: &impl Abort, alloc: Global, cases: &[Case]) -> Result<(), Memory> {
+    for case in cases {
+        let files = files(alloc, case.files)?;
+        let heard = run_over(alloc, case.words, files, NO_FAULTS, &Md5Keys)?;
+        is_heard(rt, &heard, case.out, case.err, case.status);
     }
     Ok(())
 }

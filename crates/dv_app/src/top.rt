@@ -14,7 +14,7 @@ use std::alloc::Global;
 
 /// The top call: all that the program does. It takes the words of the command line without the program's
 /// name, writes texts to `out` and lines to `err`, and answers the program's exit status. The command of
-/// this stage is `try WHAT DATE MANIFEST`; it uses a keeper of its own, and leaves the one that is handed in.
+/// this stage is `try WHAT DATE MANIFEST...`; it uses a keeper of its own, and leaves the one that is handed in.
 pub fn run<F: Folder, K: Keeper, O: Sink, E: Sink, H: KeyDigest, G: Gate>(
     alloc: Global,
     words: &[String],
@@ -23,7 +23,7 @@ pub fn run<F: Folder, K: Keeper, O: Sink, E: Sink, H: KeyDigest, G: Gate>(
     out: &mut O,
     err: &mut E,
     digest: &H,
-    _gate: &G,
+    gate: &G,
 ) -> Status
     // What is written, and the status, by what the words ask for.
     ensures says { RunSays (map string_bytes words.now) (hashes_of H.digest_of H.size) (F.files folder.old)
@@ -52,6 +52,6 @@ pub fn run<F: Folder, K: Keeper, O: Sink, E: Sink, H: KeyDigest, G: Gate>(
     };
     match asked_of(words.items()) {
         None => end(err, USAGE, Status::Usage),
-        Some(asked) => try_command(alloc, &asked, folder, out, err, digest),
+        Some(asked) => try_command(alloc, &asked, folder, out, err, digest, gate),
     }
 }

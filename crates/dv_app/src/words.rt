@@ -4,23 +4,23 @@ ghost use Rattle.dv_app.specs.Words.{IsAsked};
 use dv_text::{List, Memory, Text};
 use std::alloc::Global;
 
-/// What `try` is asked for: a mart, at a date, over the window of a manifest.
+/// What `try` is asked for: a mart, at a date, over the windows of manifests, of which there is one at least.
 #[derive(Clone, Copy)]
 pub(crate) struct Asked<'a> {
     pub what: &'a Text,
     pub date: &'a Text,
-    pub manifest: &'a Text,
+    pub manifests: &'a [Text],
 }
 
-/// What the words of the command line ask for: `try WHAT DATE MANIFEST`, or nothing that is a command.
+/// What the words of the command line ask for: `try WHAT DATE MANIFEST...`, or nothing that is a command.
 pub(crate) fn asked_of(words: &[Text]) -> Option<Asked<'_>>
     ensures { IsAsked result words.now }
 {
     match words {
-        [word, what, date, manifest] if word.bytes() == b"try".as_slice() => Some(Asked {
+        [word, what, date, _, ..] if word.bytes() == b"try".as_slice() => Some(Asked {
             what,
             date,
-            manifest,
+            manifests: &words[3..],
         }),
         _ => None,
     }

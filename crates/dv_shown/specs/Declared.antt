@@ -1,6 +1,6 @@
 -- Mapping files: which fault is the first, and which mappings are valid.
 use Rattle.std.specs.Prelude.{◌≡◌, ℕ, Ok, Err, Bool, true, false, List, [], ◌∷◌, ◌++◌, Some, None, codes, map, replicate}
-use Rattle.dv_catalog.specs.declared.map_error.MapError.TheVariants.{NotYet, Shape, NameTwice, KeyCount, ColumnTwice, PathBroken, TooMany, NameForm}
+use Rattle.dv_catalog.specs.declared.map_error.MapError.TheVariants.{NotYet, Shape, NameTwice, KeyCount, ColumnTwice, SubWithoutAttrs, PathBroken, TooMany, NameForm}
 use Rattle.dv_catalog.specs.declared.outlines.FeedOutline.{FeedOutline}
 use Rattle.dv_catalog.specs.declared.outlines.LinkOutline.{LinkOutline}
 use Rattle.dv_catalog.specs.declared.outlines.Outline.{Outline}
@@ -8,14 +8,13 @@ use Rattle.dv_catalog.specs.declared.outlines.PathOutline.{PathOutline}
 use Rattle.dv_catalog.specs.declared.entries.Parent.TheVariants.{Link}
 use Rattle.dv_catalog.specs.declared.tables.TableId.{TableId}
 use Rattle.dv_catalog.specs.declared.tables.TableId.TheVariants.{Hub as HubTable, Link as LinkTable, Sat, Multi, Status, Effect}
-use Rattle.dv_catalog.specs.Built.{built_mapping, unbuilt, unbuilt_feed, unbuilt_hub}
-use Rattle.dv_catalog.specs.FirstForms.{is_first_form}
+use Rattle.dv_catalog.specs.Built.{built_mapping, unbuilt, unbuilt_feed}
 use Rattle.dv_catalog.specs.CheckExamples.{a_with_b, customer_feed, hubs, names, pairs, three_hubs, with_sub}
 use Rattle.dv_catalog.specs.Checks.{fault_of}
 use Rattle.dv_catalog.specs.Mappings.{is_valid, is_valid_driver, mapping_of}
 use Rattle.dv_catalog.specs.MappingFiles.{read_mapping}
 use Rattle.dv_catalog.specs.TableLookups.{is_table_of}
-use Rattle.dv_shown.specs.Mappings.{bare, customers, with_drivers, with_names, with_orders, with_sites}
+use Rattle.dv_shown.specs.Mappings.{bare, customers, with_channels, with_customers_and_sites, with_drivers, with_names, with_orders, with_paths, with_placements, with_sites, with_staff}
 use Rattle.dv_shown.specs.Stepped.{bare_file, other_file}
 use Rattle.dv_catalog.specs.SampleOutlines.{customers_with, hub, hub_feed, link, link_feed, outline, path, placements_then_lines, sold_by}
 
@@ -122,33 +121,33 @@ pub record FilesDeclared : Type 0 where
   pub not_checked : read_mapping (bare_file ++ codes "attrs = [\"CUST_NO\"]\n") ≡ Err (ColumnTwice (codes "customers") (codes "CUST_NO"))
   pub not_formed : read_mapping (codes "hub = 3\n") ≡ Err (Shape (codes "hub"))
   pub built : built_mapping bare_file ≡ Ok bare
-  pub attributes_not_built : built_mapping (bare_file ++ codes "attrs = [\"NAME\"]\n") ≡ Err (NotYet (codes "feed 1 attrs"))
-  pub empty_is_built : built_mapping (bare_file ++ codes "attrs = []\n") ≡ Ok bare
-  pub two_hubs_not_built : built_mapping other_file ≡ Err (NotYet (codes "hub 2 name"))
-  pub fault_before_form : built_mapping (codes "hub = 3\n") ≡ Err (Shape (codes "hub"))
-  pub two_parts_not_built :
+  pub attributes_built : built_mapping (bare_file ++ codes "attrs = [\"NAME\"]\n") ≡ Ok with_names
+  pub empty_is_built : built_mapping (bare_file ++ codes "attrs = []\nsub = []\ndriver = []\n") ≡ Ok bare
+  pub two_hubs_built : built_mapping other_file ≡ Ok with_customers_and_sites
+  pub two_parts_built :
       built_mapping (codes "[[hub]]\nname = \"site\"\nparts = 2\n[[feed]]\nname = \"sites\"\nsource = \"geo\"\nhub = \"site\"\nkeys = [[\"REGION\", \"SITE\"]]\n")
-      ≡ Err (NotYet (codes "hub 1 parts"))
-  pub forms :
-      map is_first_form (bare ∷ with_names ∷ with_sites ∷ with_drivers ∷ record bare { feeds = record customers { attrs = []; parent = Link 0 } ∷ [] } ∷ [])
-      ≡ true ∷ false ∷ false ∷ false ∷ false ∷ []
+      ≡ Ok with_sites
+  pub sub_not_built : built_mapping (bare_file ++ codes "sub = [\"KIND\"]\nattrs = [\"PHONE\"]\n") ≡ Err (NotYet (codes "feed 1 sub"))
+  pub fault_before_form : built_mapping (codes "hub = 3\n") ≡ Err (Shape (codes "hub"))
+  pub fault_in_form : built_mapping (bare_file ++ codes "sub = [\"KIND\"]\n") ≡ Err (SubWithoutAttrs (codes "customers"))
 
 -- the first place with a form that is not built yet
 pub record PlacesUnbuilt : Type 0 where
   pub none : unbuilt bare ≡ None
-  pub hub_by_parts : unbuilt_hub 1 (record { name = codes "site"; parts = 2 }) ≡ Some (codes "parts")
-  pub hub_of_one_part : unbuilt_hub 1 (record { name = codes "site"; parts = 1 }) ≡ None
-  pub second_hub : unbuilt_hub 2 (record { name = codes "site"; parts = 2 }) ≡ Some (codes "name")
-  pub feed_by_sub : unbuilt_feed 1 (record customers { sub = codes "KIND" ∷ [] }) ≡ Some (codes "sub")
-  pub feed_by_attributes : unbuilt_feed 1 (record customers { ignore = codes "NOTES" ∷ [] }) ≡ Some (codes "attrs")
-  pub feed_by_ignored : unbuilt_feed 1 (record customers { attrs = []; ignore = codes "NOTES" ∷ []; driver = 0 ∷ [] }) ≡ Some (codes "ignore")
-  pub feed_by_driver : unbuilt_feed 1 (record customers { attrs = []; driver = 0 ∷ [] }) ≡ Some (codes "driver")
-  pub feed_of_keys : unbuilt_feed 1 (record customers { attrs = [] }) ≡ None
-  pub second_feed : unbuilt_feed 2 (record customers { sub = codes "KIND" ∷ [] }) ≡ Some (codes "name")
-  pub hubs_first : unbuilt with_drivers ≡ Some (codes "hub 2 name")
-  pub third_feed : unbuilt (record bare { feeds = record customers { attrs = [] } ∷ record customers { attrs = [] } ∷ record customers { attrs = [] } ∷ [] }) ≡ Some (codes "feed 2 name")
-  pub links_before_feeds :
-      unbuilt (record bare { links = record { name = codes "works"; hubs = 0 ∷ 0 ∷ [] } ∷ []; feeds = customers ∷ [] }) ≡ Some (codes "link 1 name")
-  pub feeds_before_paths :
-      unbuilt (record bare { feeds = customers ∷ []; paths = record { name = codes "sold"; feeds = []; via = [] } ∷ [] }) ≡ Some (codes "feed 1 attrs")
-  pub path : unbuilt (record bare { paths = record { name = codes "sold"; feeds = []; via = [] } ∷ [] }) ≡ Some (codes "path 1 name")
+  pub attributes : unbuilt with_names ≡ None
+  pub two_parts : unbuilt with_sites ≡ None
+  pub link_and_feeds : unbuilt with_placements ≡ None
+  pub feed_of_keys : unbuilt_feed (record customers { attrs = [] }) ≡ None
+  pub feed_by_ignored : unbuilt_feed (record customers { ignore = codes "NOTES" ∷ [] }) ≡ None
+  pub feed_by_sub : unbuilt_feed (record customers { sub = codes "KIND" ∷ [] }) ≡ Some (codes "sub")
+  pub feed_by_driver : unbuilt_feed (record customers { attrs = []; driver = 0 ∷ [] }) ≡ Some (codes "driver")
+  pub sub_before_driver : unbuilt_feed (record customers { sub = codes "KIND" ∷ []; driver = 0 ∷ [] }) ≡ Some (codes "sub")
+  pub driver : unbuilt with_drivers ≡ Some (codes "feed 1 driver")
+  pub second_feed : unbuilt with_staff ≡ Some (codes "feed 2 driver")
+  pub first_feed :
+      unbuilt (record bare { feeds = customers ∷ record customers { sub = codes "KIND" ∷ [] } ∷ record customers { driver = 0 ∷ [] } ∷ [] })
+      ≡ Some (codes "feed 2 sub")
+  pub feeds_before_paths : unbuilt with_channels ≡ Some (codes "feed 1 sub")
+  pub path : unbuilt with_orders ≡ Some (codes "path 1 name")
+  pub first_path : unbuilt with_paths ≡ Some (codes "path 1 name")
+  pub without_path : unbuilt (record with_orders { paths = [] }) ≡ None

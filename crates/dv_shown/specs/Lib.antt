@@ -12,6 +12,7 @@ pub mod Mappings
 pub mod Normals
 pub mod Printed
 pub mod Read
+pub mod ReadBacks
 pub mod Restored
 pub mod Selected
 pub mod Snapped

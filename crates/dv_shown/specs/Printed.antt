@@ -38,7 +38,6 @@ pub record RulesPrinted : Type 0 where
       rule_text (rule.Collision (codes "link_works") (key [] ∷ key [] ∷ []) (key (codes "1") ∷ key (codes "P") ∷ []))
       ≡ codes "W20 Collision table=link_works first=[]/[] second=[1]/[P]"
   pub weighed : rule_text (rule.VaultFull 1073741825 12) ≡ codes "W21 VaultFull weight=1073741825 windows=12"
-  pub not_yet : rule_text rule.NotYet ≡ codes "W99 NotYet"
   -- a control byte is a question mark
   pub control_bytes_of_key : rule_text (rule.TwoDrivers (codes "assignments") (key (codes "1\t2") ∷ [])) ≡ codes "W18 TwoDrivers feed=assignments driver=[1?2]"
   pub control_bytes : rule_text (rule.UnknownFeed (codes "a\nb")) ≡ codes "W2 UnknownFeed name=a?b"

@@ -107,6 +107,8 @@ pub record WordsHold : Type 0 where
   pub no_kind : what_of with_names (codes "customers") ≡ None
   pub not_offered : offered_what with_names (codes "hub:customer") ≡ None
   pub offered : offered_what with_names (codes "feed:customers") ≡ Some (Feed 0)
+  pub table_offered : offered_what with_names (codes "table:sat_customers") ≡ Some (Table (Sat 0))
+  pub no_table_offered : offered_what with_names (codes "table:customers") ≡ None
   pub second_hub : what_of with_orders (codes "hub:sales_order") ≡ Some (Hub 1)
   pub second_path : what_of with_paths (codes "path:bought") ≡ Some (Path 1)
   pub second_pit : what_of with_orders (codes "pit:product") ≡ Some (Pit 2)

@@ -14,6 +14,7 @@ ghost use Rattle.dv_shown.specs.Listed.{ManifestsRead};
 ghost use Rattle.dv_shown.specs.Normals.{DatesHold, KeysHold, NormalsHold};
 ghost use Rattle.dv_shown.specs.Printed.{QueriesPrinted, RulesPrinted};
 ghost use Rattle.dv_shown.specs.Read.{ExtractsRead};
+ghost use Rattle.dv_shown.specs.ReadBacks.{MultiReadBackHolds, ReadBackHolds, ReadBackMeets};
 ghost use Rattle.dv_shown.specs.Restored.{PremisesMet, PresenceHolds, RestoredHold, ValidHold};
 ghost use Rattle.dv_shown.specs.Selected.{HubMartsHold, PathMartsHold, PeriodMartsHold};
 ghost use Rattle.dv_shown.specs.Snapped.{PitsHold, SnapshotsHold};
@@ -165,6 +166,22 @@ pub fn restored_hold()
 /// The windows of that example meet what reading back from the tables asks of windows.
 pub fn premises_met()
     ensures { PremisesMet }
+{}
+
+/// Contents of feeds without a sub, read back from tables: a missing reference, attributes that go and
+/// come again.
+pub fn read_back_holds()
+    ensures { ReadBackHolds }
+{}
+
+/// Contents of feeds with a sub, and of any feed, read back from tables.
+pub fn multi_read_back_holds()
+    ensures { MultiReadBackHolds }
+{}
+
+/// What reading back asks of a mapping and its windows.
+pub fn read_back_meets()
+    ensures { ReadBackMeets }
 {}
 
 /// What comes of windows by their extracts and load dates.

@@ -12,10 +12,11 @@ returns c =
       not_checked = refl;
       not_formed = refl;
       built = refl;
-      attributes_not_built = refl;
+      attributes_built = refl;
       empty_is_built = refl;
-      two_hubs_not_built = refl;
+      two_hubs_built = refl;
+      two_parts_built = refl;
+      sub_not_built = refl;
       fault_before_form = refl;
-      two_parts_not_built = refl;
-      forms = refl;
+      fault_in_form = refl;
     }

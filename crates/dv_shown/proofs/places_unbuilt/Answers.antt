@@ -7,18 +7,19 @@ unfolding digits
 returns c =
     record {
       none = refl;
-      hub_by_parts = refl;
-      hub_of_one_part = refl;
-      second_hub = refl;
-      feed_by_sub = refl;
-      feed_by_attributes = refl;
-      feed_by_ignored = refl;
-      feed_by_driver = refl;
+      attributes = refl;
+      two_parts = refl;
+      link_and_feeds = refl;
       feed_of_keys = refl;
+      feed_by_ignored = refl;
+      feed_by_sub = refl;
+      feed_by_driver = refl;
+      sub_before_driver = refl;
+      driver = refl;
       second_feed = refl;
-      hubs_first = refl;
-      third_feed = refl;
-      links_before_feeds = refl;
+      first_feed = refl;
       feeds_before_paths = refl;
       path = refl;
+      first_path = refl;
+      without_path = refl;
     }

@@ -33,7 +33,6 @@ returns c =
       vault_full = refl;
       missing_keys = refl;
       weighed = refl;
-      not_yet = refl;
       control_bytes_of_key = refl;
       control_bytes = refl;
     }

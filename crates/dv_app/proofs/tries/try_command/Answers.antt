@@ -1,5 +1,5 @@
 use Rattle.dv_text.specs.Keys.{hashes_of}
-use Rattle.dv_app.specs.Firsts.{trial_of}
+use Rattle.dv_app.specs.Loadings.{trial_of}
 use Rattle.dv_app.proofs.Parts.{finish_says, stopped_says}
 use Rattle.dv_app.proofs.tries.try_command.Goals as goal
 

@@ -1,6 +1,0 @@
-use Rattle.std.proofs.Common.{◌≡◌, ◌++◌, take}
-use Rattle.std.specs.Prelude.{flat_map}
-use Rattle.dv_app.proofs.csv_texts.add_columns.Given as goal
-
-abbrev pub invariant-loop-columns : goal.invariant-loop-columns
-invariant-loop-columns l = l.made ≡ l.initial.made ++ flat_map (λ columns. columns) (take l.columns-index l.keys)

@@ -1,6 +1,0 @@
-use Rattle.std.proofs.Common.{◌≡◌, ◌++◌, take}
-use Rattle.dv_mart.specs.Texts.{all_parts}
-use Rattle.dv_app.proofs.csv_texts.add_parts.Given as goal
-
-abbrev pub invariant-loop-key : goal.invariant-loop-key
-invariant-loop-key l = l.made ≡ l.initial.made ++ all_parts (take l.key-index l.refs)
