@@ -1,0 +1,192 @@
+#!/usr/bin/env python3
+"""Records a second of `vaultdesk try`, against two loaders in Rust that nobody proved, in one run.
+
+Usage: python3 bench/load/run.py [--shared FOLDER] [--program FILE] [--customers N,N,..] [--repeat N] [--keep FOLDER]
+
+FOLDER (../shared/bench beside the repository, where it isn't said) has gen.py, which writes mappings and windows, and
+rust_peer/, whose two programs are built with cargo into a folder of this run. FILE is a built vaultdesk; where it isn't
+said, the script vaultdesk builds the repository's. Loads four windows of each size, REPEAT times in turn, compares what
+the three write, and prints the best rates, the growth and the peaks of memory.
+"""
+import argparse
+import os
+import pathlib
+import shutil
+import subprocess
+import sys
+import tempfile
+import threading
+import time
+
+TOP = pathlib.Path(__file__).resolve().parent.parent.parent
+WINDOWS = 4
+MANIFESTS = [f"w{number}.toml" for number in range(1, WINDOWS + 1)]
+PEERS = ["rust_shape", "rust_peer"]
+
+
+def built_program():
+    """The repository's program; the script vaultdesk builds it where a source is newer."""
+    subprocess.run([TOP / "vaultdesk"], stdin=subprocess.DEVNULL, stderr=subprocess.DEVNULL)
+    return TOP / "crates/vaultdesk/out/vaultdesk"
+
+
+def build_peers(shared, folder):
+    manifest = shared / "rust_peer/Cargo.toml"
+    command = ["cargo", "build", "--quiet", "--release", "--offline", "--manifest-path", manifest]
+    subprocess.run([*command, "--target-dir", folder / "target"], check=True)
+    return {name: folder / "target/release" / name for name in PEERS}
+
+
+def make_data(shared, folder, customers):
+    """Four windows of so many customers, under the mapping without its path, which the program doesn't build yet."""
+    data = folder / f"data_{customers}"
+    if not data.exists():
+        command = [sys.executable, shared / "gen.py", data, "--keys", str(customers), "--windows", str(WINDOWS)]
+        subprocess.run(command, check=True)
+        mapping = data / "mapping.toml"
+        mapping.write_text(mapping.read_text().partition("[[path]]")[0])
+    return data
+
+
+def count_records(data):
+    return sum(file.read_bytes().count(b"\n") - 1 for file in data.glob("w*.csv"))
+
+
+def last_date(data):
+    return (data / MANIFESTS[-1]).read_text().split('"')[1]
+
+
+def watch(pid, peak):
+    """Keeps the most memory that a process ever had, in kB, until it is gone."""
+    while True:
+        try:
+            lines = pathlib.Path(f"/proc/{pid}/status").read_text().splitlines()
+        except OSError:
+            return
+        found = [int(line.split()[1]) for line in lines if line.startswith("VmHWM:")]
+        if not found:
+            return
+        peak[0] = max(peak[0], found[0])
+        time.sleep(0.004)
+
+
+def run(command, folder, out):
+    """Seconds, processor seconds, kB at the peak, and the lines of standard error."""
+    start, peak = time.perf_counter(), [0]
+    with open(out, "wb") as text, tempfile.TemporaryFile("w+") as lines:
+        process = subprocess.Popen(command, cwd=folder, stdin=subprocess.DEVNULL, stdout=text, stderr=lines)
+        watcher = threading.Thread(target=watch, args=(process.pid, peak))
+        watcher.start()
+        _, status, used = os.wait4(process.pid, 0)
+        taken = time.perf_counter() - start
+        process.returncode = os.waitstatus_to_exitcode(status)
+        watcher.join()
+        lines.seek(0)
+        said = lines.read()
+    if process.returncode != 0:
+        raise SystemExit(f"{command[0]} ended with {process.returncode}: {said}")
+    return taken, used.ru_utime + used.ru_stime, peak[0], said.splitlines()
+
+
+def run_ours(program, data, out):
+    """Our time is that of the process, and what it says of each window is compared with what the peer added."""
+    command = [program, "try", "feed:customers", last_date(data), *MANIFESTS]
+    taken, used, peak, said = run(command, data, out / "ours.csv")
+    return taken, used, peak, [int(line.rpartition(" ")[2]) for line in said]
+
+
+def run_peer(program, data, out):
+    """A peer's time is that of its windows and of the last mart, which it prints: it writes an earlier one too."""
+    _, used, peak, _ = run([program, data, out, str(WINDOWS)], data, out / "printed")
+    lines = [line.split() for line in (out / "printed").read_text().splitlines()]
+    taken = sum(float(words[2]) for words in lines if words[0] == "window" or words[:2] == ["mart", "last"])
+    return taken, used, peak, [int(words[2]) for words in lines if words[1].startswith("added_")]
+
+
+def compare_marts(out, name):
+    if (out / "ours.csv").read_bytes() != (out / "mart_last.csv").read_bytes():
+        raise SystemExit(f"our mart differs from that of {name}: see {out}")
+
+
+def compare_tables(program, peer, data, out):
+    """Whether the text of each raw table is that of rust_peer, byte for byte; how many there are."""
+    texts = out / "tables"
+    texts.mkdir(exist_ok=True)
+    run([peer, data, out, str(WINDOWS), "--tables", texts], data, out / "printed")
+    names = sorted(file.stem for file in texts.glob("*.csv"))
+    for name in names:
+        run([program, "try", f"table:{name}", last_date(data), *MANIFESTS], data, out / "ours.csv")
+        if (out / "ours.csv").read_bytes() != (texts / f"{name}.csv").read_bytes():
+            raise SystemExit(f"our table {name} differs from that of rust_peer: see {out}")
+    return len(names)
+
+
+def measure(program, peers, data, out, repeat):
+    """What each took at best, where they run in turn."""
+    runs = {"ours": []} | {name: [] for name in peers}
+    for _ in range(repeat):
+        runs["ours"].append(run_ours(program, data, out))
+        for name, peer in peers.items():
+            runs[name].append(run_peer(peer, data, out))
+            compare_marts(out, name)
+    added = {name: all_runs[0][3] for name, all_runs in runs.items()}
+    if added["ours"] != added["rust_peer"]:
+        raise SystemExit(f"the windows add other numbers of rows: {added['ours']} and {added['rust_peer']}")
+    return {name: best(all_runs) for name, all_runs in runs.items()}
+
+
+def best(runs):
+    """The least time, the least processor time and the highest peak."""
+    taken, used, peaks, _ = zip(*runs)
+    return min(taken), min(used), max(peaks)
+
+
+def row(cells):
+    print(f"| {' | '.join(cells)} |")
+
+
+def show(found):
+    """The rates and peaks of each size, and how much longer a record takes at one size than at the one before."""
+    row(["customers", "records", "who", "seconds", "processor s", "records a second", "ours takes, times", "peak, MB", "ours has, times", "growth"])
+    print("|" + "---|" * 10)
+    before = {}
+    for customers, (records, by_name) in found.items():
+        ours, _, our_peak = by_name["ours"]
+        for name, (taken, used, peak) in by_name.items():
+            each = taken / records
+            growth = f"{each / before[name]:.2f}" if name in before else ""
+            before[name] = each
+            cells = [f"{customers:,}", f"{records:,}", name, f"{taken:.3f}", f"{used:.3f}", f"{records / taken:,.0f}"]
+            row([*cells, f"{ours / taken:.2f}", f"{peak / 1024:,.0f}", f"{our_peak / peak:.2f}", growth])
+
+
+def main():
+    parser = argparse.ArgumentParser(description=__doc__, formatter_class=argparse.RawDescriptionHelpFormatter)
+    parser.add_argument("--shared", type=pathlib.Path, default=TOP.parent / "shared/bench")
+    parser.add_argument("--program", type=pathlib.Path)
+    parser.add_argument("--customers", default="2000,20000,200000")
+    parser.add_argument("--repeat", type=int, default=3)
+    parser.add_argument("--keep", type=pathlib.Path)
+    given = parser.parse_args()
+    folder = (given.keep or pathlib.Path(tempfile.mkdtemp())).resolve()
+    out = folder / "out"
+    out.mkdir(parents=True, exist_ok=True)
+    program = (given.program or built_program()).resolve()
+    shared = given.shared.resolve()
+    peers = build_peers(shared, folder)
+    print(f"load average before: {os.getloadavg()[0]:.1f} on {os.cpu_count()} processors")
+    sizes = sorted(map(int, given.customers.split(",")))
+    found = {}
+    for customers in sizes:
+        data = make_data(shared, folder, customers)
+        found[customers] = count_records(data), measure(program, peers, data, out, given.repeat)
+    tables = compare_tables(program, peers["rust_peer"], make_data(shared, folder, sizes[0]), out)
+    print(f"load average after: {os.getloadavg()[0]:.1f}")
+    print(f"marts of all sizes, and {tables} tables of the smallest, are equal byte for byte\n")
+    show(found)
+    if not given.keep:
+        shutil.rmtree(folder)
+
+
+if __name__ == "__main__":
+    main()

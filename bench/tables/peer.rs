@@ -1,0 +1,230 @@
+//! What a satellite and a status table do with a window, in Rust that nobody proved, with std alone: the rows in load order,
+//! and an ordered map from each parent to its last row, or an ordered set of the parents that are present. Prints what the
+//! Rattle program prints.
+use std::collections::{BTreeMap, BTreeSet};
+use std::time::Instant;
+
+type Digest = [u8; 16];
+type Text = Vec<u8>;
+
+const WINDOW: u64 = 10_000;
+const MEASURED: u64 = 3;
+const SOURCE: &[u8] = b"crm.customers";
+const TURNS: [u32; 16] = [7, 12, 17, 22, 5, 9, 14, 20, 4, 11, 16, 23, 6, 10, 15, 21];
+
+/// A row of an extract.
+struct Row {
+    refs: Vec<Text>,
+    attrs: Vec<Text>,
+}
+
+#[allow(dead_code)]
+struct SatRow {
+    parent: Digest,
+    load: u64,
+    source: Text,
+    diff: Digest,
+    attrs: Vec<Text>,
+}
+
+#[allow(dead_code)]
+struct StatusRow {
+    parent: Digest,
+    load: u64,
+    source: Text,
+    appeared: bool,
+}
+
+/// MD5 (RFC 1321), with its table of sines.
+struct Md5 {
+    sines: [u32; 64],
+    text: Vec<u8>,
+}
+
+impl Md5 {
+    fn new() -> Md5 {
+        let sines = std::array::from_fn(|i| ((i as f64 + 1.0).sin().abs() * 4_294_967_296.0) as u32);
+        Md5 { sines, text: Vec::new() }
+    }
+
+    /// The digest of texts, with a semicolon between each and the next.
+    fn of(&mut self, texts: &[Text]) -> Digest {
+        self.text.clear();
+        for (i, text) in texts.iter().enumerate() {
+            if i > 0 {
+                self.text.push(b';');
+            }
+            self.text.extend_from_slice(text);
+        }
+        let bits = 8 * self.text.len() as u64;
+        self.text.push(0x80);
+        self.text.resize(self.text.len().next_multiple_of(64) + if self.text.len() % 64 > 56 { 64 } else { 0 }, 0);
+        let end = self.text.len();
+        self.text[end - 8..].copy_from_slice(&bits.to_le_bytes());
+        let mut state = [0x67452301, 0xefcdab89, 0x98badcfe, 0x10325476];
+        for block in self.text.chunks_exact(64) {
+            Md5::step(&self.sines, &mut state, block);
+        }
+        let mut digest = [0; 16];
+        for (bytes, word) in digest.chunks_exact_mut(4).zip(state) {
+            bytes.copy_from_slice(&word.to_le_bytes());
+        }
+        digest
+    }
+
+    fn step(sines: &[u32; 64], state: &mut [u32; 4], block: &[u8]) {
+        let word = |i: usize| u32::from_le_bytes(block[4 * i..4 * i + 4].try_into().unwrap());
+        let [mut a, mut b, mut c, mut d] = *state;
+        for i in 0..64 {
+            let (mixed, place) = match i / 16 {
+                0 => ((b & c) | (!b & d), i),
+                1 => ((d & b) | (!d & c), (5 * i + 1) % 16),
+                2 => (b ^ c ^ d, (3 * i + 5) % 16),
+                _ => (c ^ (b | !d), (7 * i) % 16),
+            };
+            let sum = a.wrapping_add(mixed).wrapping_add(sines[i]).wrapping_add(word(place));
+            (a, d, c) = (d, c, b);
+            b = b.wrapping_add(sum.rotate_left(TURNS[i / 16 * 4 + i % 4]));
+        }
+        for (word, more) in state.iter_mut().zip([a, b, c, d]) {
+            *word = word.wrapping_add(more);
+        }
+    }
+}
+
+/// An extract of 10,000 keys, from the first one in steps.
+fn extract(first: u64, step: u64, window: u64) -> Vec<Row> {
+    let numbered = |letter: char, number: u64| format!("{letter}{number:09}").into_bytes();
+    let row = |i| Row { refs: vec![numbered('C', first + i * step)], attrs: vec![numbered('N', window), b"Trondheim".to_vec()] };
+    (0..WINDOW).map(row).collect()
+}
+
+fn with_digest(sum: u64, digest: &Digest) -> u64 {
+    digest.iter().fold(sum, |sum, byte| sum.wrapping_mul(31).wrapping_add(u64::from(*byte)))
+}
+
+trait Table: Default {
+    type Added;
+    const NAME: &'static str;
+    fn count(&self) -> usize;
+    fn delta(&self, load: u64, extract: &[Row], md5: &mut Md5) -> Vec<Self::Added>;
+    fn apply(&mut self, rows: Vec<Self::Added>);
+    fn check_sum(rows: &[Self::Added]) -> u64;
+}
+
+#[derive(Default)]
+struct Sats {
+    rows: Vec<SatRow>,
+    last: BTreeMap<Digest, usize>,
+}
+
+impl Table for Sats {
+    type Added = SatRow;
+    const NAME: &'static str = "sat";
+
+    fn count(&self) -> usize {
+        self.rows.len()
+    }
+
+    fn delta(&self, load: u64, extract: &[Row], md5: &mut Md5) -> Vec<SatRow> {
+        let mut made = Vec::new();
+        for row in extract {
+            let parent = md5.of(&row.refs);
+            if self.last.get(&parent).is_none_or(|place| self.rows[*place].attrs != row.attrs) {
+                let diff = md5.of(&row.attrs);
+                made.push(SatRow { parent, load, source: SOURCE.to_vec(), diff, attrs: row.attrs.clone() });
+            }
+        }
+        made.sort_by(|a, b| a.parent.cmp(&b.parent));
+        made.dedup_by(|later, kept| later.parent == kept.parent);
+        made
+    }
+
+    fn apply(&mut self, rows: Vec<SatRow>) {
+        for row in rows {
+            self.last.insert(row.parent, self.rows.len());
+            self.rows.push(row);
+        }
+    }
+
+    fn check_sum(rows: &[SatRow]) -> u64 {
+        rows.iter().fold(0, |sum, row| with_digest(with_digest(sum, &row.parent), &row.diff))
+    }
+}
+
+#[derive(Default)]
+struct Statuses {
+    rows: Vec<StatusRow>,
+    present: BTreeSet<Digest>,
+}
+
+impl Table for Statuses {
+    type Added = StatusRow;
+    const NAME: &'static str = "status";
+
+    fn count(&self) -> usize {
+        self.rows.len()
+    }
+
+    fn delta(&self, load: u64, extract: &[Row], md5: &mut Md5) -> Vec<StatusRow> {
+        let now: BTreeSet<Digest> = extract.iter().map(|row| md5.of(&row.refs)).collect();
+        let changed = now.symmetric_difference(&self.present);
+        let row = |parent: &Digest| StatusRow { parent: *parent, load, source: SOURCE.to_vec(), appeared: now.contains(parent) };
+        changed.map(row).collect()
+    }
+
+    fn apply(&mut self, rows: Vec<StatusRow>) {
+        for row in &rows {
+            if row.appeared {
+                self.present.insert(row.parent);
+            } else {
+                self.present.remove(&row.parent);
+            }
+        }
+        self.rows.extend(rows);
+    }
+
+    fn check_sum(rows: &[StatusRow]) -> u64 {
+        rows.iter().fold(0, |sum, row| with_digest(sum, &row.parent).wrapping_add(u64::from(row.appeared)))
+    }
+}
+
+/// Adds an extract to the table, and prints what that cost where the window is a measured one.
+fn take_in<T: Table>(table: &mut T, load: u64, extract: &[Row], md5: &mut Md5, is_measured: bool) {
+    let before = table.count();
+    let start = Instant::now();
+    let rows = table.delta(load, extract, md5);
+    let delta = start.elapsed().as_nanos();
+    let (count, sum) = (rows.len(), T::check_sum(&rows));
+    let start = Instant::now();
+    table.apply(rows);
+    let apply = start.elapsed().as_nanos();
+    if is_measured {
+        println!("rust {} {before} {delta} {apply} {count} {sum}", T::NAME);
+    }
+}
+
+fn time_sats(count: u64, md5: &mut Md5) {
+    let (mut table, windows) = (Sats::default(), count / WINDOW);
+    for number in 0..windows {
+        take_in(&mut table, number, &extract(number * WINDOW, 1, number), md5, false);
+    }
+    for number in windows..windows + MEASURED {
+        take_in(&mut table, number, &extract(0, windows, number), md5, true);
+    }
+}
+
+fn time_statuses(count: u64, md5: &mut Md5) {
+    let (mut table, windows) = (Statuses::default(), (count / WINDOW + 1) / 2);
+    for number in 0..windows + MEASURED {
+        take_in(&mut table, number, &extract(number * WINDOW, 1, number), md5, number >= windows);
+    }
+}
+
+fn main() {
+    let mut md5 = Md5::new();
+    for count in [10_000, 100_000, 1_000_000] {
+        time_sats(count, &mut md5);
+        time_statuses(count, &mut md5);
+    }
+}
