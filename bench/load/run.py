@@ -3,7 +3,7 @@
 
 Usage: python3 bench/load/run.py [--shared FOLDER] [--program FILE] [--customers N,N,..] [--repeat N] [--keep FOLDER]
 
-FOLDER (../shared/bench beside the repository, where it isn't said) has gen.py, which writes mappings and windows, and
+FOLDER (`shared/bench` beside the repository, where it isn't said) has gen.py, which writes mappings and windows, and
 rust_peer/, whose two programs are built with cargo into a folder of this run. FILE is a built vaultdesk; where it isn't
 said, the script vaultdesk builds the repository's. Loads four windows of each size, REPEAT times in turn, compares what
 the three write, and prints the best rates, the growth and the peaks of memory.
