@@ -19,7 +19,7 @@ day_count-1899 : day_count (pos 1899) 12 31 ≡ 4_346_385
 unfolding day_count days_of_years days_of_months
 day_count-1899 = refl
 
-day_count-1900 : day_count (pos 1900) 1 1 ≡ 4_346_386
+pub day_count-1900 : day_count (pos 1900) 1 1 ≡ 4_346_386
 unfolding day_count days_of_years days_of_months
 day_count-1900 = refl
 

@@ -1,9 +1,9 @@
 -- What the form of a stamp says of its parts.
-use Rattle.std.proofs.Common.{◌≡◌, ℕ, ◌+◌, ◌-◌, ◌*◌, ◌/◌, ◌%◌, ◌<◌, ◌≤◌, List, length, true, arith, refl, ◌&&◌, ◌==◌, pos, nat_le, Some, codes}
+use Rattle.std.proofs.Common.{◌≡◌, ℕ, ◌+◌, ◌-◌, ◌*◌, ◌/◌, ◌%◌, ◌<◌, ◌≤◌, List, length, true, arith, refl, ◌&&◌, ◌==◌, pos, nat_le, Some}
 use Rattle.std.specs.Char.{is_ascii_digit}
 use Rattle.std.proofs.lemmas.Bool.{and_parts}
 use Rattle.std.proofs.lemmas.Bool.Decides.{nat_tests}
-use Rattle.jiff_core.specs.Calendar.{days_in_month, days_from_civil, day_count, days_of_years, days_of_months}
+use Rattle.jiff_core.specs.Calendar.{days_in_month}
 use Rattle.jiff_core.proofs.CalendarLemmas.{days_in_month_bounds}
 use Rattle.dv_text.specs.Stamps.{are_two_at, has_digits, has_form, has_marks, is_there, seconds_if, seconds_of, stamp_in, text_of}
 
@@ -42,55 +42,6 @@ pair n = omega arith
 pairs : (n : ℕ) → n < 100 → (is_ascii_digit (48 + n / 10) ≡ true) × (is_ascii_digit (48 + n % 10) ≡ true)
 pairs n h = (digit (n / 10) (omega arith), digit (n % 10) (omega arith))
 
-pub shown : (year month day hour minute second : ℕ) → year < 10000 → month < 100 → day < 100 → hour < 100 → minute < 100 → second < 100
-    → is_there 9998 year month day hour minute second ≡ true
-    → stamp_in 9998 (text_of year month day hour minute second) ≡ Some (seconds_of year month day hour minute second)
-unfolding stamp_in has_form has_marks has_digits seconds_if
-shown year month day hour minute second hy hm hd hh hn hs there =
-    let (c1, c2) = pairs (year / 100) (omega arith) in
-    let (y1, y2) = pairs (year % 100) (omega arith) in
-    let (m1, m2) = pairs month hm in
-    let (d1, d2) = pairs day hd in
-    let (h1, h2) = pairs hour hh in
-    let (n1, n2) = pairs minute hn in
-    let (s1, s2) = pairs second hs in
-    let whole : year / 100 * 100 + year % 100 ≡ year = omega arith in
-    rw (c1, c2, y1, y2, m1, m2, d1, d2, h1, h2, n1, n2, s1, s2, pair (year / 100), pair (year % 100), pair month, pair day, pair hour, pair minute, pair second, whole, there) refl
-
--- the parts are small
-pub record Small (y mo d h mi s : ℕ) : Type 0 where
-  pub year : y < 10000
-  pub month : mo < 100
-  pub day : d < 100
-  pub hour : h < 100
-  pub minute : mi < 100
-  pub second : s < 100
-
-pub there-small : (year month day hour minute second : ℕ) → is_there 9998 year month day hour minute second ≡ true → Small year month day hour minute second
-there-small year month day hour minute second e =
-    let a = and_parts _ (nat_le second 59) e in
-    let b = and_parts _ (nat_le minute 59) a.0 in
-    let c = and_parts _ (nat_le hour 23) b.0 in
-    let d = and_parts _ (nat_le day (days_in_month (pos year) month)) c.0 in
-    let f = and_parts _ (nat_le 1 day) d.0 in
-    let g = and_parts _ (nat_le month 12) f.0 in
-    let h = and_parts _ (nat_le 1 month) g.0 in
-    let i = and_parts (nat_le 1900 year) (nat_le year 9998) h.0 in
-    let days = days_in_month_bounds (pos year) month in
-    record {
-      year = grind (arith, nat_tests, i.1);
-      month = grind (arith, nat_tests, g.1);
-      day = grind (arith, nat_tests, d.1, days.0);
-      hour = grind (arith, nat_tests, c.1);
-      minute = grind (arith, nat_tests, b.1);
-      second = grind (arith, nat_tests, a.1);
-    }
-
--- the text that stands for an end that is open
-pub open_text : stamp_in 9999 (codes "9999-12-31T23:59:59") ≡ Some 255_611_289_599
-unfolding stamp_in has_form has_marks has_digits seconds_if days_from_civil day_count days_of_years days_of_months
-open_text = refl
-
 -- the parts of a stamp, one by one
 pub there-parts : (year month day hour minute second : ℕ) → is_there 9998 year month day hour minute second ≡ true
     → (1900 ≤ year) × (year ≤ 9999) × (1 ≤ month) × (month ≤ 12) × (1 ≤ day) × (day ≤ days_in_month (pos year) month) × (hour ≤ 23) × (minute ≤ 59) × (second ≤ 59)
@@ -113,3 +64,20 @@ there-parts year month day hour minute second e =
       grind (arith, nat_tests, b.1),
       grind (arith, nat_tests, a.1),
     )
+
+-- the text of a date and a time of day reads as its seconds
+pub shown : (year month day hour minute second : ℕ) → is_there 9998 year month day hour minute second ≡ true
+    → stamp_in 9998 (text_of year month day hour minute second) ≡ Some (seconds_of year month day hour minute second)
+unfolding stamp_in has_form has_marks has_digits seconds_if
+shown year month day hour minute second there =
+    let (low, high, m1, m12, dd1, dm, h23, mi59, s59) = there-parts year month day hour minute second there in
+    let days = days_in_month_bounds (pos year) month in
+    let (c1, c2) = pairs (year / 100) (omega arith) in
+    let (y1, y2) = pairs (year % 100) (omega arith) in
+    let (m1, m2) = pairs month (omega arith) in
+    let (d1, d2) = pairs day (omega arith) in
+    let (h1, h2) = pairs hour (omega arith) in
+    let (n1, n2) = pairs minute (omega arith) in
+    let (s1, s2) = pairs second (omega arith) in
+    let whole : year / 100 * 100 + year % 100 ≡ year = omega arith in
+    rw (c1, c2, y1, y2, m1, m2, d1, d2, h1, h2, n1, n2, s1, s2, pair (year / 100), pair (year % 100), pair month, pair day, pair hour, pair minute, pair second, whole, there) refl

@@ -1,7 +1,12 @@
 pub mod Days
+pub mod Deciding
 pub mod Distinct
 pub mod Forms
 pub mod Joins
 pub mod Members
+pub mod Options
+pub mod Orderings
+pub mod Passing
 pub mod Shown
 pub mod SortedLists
+pub mod StableSorts

@@ -1,17 +1,11 @@
 -- The text of a number of seconds is that of its date and its time of day.
-use Rattle.std.proofs.Common.{◌≡◌, ℕ, zero, suc, ◌+◌, ◌-◌, ◌*◌, ◌/◌, ◌%◌, ◌<◌, ◌≤◌, inl, inr, true, false, arith, refl, ap, pos, nat_lt, ◌-ℤ◌, codes}
-use Rattle.std.proofs.lemmas.Bool.Decides.{nat_tests}
-use Rattle.std.proofs.lemmas.Bool.{cases_order}
-use Rattle.jiff_core.specs.Calendar.{day_count, days_from_civil, days_of_months, days_of_years, day_of_year, days_in_month, days_in_year, IsCivilDate}
+use Rattle.std.proofs.Common.{◌≡◌, ℕ, zero, suc, ◌+◌, ◌-◌, ◌*◌, ◌/◌, ◌%◌, ◌<◌, ◌≤◌, inl, inr, arith, refl, ap, pos, ◌-ℤ◌, codes}
+use Rattle.std.proofs.lemmas.Bool.{cases_order, le-ltb, lt-ltb}
+use Rattle.jiff_core.specs.Calendar.{day_count, days_from_civil, days_of_months, day_of_year, days_in_month, days_in_year, IsCivilDate}
 use Rattle.jiff_core.proofs.CalendarLemmas.{days_from_civil-day_count, day_of_year_bound, day_count-next_year, day_count-later_year, day_count-day_of_year, days_of_months-zero, days_of_months_more, days_of_months_mono}
 use Rattle.jiff_core.proofs.SignedLemmas.{signed_arith, unsigned_abs-parts, one_part}
-use Rattle.dv_text.specs.Stamps.{days_since_1900, month_from, seconds_of, stamp_text, text_of, year_from}
-
-lt-true : (a b : ℕ) → a < b → nat_lt a b ≡ true
-lt-true a b h = grind (arith, nat_tests)
-
-lt-false : (a b : ℕ) → b ≤ a → nat_lt a b ≡ false
-lt-false a b h = grind (arith, nat_tests)
+use Rattle.dv_text.proofs.Days.{day_count-1900}
+use Rattle.dv_text.specs.Stamps.{open_end, days_since_1900, month_from, seconds_of, stamp_text, text_of, year_from}
 
 -- the year of a day
 pub year_from-is : (k y0 y r n : ℕ) → y0 ≤ y → y ≤ y0 + k → r < days_in_year (pos y) → n + day_count (pos y0) 1 1 ≡ day_count (pos y) 1 1 + r → year_from k y0 n ≡ (y, r)
@@ -26,11 +20,11 @@ year_from-is (suc k) y0 y r n low high small e =
       | inl same ↦
           let count : day_count (pos y0) 1 1 ≡ day_count (pos y) 1 1 = ap (λ x. day_count (pos x) 1 1) same in
           let days : n ≡ r = omega (arith, e, count) in
-          rw (same, days, lt-true r (days_in_year (pos y)) small) refl
+          rw (same, days, lt-ltb r (days_in_year (pos y)) small) refl
       | inr (inl lt) ↦
           let next : day_count (pos (y0 + 1)) 1 1 ≡ day_count (pos y0) 1 1 + days_in_year (pos y0) = day_count-next_year (pos y0) (pos (y0 + 1)) (omega (arith, signed_arith)) (omega (arith, signed_arith)) in
           let later = day_count-later_year (pos y0) (pos y) (omega (arith, signed_arith)) (omega (arith, signed_arith, lt)) in
-          rw (lt-false n (days_in_year (pos y0)) (omega (arith, e, later)))
+          rw (le-ltb n (days_in_year (pos y0)) (omega (arith, e, later)))
           (year_from-is k (y0 + 1) y r (n - days_in_year (pos y0)) (omega (arith, lt)) (omega (arith, high)) small (omega (arith, e, next, later)))
       | inr (inr gt) ↦ absurd (omega (arith, low, gt))
     ]
@@ -48,19 +42,15 @@ month_from-is (suc k) y m0 m r n first low high small e =
       | inl same ↦
           let count : days_of_months (pos y) (m0 - 1) ≡ days_of_months (pos y) (m - 1) = ap (λ x. days_of_months (pos y) (x - 1)) same in
           let days : n ≡ r = omega (arith, e, count) in
-          rw (same, days, lt-true r (days_in_month (pos y) m) small) refl
+          rw (same, days, lt-ltb r (days_in_month (pos y) m) small) refl
       | inr (inl lt) ↦
           let next = days_of_months_more (pos y) m0 first in
           let later = days_of_months_mono (pos y) m0 (m - 1) (omega (arith, lt)) in
           let back : m0 + 1 - 1 ≡ m0 = omega arith in
-          rw (lt-false n (days_in_month (pos y) m0) (omega (arith, e, next, later)))
+          rw (le-ltb n (days_in_month (pos y) m0) (omega (arith, e, next, later)))
           (month_from-is k y (m0 + 1) m r (n - days_in_month (pos y) m0) (omega arith) (omega (arith, lt)) (omega (arith, high)) small (rw back (omega (arith, e, next, later))))
       | inr (inr gt) ↦ absurd (omega (arith, low, gt))
     ]
-
-count-1900 : day_count (pos 1900) 1 1 ≡ 4_346_386
-unfolding day_count days_of_years days_of_months
-count-1900 = refl
 
 -- the days since 1900, by the days of the years before and the day of the year
 days_since-count : (y m d : ℕ) → 1900 ≤ y → 1 ≤ d → days_since_1900 (pos y) m d + day_count (pos 1900) 1 1 ≡ day_count (pos y) 1 1 + (day_of_year (pos y) m d - 1)
@@ -72,7 +62,7 @@ days_since-count y m d low first =
       | inr (inl lt) ↦ omega (arith, day_count-later_year (pos 1900) (pos y) (omega (arith, signed_arith)) (omega (arith, signed_arith, lt)))
       | inr (inr gt) ↦ absurd (omega (arith, low, gt))
     ] in
-    omega (arith, signed_arith, days_from_civil-day_count (pos y) m d, days_from_civil-day_count (pos 1900) 1 1, unsigned_abs-parts z, one_part z, in_year, later, count-1900, first)
+    omega (arith, signed_arith, days_from_civil-day_count (pos y) m d, days_from_civil-day_count (pos 1900) 1 1, unsigned_abs-parts z, one_part z, in_year, later, day_count-1900, first)
 
 pub stamp_text-is : (y m d h mi s : ℕ) → 1900 ≤ y → y ≤ 9999 → 1 ≤ m → m ≤ 12 → 1 ≤ d → d ≤ days_in_month (pos y) m → h ≤ 23 → mi ≤ 59 → s ≤ 59
     → stamp_text (seconds_of y m d h mi s) ≡ text_of y m d h mi s
@@ -95,6 +85,6 @@ stamp_text-is y m d h mi s low high m1 m12 d1 dm h23 mi59 s59 =
     rw (day, year, month, last, clock, hours, minutes, seconds) refl
 
 -- the end that is open
-pub stamp_text-open : stamp_text 255_611_289_599 ≡ codes "9999-12-31T23:59:59"
+pub stamp_text-open : stamp_text open_end ≡ codes "9999-12-31T23:59:59"
 unfolding stamp_text year_from month_from
 stamp_text-open = refl

@@ -1,27 +1,59 @@
 -- The laws of `sorted_by`.
-use Rattle.std.proofs.Common.{◌≡◌, ◌↔◌, ◌⊎◌, inl, inr, List, [], ◌∷◌, refl, sym, ◌∙◌, ap, subst, arith}
+use Rattle.std.proofs.Common.{◌≡◌, ◌↔◌, ◌⊎◌, inl, inr, ℕ, ◌<◌, length, get_or, List, [], ◌∷◌, ◌++◌, refl, sym, ◌∙◌, ap, subst, arith}
 use Rattle.std.specs.Prelude.{Contains}
 use Rattle.std.specs.declared.cmp.Ordering.{Ordering}
 use Rattle.std.specs.declared.cmp.Ordering.TheVariants.{Less, Equal, Greater}
-use Rattle.std.specs.Ordering.{ordering_reverse}
 use Rattle.std.specs.Cmp.{IsTotalOrder}
 use Rattle.std.specs.FinMap.{IsAntisymmetric}
 use Rattle.std.specs.List.{AllByRecursion}
 use Rattle.std.specs.List.Sorted.{IsStrictlySortedBy}
 use Rattle.dv_text.specs.Sorting.{insert_by, sorted_by}
-use Rattle.dv_text.proofs.Members.{Contains-cons_here, Contains-cons_there, Contains-cons_cases}
+use Rattle.std.specs.Cmp.{tied_back}
+use Rattle.std.proofs.lemmas.Bool.{cases_order}
+use Rattle.std.proofs.lemmas.List.{get_or_default}
+use Rattle.std.proofs.lemmas.List.Elements.{Contains-append_cases}
+use Rattle.std.proofs.lemmas.Map.Keys.{Less-from_sorted}
+use Rattle.dv_text.proofs.Members.{all_members, all_more, Contains-cons_here, Contains-cons_there, Contains-cons_cases, member_of_all}
+use Rattle.dv_text.proofs.Orderings.{asymmetric, irreflexive, less_equal, turned}
 
-all_of : {X : Type 0} (P : X → Type 0) (xs : List X) (x : X) → AllByRecursion P xs → Contains xs x → P x
-all_of P [] x all (k, under, there) = absurd (omega arith)
-all_of P (y ∷ xs) x all has =
-    elim (Contains-cons_cases y xs x has) [
-      | inl same ↦ subst P same all.0
-      | inr rest ↦ all_of P xs x all.1 rest
+-- ---- lists in order
+
+-- an earlier item is less than a later one
+ascending_at : {X : Type 0} (R : X → X → Ordering) (xs : List X) (i j : ℕ) (a b : X) → IsStrictlySortedBy R xs → get_or xs i a ≡ a → get_or xs j b ≡ b → j < length xs → i < j → R a b ≡ Less
+ascending_at R xs i j a b up at_a at_b inside before = sym (λ t. R (at_a t) ((get_or_default xs j a b inside ∙ at_b) t)) ∙ Less-from_sorted R xs i j a up before inside
+
+-- of a list in order no two members tie
+pub one_of_ties : {X : Type 0} {R : X → X → Ordering} → IsTotalOrder R → (xs : List X) → IsStrictlySortedBy R xs → (a b : X) → Contains xs a → Contains xs b → R a b ≡ Equal → a ≡ b
+one_of_ties {R = R} o xs up a b (i, i_in, at_a) (j, j_in, at_b) e =
+    elim (cases_order i j) [
+      | inl same ↦ sym at_a ∙ get_or_default xs i a b i_in ∙ (ap (λ k. get_or xs k b) same ∙ at_b)
+      | inr (inl before) ↦ absurd (less_equal (R a b) (ascending_at R xs i j a b up at_a at_b j_in before) e)
+      | inr (inr behind) ↦ absurd (less_equal (R b a) (ascending_at R xs j i b a up at_b at_a i_in behind) (tied_back o a b e))
     ]
 
-all_more : {X : Type 0} (P Q : X → Type 0) → ((x : X) → P x → Q x) → (xs : List X) → AllByRecursion P xs → AllByRecursion Q xs
-all_more P Q f [] all = tt
-all_more P Q f (x ∷ xs) all = (f x all.0, all_more P Q f xs all.1)
+-- two lists in order, the second behind the first
+pub ascending-append : {X : Type 0} (R : X → X → Ordering) (xs ys : List X) → IsStrictlySortedBy R xs → IsStrictlySortedBy R ys → ((x y : X) → Contains xs x → Contains ys y → R x y ≡ Less) → IsStrictlySortedBy R (xs ++ ys)
+unfolding IsStrictlySortedBy
+ascending-append R [] ys up vp less = vp
+ascending-append R (x ∷ xs) ys up vp less = (
+  all_members (λ y. R x y ≡ Less) (xs ++ ys) (λ y has.
+      elim (Contains-append_cases xs ys y has) [
+        | inl first ↦ member_of_all (λ y. R x y ≡ Less) xs y up.0 first
+        | inr second ↦ less x y (Contains-cons_here x xs) second
+      ]),
+  ascending-append R xs ys up.1 vp (λ a b a_in b_in. less a b (Contains-cons_there x xs a a_in) b_in),
+)
+
+-- the order changes only where two are compared otherwise
+pub ascending-same : {X : Type 0} (R S : X → X → Ordering) (xs : List X) → ((x y : X) → Contains xs x → Contains xs y → R x y ≡ S x y) → IsStrictlySortedBy R xs → IsStrictlySortedBy S xs
+unfolding IsStrictlySortedBy
+ascending-same R S [] same up = tt
+ascending-same R S (x ∷ xs) same up = (
+  all_members (λ y. S x y ≡ Less) xs (λ y has. sym (same x y (Contains-cons_here x xs) (Contains-cons_there x xs y has)) ∙ member_of_all (λ y. R x y ≡ Less) xs y up.0 has),
+  ascending-same R S xs (λ a b a_in b_in. same a b (Contains-cons_there x xs a a_in) (Contains-cons_there x xs b b_in)) up.1,
+)
+
+-- ---- an item in its place
 
 module _ {X : Type 0} (R : X → X → Ordering) where
   all_insert : (P : X → Type 0) (x : X) (ys : List X) → P x → AllByRecursion P ys → AllByRecursion P (insert_by R x ys)
@@ -33,7 +65,7 @@ module _ {X : Type 0} (R : X → X → Ordering) where
       by later Equal e = rw e (p, all.1)
       by later Greater e = rw e (all.0, later)
 
-  inserted_cases : (x : X) (ys : List X) (z : X) → Contains (insert_by R x ys) z → (x ≡ z) ⊎ Contains ys z
+  pub inserted_cases : (x : X) (ys : List X) (z : X) → Contains (insert_by R x ys) z → (x ≡ z) ⊎ Contains ys z
   inserted_cases x [] z has = Contains-cons_cases x [] z has
   inserted_cases x (y ∷ ys) z has = by (inserted_cases x ys z) (R x y) refl has
     where
@@ -47,7 +79,7 @@ module _ {X : Type 0} (R : X → X → Ordering) where
             | inr rest ↦ elim (later rest) [ inl same ↦ inl same | inr more ↦ inr (Contains-cons_there y ys z more) ]
           ]
 
-  inserted_here : (x : X) (ys : List X) → Contains (insert_by R x ys) x
+  pub inserted_here : (x : X) (ys : List X) → Contains (insert_by R x ys) x
   inserted_here x [] = Contains-cons_here x []
   inserted_here x (y ∷ ys) = by (inserted_here x ys) (R x y) refl
     where
@@ -56,7 +88,7 @@ module _ {X : Type 0} (R : X → X → Ordering) where
       by later Equal e = rw e (Contains-cons_here x ys)
       by later Greater e = rw e (Contains-cons_there y (insert_by R x ys) x later)
 
-  inserted_there : (x : X) (ys : List X) (z : X) → (R x z ≡ Equal → x ≡ z) → Contains ys z → Contains (insert_by R x ys) z
+  pub inserted_there : (x : X) (ys : List X) (z : X) → (R x z ≡ Equal → x ≡ z) → Contains ys z → Contains (insert_by R x ys) z
   inserted_there x [] z exact (k, under, there) = absurd (omega arith)
   inserted_there x (y ∷ ys) z exact has = by (inserted_there x ys z exact) (R x y) refl (Contains-cons_cases y ys z has)
     where
@@ -97,15 +129,6 @@ module _ {X : Type 0} (R : X → X → Ordering) where
   sorted_by-sorted (x ∷ y ∷ xs) up = rw (sorted_by-sorted (y ∷ xs) up.1, up.0.0)
 
   module _ (o : IsTotalOrder R) where
-    turned : (x y : X) → R x y ≡ Greater → R y x ≡ Less
-    turned x y e = o.antisymm y x ∙ ap ordering_reverse e
-
-    irreflexive : (x : X) → R x x ≡ Less → ⊥
-    irreflexive x e = let back : R x x ≡ Greater = o.antisymm x x ∙ ap ordering_reverse e in let no : Less ≡ Greater = sym e ∙ back in cc
-
-    asymmetric : (x y : X) → R x y ≡ Less → R y x ≡ Less → ⊥
-    asymmetric x y e f = let back : R x y ≡ Greater = o.antisymm x y ∙ ap ordering_reverse f in let no : Less ≡ Greater = sym e ∙ back in cc
-
     ascending-insert : (x : X) (ys : List X) → IsStrictlySortedBy R ys → IsStrictlySortedBy R (insert_by R x ys)
     unfolding IsStrictlySortedBy
     ascending-insert x [] up = (tt, tt)
@@ -114,7 +137,7 @@ module _ {X : Type 0} (R : X → X → Ordering) where
         by : IsStrictlySortedBy R (insert_by R x ys) → (r : Ordering) → R x y ≡ r → IsStrictlySortedBy R (insert_by R x (y ∷ ys))
         by later Less e = rw e ((e, all_more (λ z. R y z ≡ Less) (λ z. R x z ≡ Less) (λ z l. o.trans x y z e l) ys up.0), up)
         by later Equal e = rw e (all_more (λ z. R y z ≡ Less) (λ z. R x z ≡ Less) (λ z l. o.congr x y z e ∙ l) ys up.0, up.1)
-        by later Greater e = rw e (all_insert (λ z. R y z ≡ Less) x ys (turned x y e) up.0, later)
+        by later Greater e = rw e (all_insert (λ z. R y z ≡ Less) x ys (turned o x y e) up.0, later)
 
     -- the items stand in order, each once
     pub ascending-sorted_by : (xs : List X) → IsStrictlySortedBy R (sorted_by R xs)
@@ -135,17 +158,17 @@ module _ {X : Type 0} (R : X → X → Ordering) where
           | inr in_ys ↦
               elim (Contains-cons_cases x xs y (g y (Contains-cons_here y ys))) [
                 | inl same ↦ same
-                | inr in_xs ↦ absurd (asymmetric x y (all_of (λ z. R x z ≡ Less) xs y up.0 in_xs) (all_of (λ z. R y z ≡ Less) ys x vp.0 in_ys))
+                | inr in_xs ↦ absurd (asymmetric o x y (member_of_all (λ z. R x z ≡ Less) xs y up.0 in_xs) (member_of_all (λ z. R y z ≡ Less) ys x vp.0 in_ys))
               ]
         ] in
         let there : (z : X) → Contains xs z → Contains ys z = λ z member.
         elim (Contains-cons_cases y ys z (f z (Contains-cons_there x xs z member))) [
-          | inl same ↦ absurd (irreflexive x (ap (R x) (head ∙ same) ∙ all_of (λ w. R x w ≡ Less) xs z up.0 member))
+          | inl same ↦ absurd (irreflexive o x (ap (R x) (head ∙ same) ∙ member_of_all (λ w. R x w ≡ Less) xs z up.0 member))
           | inr rest ↦ rest
         ] in
         let back : (z : X) → Contains ys z → Contains xs z = λ z member.
         elim (Contains-cons_cases x xs z (g z (Contains-cons_there y ys z member))) [
-          | inl same ↦ absurd (irreflexive y (ap (R y) (sym head ∙ same) ∙ all_of (λ w. R y w ≡ Less) ys z vp.0 member))
+          | inl same ↦ absurd (irreflexive o y (ap (R y) (sym head ∙ same) ∙ member_of_all (λ w. R y w ≡ Less) ys z vp.0 member))
           | inr rest ↦ rest
         ] in
         let rest : xs ≡ ys = same_ascending xs ys up.1 vp.1 there back in

@@ -57,9 +57,13 @@ stamp_of t = stamp_in 9998 t
 abbrev pub open_end : ℕ
 open_end = 255_611_289_599
 
+-- the first second of the year 9999: the load dates and snapshot dates are before it
+abbrev pub end_of_stamps : ℕ
+end_of_stamps = 255_579_753_600
+
 -- the number of a stamp of a year up to 9998, or of the open end
 abbrev pub is_stamp_number : ℕ → Bool
-is_stamp_number n = nat_lt n 255_579_753_600 || (n == open_end)
+is_stamp_number n = nat_lt n end_of_stamps || (n == open_end)
 
 -- the year that a day falls in, counted off from a year, and the days before it in that year
 unfoldable pub year_from : ℕ → ℕ → ℕ → ℕ × ℕ

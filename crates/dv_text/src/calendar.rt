@@ -2,7 +2,6 @@
 ghost use Rattle.std.specs.Prelude.{◌≡◌, ◌+◌, ◌*◌, ◌<◌, ◌≤◌, length, pos, IsTrue, IfSome, Some};
 ghost use Rattle.jiff.specs.Words.{IsBetween};
 ghost use Rattle.jiff_core.specs.Time.{time_seconds};
-ghost use Rattle.dv_text.specs.declared.calendar.TheConstants.{END_OF_STAMPS};
 ghost use Rattle.dv_text.specs.Stamps as spec;
 
 use jiff::Timestamp;
@@ -14,9 +13,6 @@ const TO_UNIX_EPOCH: i64 = 2_208_988_800;
 
 // The seconds from 1900-01-01T00:00:00 to 9999-01-01T00:00:00.
 pub(crate) const END_OF_STAMPS: u64 = 255_579_753_600;
-
-// The seconds from 1900-01-01T00:00:00 to 9999-12-31T23:59:59, where an open end stands.
-pub(crate) const OPEN_SECONDS: u64 = 255_611_289_599;
 
 // Whether two digits stand at a place.
 fn are_two_digits(text: &[u8], at: usize) -> bool
@@ -73,7 +69,7 @@ fn seconds_at(date: Date, time: Time) -> u64
     requires year { IsBetween (pos 1900) (pos 9998) date.year }
     requires whole { time.subsec_nanosecond ≡ 0 }
     ensures value { result ≡ spec.days_since_1900 date.year date.month date.day * 86400 + time_seconds time }
-    ensures small { result < END_OF_STAMPS }
+    ensures small { result < spec.end_of_stamps }
 {
     match Offset::UTC.to_timestamp(DateTime::from_parts(date, time)) {
         Ok(instant) => (instant.as_second() + TO_UNIX_EPOCH) as u64,
@@ -97,7 +93,7 @@ pub(crate) fn seconds_if(
     requires minute { minute < 100 }
     requires second { second < 100 }
     ensures value { result ≡ spec.seconds_if 9998 year month day hour minute second }
-    ensures small { IfSome result (λ s. s < END_OF_STAMPS) }
+    ensures small { IfSome result (λ s. s < spec.end_of_stamps) }
 {
     if year < 1900 || year > 9998 {
         return None;
@@ -144,7 +140,7 @@ pub(crate) fn shown(year: u16, month: u8, day: u8, hour: u8, minute: u8, second:
 
 // The date and the time of day of so many seconds since 1900-01-01T00:00:00.
 pub(crate) fn date_time(seconds: u64) -> DateTime
-    requires { seconds < END_OF_STAMPS }
+    requires { seconds < spec.end_of_stamps }
     ensures year { IsBetween (pos 1900) (pos 9998) result.date.year }
     ensures whole { result.time.subsec_nanosecond ≡ 0 }
     ensures value { seconds ≡ spec.days_since_1900 result.date.year result.date.month result.date.day * 86400 + time_seconds result.time }

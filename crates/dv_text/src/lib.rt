@@ -18,7 +18,7 @@ pub use key_digest::KeyDigest;
 pub use lists::List;
 pub use normal::{field, joined, key_part};
 pub use orders::{Exact, sorted_distinct, sorted_rows};
-pub use rows::{Key, NRow, Staged, Window, WindowHead};
+pub use rows::{Key, NRow, Staged, Window, WindowHead, are_missing};
 pub use stamps::Stamp;
 pub use texts::Text;
 

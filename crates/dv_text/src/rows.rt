@@ -1,3 +1,7 @@
+ghost use Rattle.std.specs.Prelude.{◌≡◌};
+ghost use Rattle.std.specs.List.{list_all};
+ghost use Rattle.dv_text.specs.Keys as keys;
+
 use crate::failure::{Duplicate, Memory};
 use crate::lists::List;
 use crate::stamps::Stamp;
@@ -7,6 +11,25 @@ use crate::texts::Text;
 #[derive(Debug, PartialEq, Eq, PartialOrd, Ord, Drop)]
 pub struct Key {
     pub parts: List<Text>,
+}
+
+impl Key {
+    /// Whether the key is missing: all its parts are empty. Takes no memory.
+    pub fn is_missing(&self) -> bool
+        ensures { result ≡ keys.is_missing self.now }
+    {
+        self.parts
+            .items()
+            .iter()
+            .all(|part| part.bytes().is_empty())
+    }
+}
+
+/// Whether every key of a reference list is missing. Takes no memory.
+pub fn are_missing(refs: &[Key]) -> bool
+    ensures { result ≡ list_all keys.is_missing refs.now }
+{
+    refs.iter().all(|key| key.is_missing())
 }
 
 impl Duplicate for Key {

@@ -1,10 +1,8 @@
 ghost use Rattle.std.specs.Prelude.{◌≡◌, ◌≢◌, ℕ, pos, codes, Some, IfSome, IfNone, IsTrue};
-ghost use Rattle.dv_text.specs.Stamps.{is_stamp_number, stamp_of, stamp_text};
-ghost use Rattle.dv_text.specs.declared.calendar.TheConstants.{OPEN_SECONDS};
+ghost use Rattle.std.specs.Prelude.{◌==◌};
+ghost use Rattle.dv_text.specs.Stamps.{is_stamp_number, open_end, stamp_of, stamp_text};
 
-use crate::calendar::{
-    END_OF_STAMPS, OPEN_SECONDS, date_time, has_form, seconds_if, shown, two_digits,
-};
+use crate::calendar::{END_OF_STAMPS, date_time, has_form, seconds_if, shown, two_digits};
 use crate::failure::{Duplicate, Memory};
 use std::marker::Model;
 
@@ -31,8 +29,15 @@ impl Model for Stamp {
 impl Stamp {
     /// The end of what has no end yet, which prints as `9999-12-31T23:59:59`. No text reads as it.
     pub const OPEN: Stamp = Stamp {
-        seconds: OPEN_SECONDS,
+        seconds: 255_611_289_599,
     };
+
+    /// Whether the stamp is `OPEN`. Takes no memory.
+    pub fn is_open(self) -> bool
+        ensures { result ≡ (self == open_end) }
+    {
+        self == Stamp::OPEN
+    }
 
     /// The stamp that a text `YYYY-MM-DDTHH:MM:SS` says: a year from 1900 to 9998, a date of the
     /// Gregorian calendar and a time of day to 23:59:59. None for any other text. Takes no memory.
@@ -59,10 +64,10 @@ impl Stamp {
     /// The text of the stamp, in the form that `read` takes. Takes no memory.
     pub fn print(self) -> [u8; 19]
         ensures shown { result ≡ stamp_text self }
-        ensures reads_back { self ≢ OPEN_SECONDS → stamp_of result ≡ Some self }
-        ensures open { self ≡ OPEN_SECONDS → result ≡ codes "9999-12-31T23:59:59" }
+        ensures reads_back { self ≢ open_end → stamp_of result ≡ Some self }
+        ensures open { self ≡ open_end → result ≡ codes "9999-12-31T23:59:59" }
     {
-        if self.seconds == OPEN_SECONDS {
+        if self.is_open() {
             return *b"9999-12-31T23:59:59";
         }
         let at = date_time(self.seconds);
@@ -94,7 +99,7 @@ impl Stamp {
             return None;
         }
         let seconds = n as u64;
-        if seconds < END_OF_STAMPS || seconds == OPEN_SECONDS {
+        if seconds < END_OF_STAMPS || seconds == Stamp::OPEN.seconds {
             Some(Stamp { seconds })
         } else {
             None

@@ -21,19 +21,18 @@ shifted r n e small =
     let inner = back_small w64 r near in
     rw (inner, e) (back_small w64 (pos n) (omega arith))
 
-value : (c : goal.After-as_second) → to_z w64 (of_z w64 (to_z w64 (of_z w64 c.as_second.result) +ℤ pos 2_208_988_800)) ≡ pos (days_since_1900 c.args.date.year c.args.date.month c.args.date.day * 86_400 + time_seconds c.args.time)
-value c =
+small : (c : goal.After-as_second) → days_since_1900 c.args.date.year c.args.date.month c.args.date.day * 86_400 + time_seconds c.args.time < 255_579_753_600
+small c =
     let day = day_since c.args.date c.requires.year.0 c.requires.year.1 in
     let range = day_range c.args.date c.requires.year.0 c.requires.year.1 in
     let days : days_since_1900 c.args.date.year c.args.date.month c.args.date.day < 2_958_099 = omega (arith, signed_arith, day, range.1) in
-    shifted c.as_second.result _ (since c) (omega (arith, days, c.args.time.hour_in, c.args.time.minute_in, c.args.time.second_in))
+    omega (arith, days, c.args.time.hour_in, c.args.time.minute_in, c.args.time.second_in)
+
+value : (c : goal.After-as_second) → to_z w64 (of_z w64 (to_z w64 (of_z w64 c.as_second.result) +ℤ pos 2_208_988_800)) ≡ pos (days_since_1900 c.args.date.year c.args.date.month c.args.date.day * 86_400 + time_seconds c.args.time)
+value c = shifted c.as_second.result _ (since c) (omega (arith, small c))
 
 pub overflow_cast-result : goal.overflow_cast-result
-overflow_cast-result c =
-    let day = day_since c.args.date c.requires.year.0 c.requires.year.1 in
-    let range = day_range c.args.date c.requires.year.0 c.requires.year.1 in
-    let days : days_since_1900 c.args.date.year c.args.date.month c.args.date.day < 2_958_099 = omega (arith, signed_arith, day, range.1) in
-    rw (value c) (tt, omega (arith, days, c.args.time.hour_in, c.args.time.minute_in, c.args.time.second_in))
+overflow_cast-result c = rw (value c) (tt, omega (arith, small c))
 
 pub unreachable-requires : goal.unreachable-requires
 unreachable-requires c =
@@ -45,8 +44,4 @@ pub returns-clause-value : goal.returns-clause-value
 returns-clause-value c = rw (value c) refl
 
 pub returns-clause-small : goal.returns-clause-small
-returns-clause-small c =
-    let day = day_since c.args.date c.requires.year.0 c.requires.year.1 in
-    let range = day_range c.args.date c.requires.year.0 c.requires.year.1 in
-    let days : days_since_1900 c.args.date.year c.args.date.month c.args.date.day < 2_958_099 = omega (arith, signed_arith, day, range.1) in
-    rw (value c) (omega (arith, days, c.args.time.hour_in, c.args.time.minute_in, c.args.time.second_in))
+returns-clause-small c = rw (value c) (small c)

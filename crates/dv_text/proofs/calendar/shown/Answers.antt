@@ -1,12 +1,10 @@
 use Rattle.std.proofs.Common.{sym}
-use Rattle.dv_text.proofs.Forms.{shown, there-parts, there-small}
+use Rattle.dv_text.proofs.Forms.{shown, there-parts}
 use Rattle.dv_text.proofs.Shown.{stamp_text-is}
 use Rattle.dv_text.proofs.calendar.shown.Goals as goal
 
 pub returns-clause-value : goal.returns-clause-value
-returns-clause-value c =
-    let s = there-small c.args.year c.args.month c.args.day c.args.hour c.args.minute c.args.second c.requires in
-    shown c.args.year c.args.month c.args.day c.args.hour c.args.minute c.args.second s.year s.month s.day s.hour s.minute s.second c.requires
+returns-clause-value c = shown c.args.year c.args.month c.args.day c.args.hour c.args.minute c.args.second c.requires
 
 pub returns-clause-shown : goal.returns-clause-shown
 returns-clause-shown c =

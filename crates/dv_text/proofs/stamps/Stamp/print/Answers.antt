@@ -1,8 +1,8 @@
 use Rattle.std.proofs.Common.{sym, ◌∙◌, ap}
+use Rattle.std.proofs.lemmas.Bool.{eqb-true}
 use Rattle.dv_text.specs.Stamps.{stamp_text}
 use Rattle.dv_text.proofs.Shown.{stamp_text-open}
 use Rattle.dv_text.proofs.stamps.Stamp.print.Goals as goal
 
-pub returns-then-self-eq-OPEN_SECONDS-clause-shown :
-    goal.returns-then-self-eq-OPEN_SECONDS-clause-shown
-returns-then-self-eq-OPEN_SECONDS-clause-shown c = sym (ap stamp_text (sym c.self.view_is ∙ c.if-self-eq-OPEN_SECONDS.true) ∙ stamp_text-open)
+pub returns-then-is_open-clause-shown : goal.returns-then-is_open-clause-shown
+returns-then-is_open-clause-shown c = sym (ap stamp_text (eqb-true _ _ (sym c.is_open.ensures ∙ c.if-is_open.true)) ∙ stamp_text-open)

@@ -1,0 +1,41 @@
+-- What is in an option, and what a list has at a place.
+use Rattle.std.proofs.Common.{◌≡◌, inl, inr, ℕ, ◌<◌, ◌≤◌, length, true, List, Option, Some, None, refl, sym, ◌∙◌, arith}
+use Rattle.std.specs.Prelude.{Contains, slice_get}
+use Rattle.std.specs.Option.{is_none, option_map, option_or}
+use Rattle.std.proofs.lemmas.Option.{get_or_from_slice_get, slice_get_cases, slice_get_within}
+
+pub none_from : {X : Type 0} (o : Option X) → is_none o ≡ true → o ≡ None
+none_from None e = refl
+none_from (Some x) e = cc
+
+-- what two readings of one option give is one value
+pub one_value : {X : Type 0} (o : Option X) (a b : X) → o ≡ Some a → o ≡ Some b → a ≡ b
+one_value o a b e f = let both : Some a ≡ Some b = sym e ∙ f in cc
+
+pub option_or-none : {X : Type 0} (o : Option X) → option_or o None ≡ o
+option_or-none None = refl
+option_or-none (Some x) = refl
+
+pub or_none : {X : Type 0} (a b : Option X) → option_or a b ≡ None → (a ≡ None) × (b ≡ None)
+or_none None b e = (refl, e)
+or_none (Some x) b e = cc
+
+pub none_before_map : {X Y : Type 0} (f : X → Y) (o : Option X) → option_map f o ≡ None → o ≡ None
+none_before_map f None e = refl
+none_before_map f (Some x) e = cc
+
+-- what a mapped option has is made of what the option has
+pub made_of : {X Y : Type 0} (f : X → Y) (o : Option X) (y : Y) → option_map f o ≡ Some y → (x : X) × (o ≡ Some x) × (f x ≡ y)
+made_of f None y e = cc
+made_of f (Some x) y e = let is : Some (f x) ≡ Some y = e in (x, refl, cc)
+
+-- ---- what a place has
+
+pub got_member : {X : Type 0} (xs : List X) (n : ℕ) (x : X) → slice_get xs n ≡ Some x → Contains xs x
+got_member xs n x e = (n, slice_get_within xs n x e, get_or_from_slice_get xs n x x e)
+
+pub got_from : {X : Type 0} (xs : List X) (n : ℕ) → n < length xs → (x : X) × (slice_get xs n ≡ Some x)
+got_from xs n under = elim (slice_get_cases xs n).1 [ inl (x, within, got, is) ↦ (x, got) | inr (past, none) ↦ absurd (omega (arith, past, under)) ]
+
+pub none_behind : {X : Type 0} (xs : List X) (n : ℕ) → slice_get xs n ≡ None → length xs ≤ n
+none_behind xs n e = elim (slice_get_cases xs n).1 [ inl (x, within, got, is) ↦ let no : Some x ≡ None = sym got ∙ e in cc | inr (past, none) ↦ past ]
