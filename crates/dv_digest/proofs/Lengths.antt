@@ -1,15 +1,12 @@
 -- How long joined texts are, and that those of a staged row fit.
 use Rattle.std.proofs.Common.{◌≡◌, ◌≤◌, ◌+◌, ◌-◌, ◌*◌, ◌∷◌, [], ℕ, List, Bool, true, false, ◌&&◌, length, map, nat_le, arith, length-append, leb-true, le-leb, refl, suc-mul, mul-le-mul_right}
 use Rattle.std.specs.List.{join_with_byte, list_all}
+use Rattle.std.proofs.lemmas.Bool.{and_parts}
 use Rattle.std.proofs.lemmas.List.{length-map}
 use Rattle.dv_text.specs.declared.rows.Key.{Key}
 use Rattle.dv_text.specs.Keys.{joined, key_text, refs_text}
 use Rattle.dv_digest.specs.declared.rooms.TheConstants.{ROOM_SIZE}
 use Rattle.dv_digest.specs.Fits.{attrs_fit, refs_fit, texts_fit}
-
-both : (a b : Bool) → (a && b) ≡ true → (a ≡ true) × (b ≡ true)
-both true b h = (refl, h)
-both false b h = cc
 
 -- texts of at most so many bytes
 abbrev are_short : ℕ → List (List ℕ) → Bool
@@ -18,7 +15,7 @@ are_short most texts = list_all (λ text. nat_le (length text) most) texts
 length-join : (c most : ℕ) (x : List ℕ) (xs : List (List ℕ)) → are_short most (x ∷ xs) ≡ true → length (join_with_byte c (x ∷ xs)) + 1 ≤ length (x ∷ xs) * (most + 1)
 length-join c most x [] h = grind arith
 length-join c most x (y ∷ xs) h =
-    let parts = both (nat_le (length x) most) (are_short most (y ∷ xs)) h in
+    let parts = and_parts (nat_le (length x) most) (are_short most (y ∷ xs)) h in
     let here = leb-true (length x) most parts.0 in
     let behind = length-join c most y xs parts.1 in
     let long = length-append x (c ∷ join_with_byte c (y ∷ xs)) in
@@ -35,14 +32,14 @@ length-joined count most (x ∷ xs) few h =
 
 texts_fit-length : (count : ℕ) (texts : List (List ℕ)) → texts_fit count texts ≡ true → length (joined texts) ≤ count * 4097 - 1
 texts_fit-length count texts h =
-    let parts = both (nat_le (length texts) count) (are_short 4096 texts) h in
+    let parts = and_parts (nat_le (length texts) count) (are_short 4096 texts) h in
     length-joined count 4096 texts (leb-true (length texts) count parts.0) parts.1
 
 -- each key's text is at most 16,387 bytes long
 short_keys : (refs : List Key) → list_all (λ key. texts_fit 4 key.parts) refs ≡ true → are_short 16387 (map key_text refs) ≡ true
 short_keys [] h = refl
 short_keys (key ∷ refs) h =
-    let parts = both (texts_fit 4 key.parts) (list_all (λ key. texts_fit 4 key.parts) refs) h in
+    let parts = and_parts (texts_fit 4 key.parts) (list_all (λ key. texts_fit 4 key.parts) refs) h in
     let here = le-leb (length (key_text key)) 16387 (texts_fit-length 4 key.parts parts.0) in
     rw (here, short_keys refs parts.1) refl
 
@@ -52,7 +49,7 @@ refs_text-length refs few h = length-joined 4 16387 (map key_text refs) (omega (
 
 pub refs_text_fits : (refs : List Key) → refs_fit refs ≡ true → length (refs_text refs) ≤ ROOM_SIZE
 refs_text_fits refs h =
-    let parts = both (nat_le (length refs) 4) (list_all (λ key. texts_fit 4 key.parts) refs) h in
+    let parts = and_parts (nat_le (length refs) 4) (list_all (λ key. texts_fit 4 key.parts) refs) h in
     omega (arith, refs_text-length refs (leb-true (length refs) 4 parts.0) parts.1)
 
 -- the text of attributes fits a room

@@ -1,24 +1,10 @@
 // The hash key of references and the hash difference of attributes, over a text that is put together in a room.
 ghost use Rattle.std.specs.Prelude.{◌≡◌, ◌≤◌, ◌+◌, ◌++◌, length};
-ghost use Rattle.std.specs.List.{list_all};
 ghost use Rattle.dv_text.specs.Keys.{hashes_of, joined, refs_text};
-ghost use Rattle.dv_text.specs.Keys as keys;
 ghost use Rattle.dv_digest.specs.declared.rooms.TheConstants.{ROOM_SIZE};
 
 use crate::rooms::Room;
-use dv_text::{Digest, Key, KeyDigest, List, Text};
-
-fn is_missing(key: &Key) -> bool
-    ensures { result ≡ keys.is_missing key.now }
-{
-    key.parts.items().iter().all(|part| part.bytes().is_empty())
-}
-
-fn are_missing(refs: &[Key]) -> bool
-    ensures { result ≡ list_all keys.is_missing refs.now }
-{
-    refs.iter().all(is_missing)
-}
+use dv_text::{Digest, Key, KeyDigest, List, Text, are_missing};
 
 // Puts texts into the room, with a semicolon between each and the next.
 fn put_texts(room: &mut Room, texts: &[Text])

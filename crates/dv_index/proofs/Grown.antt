@@ -2,7 +2,7 @@
 use Rattle.std.proofs.Common.{◌≡◌, ℕ, ◌+◌, ◌-◌, ◌≤◌, List, [], ◌++◌, length, get_or, take, arith, ap, subst, sym, ◌∙◌}
 use Rattle.std.specs.List.{range_with_len}
 use Rattle.std.specs.List.Sorted.{IsPermutation, IsSorted}
-use Rattle.std.proofs.lemmas.List.{get_or-take, length-take-le, map-append, take_at}
+use Rattle.std.proofs.lemmas.List.{get_or-take, length-append, length-map, length-take-le, map-append, take_at}
 use Rattle.std.proofs.lemmas.List.FromFn.{length-range_with_len}
 use Rattle.std.proofs.lemmas.List.Sorted.{IsPermutation-append_left, IsPermutation-append_right, IsPermutation-trans, length_permutation}
 use Rattle.dv_index.specs.Places.{Place}
@@ -44,3 +44,7 @@ pub grown_numbers : (parents : List (List ℕ)) (index range arrivals sorted : L
 grown_numbers parents index range arrivals sorted fewer is e moved merged =
     all_numbers parents index (index ++ range) sorted fewer is (ap (λ l. index ++ l) e)
     (IsPermutation-trans (index ++ range) (index ++ arrivals) sorted (IsPermutation-append_right index range arrivals moved) merged)
+
+-- with others behind some rows, there are as many as the index of these has numbers, and the others
+pub counted : {X : Type 0} (place : X → Place) (old more all : List X) (index : List ℕ) → all ≡ old ++ more → IsIndex (parents_of place old) index → length all ≡ length index + length more
+counted place old more all index e is = omega (arith, ap length e, length-append old more, index_length (parents_of place old) index is, length-map old (λ row. (place row).parent))

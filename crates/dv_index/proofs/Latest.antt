@@ -4,7 +4,7 @@ use Rattle.std.specs.declared.cmp.Ordering.{Ordering}
 use Rattle.std.specs.declared.cmp.Ordering.TheVariants.{Less, Equal, Greater}
 use Rattle.std.specs.List.Sorted.{IsPartitionPoint}
 use Rattle.std.specs.Str.{bytes_eq}
-use Rattle.std.proofs.lemmas.Bool.{and_from, and_parts, cases_lt, false≢true, le-leb, leb-true}
+use Rattle.std.proofs.lemmas.Bool.{and_from, and_parts, cases_lt, false_from_ne_true, false≢true, le-leb, leb-true}
 use Rattle.std.proofs.lemmas.Cmp.{nat_list_cmp_total, tied_itself}
 use Rattle.std.proofs.lemmas.List.{get_or_default, get_or-map, length-map}
 use Rattle.std.proofs.lemmas.Slice.Eq.{bytes_eq-Decides}
@@ -61,16 +61,9 @@ module _ {X : Type 0} (place : X → Place) (rows : List X) (index : List ℕ) (
         | inr behind ↦ absurd (false≢true (sym (rw here at (point.1 k 0 behind inside)) ∙ reached))
       ]
 
-  fails_where : (d : X) (j : ℕ) → (passes (get_or rows j d) ≡ true → ⊥) → passes (get_or rows j d) ≡ false
-  fails_where d j fails = by (passes (get_or rows j d)) refl
-    where
-      by : (b : Bool) → passes (get_or rows j d) ≡ b → passes (get_or rows j d) ≡ false
-      by true e = absurd (fails e)
-      by false e = e
-
   -- where nothing is reached, there is none
   pub latest_at_start : count ≡ 0 → latest_at place rows parent date ≡ None
-  latest_at_start none = last_none passes rows (λ j d under. fails_where d j (λ pass. let (k, before, here) = stands j d under pass in omega arith))
+  latest_at_start none = last_none passes rows (λ j d under. false_from_ne_true (passes (get_or rows j d)) (λ pass. let (k, before, here) = stands j d under pass in omega arith))
 
   -- the last number that is reached
   module _ (some : 0 < count) (row : X) (read : row ≡ get_or rows (get_or index (count - 1) 0) row) where
@@ -92,7 +85,7 @@ module _ {X : Type 0} (place : X → Place) (rows : List X) (index : List ℕ) (
         rw (sym read) at (last_found passes rows (get_or index (count - 1) 0) row inside (rw (sym read) pass) later)
       where
         later : (j : ℕ) (e : X) → get_or index (count - 1) 0 < j → j < length rows → passes (get_or rows j e) ≡ false
-        later j e behind under = fails_where e j (λ pass.
+        later j e behind under = false_from_ne_true (passes (get_or rows j e)) (λ pass.
             let (k, before, here) = stands j e under pass in
             let ordered = rw here at (in_order (parents_of place rows) index is k (count - 1) 0 (omega arith) (omega arith)) in
             let tied = same_cmp (parent_at (parents_of place rows) (get_or index (count - 1) 0)) (parent_at (parents_of place rows) j) (its_parent ∙ same ∙ sym (of_parent j e under pass)) in
@@ -101,7 +94,7 @@ module _ {X : Type 0} (place : X → Place) (rows : List X) (index : List ℕ) (
 
     -- there is none, if it is of another parent
     pub latest_missing : ((place row).parent ≡ parent → ⊥) → latest_at place rows parent date ≡ None
-    latest_missing differs = last_none passes rows (λ j d under. fails_where d j (λ pass.
+    latest_missing differs = last_none passes rows (λ j d under. false_from_ne_true (passes (get_or rows j d)) (λ pass.
         let reached = point.0 (count - 1) 0 (omega arith) (omega arith) in
         let less = reached_lesser _ parent _ (λ same. differs (sym its_parent ∙ same)) reached in
         let (k, before, here) = stands j d under pass in

@@ -1,94 +1,55 @@
 -- Merging from the back: what was moved so far, and that it stands in order.
-use Rattle.std.proofs.Common.{◌≡◌, ℕ, zero, suc, ◌+◌, ◌<◌, ◌≤◌, inl, inr, Bool, true, false, List, [], ◌∷◌, ◌++◌, length, get_or, take, drop, refl, sym, ◌∙◌, ap, subst, arith, append_assoc, append-nil, length-append}
+use Rattle.std.proofs.Common.{◌≡◌, ℕ, ◌+◌, ◌<◌, ◌≤◌, inl, inr, Bool, true, false, List, [], ◌∷◌, ◌++◌, length, get_or, take, drop, refl, sym, ◌∙◌, ap, subst, arith, append_assoc, append-nil, length-append}
 use Rattle.std.specs.Prelude.{Contains, not}
 use Rattle.std.specs.Cmp.{IsStrictWeakOrder}
-use Rattle.std.specs.List.{AllByRecursion}
+use Rattle.std.specs.List.{AllPairs}
 use Rattle.std.specs.List.Sorted.{IsPartitionPoint, IsPartitionedBy, IsPermutation, IsSortedBy}
+use Rattle.std.proofs.lemmas.Bool.{not_from_false, not-false, not-true}
 use Rattle.std.proofs.lemmas.List.{drop_all, drop_at, drop_more, get_or-append-add, get_or_append_left, get_or_default, length-take-le, take-append-drop, take-take, take_all, take_at, take_more}
-use Rattle.std.proofs.lemmas.List.Elements.{Contains-append_cases, Contains-append_left, Contains-append_right}
+use Rattle.std.proofs.lemmas.List.Elements.{Contains-append_cases, Contains-append_left, Contains-append_right, Contains-get_or}
+use Rattle.std.proofs.lemmas.List.Kept.{AllPairs-cons}
 use Rattle.std.proofs.lemmas.List.Sorted.{IsPermutation-append_right, IsPermutation-cons, IsPermutation-middle, IsPermutation-refl, IsPermutation-trans, sorted_far}
 use Rattle.dv_text.proofs.Members.{Contains-cons_cases, Contains-cons_here, Contains-cons_there}
 
 -- no item stands behind one that comes after it
 abbrev pub Rising : {X : Type 0} → (X → X → Bool) → List X → Type 0
-Rising lt [] = Unit {0}
-Rising lt (x ∷ xs) = AllByRecursion (λ y. lt y x ≡ false) xs × Rising lt xs
-
-no_member : {X A : Type 0} (x : X) → Contains [] x → A
-no_member x (k, under, there) = absurd (omega arith)
-
-all_members : {X : Type 0} (P : X → Type 0) (xs : List X) → ((x : X) → Contains xs x → P x) → AllByRecursion P xs
-all_members P [] f = tt
-all_members P (x ∷ xs) f = (f x (Contains-cons_here x xs), all_members P xs (λ y has. f y (Contains-cons_there x xs y has)))
-
-member_of_all : {X : Type 0} (P : X → Type 0) (xs : List X) (x : X) → AllByRecursion P xs → Contains xs x → P x
-member_of_all P [] x all has = no_member x has
-member_of_all P (y ∷ xs) x all has =
-    elim (Contains-cons_cases y xs x has) [
-      | inl same ↦ subst P same all.0
-      | inr rest ↦ member_of_all P xs x all.1 rest
-    ]
+Rising lt = AllPairs (λ x y. lt y x ≡ false)
 
 module _ {X : Type 0} (lt : X → X → Bool) where
-  rising_append : (xs ys : List X) → Rising lt xs → Rising lt ys → ((x y : X) → Contains xs x → Contains ys y → lt y x ≡ false) → Rising lt (xs ++ ys)
-  rising_append [] ys up vp cross = vp
-  rising_append (x ∷ xs) ys up vp cross = (
-    all_members (λ y. lt y x ≡ false) (xs ++ ys) (λ y has.
-        elim (Contains-append_cases xs ys y has) [
-          | inl first ↦ member_of_all (λ y. lt y x ≡ false) xs y up.0 first
-          | inr second ↦ cross x y (Contains-cons_here x xs) second
-        ]),
-    rising_append xs ys up.1 vp (λ a b a_in b_in. cross a b (Contains-cons_there x xs a a_in) b_in),
-  )
-
   pub rising_left : (xs ys : List X) → Rising lt (xs ++ ys) → Rising lt xs
-  rising_left [] ys up = tt
-  rising_left (x ∷ xs) ys up = (
-    all_members (λ y. lt y x ≡ false) xs (λ y has. member_of_all (λ y. lt y x ≡ false) (xs ++ ys) y up.0 (Contains-append_left xs ys y has)),
-    rising_left xs ys up.1,
-  )
+  rising_left xs ys up i j d before under = rw (get_or_append_left xs ys d j under, get_or_append_left xs ys d i (omega arith)) at (up i j d before (omega (arith, length-append xs ys)))
 
   rising_right : (xs ys : List X) → Rising lt (xs ++ ys) → Rising lt ys
-  rising_right [] ys up = up
-  rising_right (x ∷ xs) ys up = rising_right xs ys up.1
+  rising_right xs ys up i j d before under = rw (get_or-append-add xs ys j d, get_or-append-add xs ys i d) at (up (length xs + i) (length xs + j) d (omega arith) (omega (arith, length-append xs ys)))
 
   rising_cross : (xs ys : List X) → Rising lt (xs ++ ys) → (x y : X) → Contains xs x → Contains ys y → lt y x ≡ false
-  rising_cross [] ys up x y x_in y_in = no_member x x_in
-  rising_cross (z ∷ xs) ys up x y x_in y_in =
-      elim (Contains-cons_cases z xs x x_in) [
-        | inl same ↦ subst (λ w. lt y w ≡ false) same (member_of_all (λ y. lt y z ≡ false) (xs ++ ys) y up.0 (Contains-append_right xs ys y y_in))
-        | inr rest ↦ rising_cross xs ys up.1 x y rest y_in
-      ]
+  rising_cross xs ys up x y (i, i_in, at_x) (j, j_in, at_y) =
+      let pair = rw (get_or-append-add xs ys j x, get_or_append_left xs ys x i i_in, at_x) at (up i (length xs + j) x (omega arith) (omega (arith, length-append xs ys))) in
+      rw (get_or_default ys j x y j_in, at_y) at pair
 
-  rising_pairs : (xs : List X) (i j : ℕ) (d : X) → Rising lt xs → i < j → j < length xs → lt (get_or xs j d) (get_or xs i d) ≡ false
-  rising_pairs [] i j d up before under = absurd (omega arith)
-  rising_pairs (x ∷ xs) i zero d up before under = absurd (omega arith)
-  rising_pairs (x ∷ xs) zero (suc j) d up before under =
-      member_of_all (λ y. lt y x ≡ false) xs (get_or xs j d) up.0 (j, omega arith, get_or_default xs j (get_or xs j d) d (omega arith))
-  rising_pairs (x ∷ xs) (suc i) (suc j) d up before under = rising_pairs xs i j d up.1 (omega arith) (omega arith)
+  rising_cons : (x : X) (ys : List X) → ((y : X) → Contains ys y → lt y x ≡ false) → Rising lt ys → Rising lt (x ∷ ys)
+  rising_cons x ys each up = AllPairs-cons (λ x y. lt y x ≡ false) x ys (λ k d under. each (get_or ys k d) (Contains-get_or ys k d under)) up
+
+  rising_append : (xs ys : List X) → Rising lt xs → Rising lt ys → ((x y : X) → Contains xs x → Contains ys y → lt y x ≡ false) → Rising lt (xs ++ ys)
+  rising_append [] ys up vp cross = vp
+  rising_append (x ∷ xs) ys up vp cross =
+      rising_cons x (xs ++ ys) (λ y has.
+      elim (Contains-append_cases xs ys y has) [
+        | inl first ↦ rising_cross (x ∷ []) xs up x y (Contains-cons_here x []) first
+        | inr second ↦ cross x y (Contains-cons_here x xs) second
+      ])
+      (rising_append xs ys (rising_right (x ∷ []) xs up) vp (λ a b a_in b_in. cross a b (Contains-cons_there x xs a a_in) b_in))
 
   pub sorted_from_rising : (xs : List X) → Rising lt xs → IsSortedBy lt xs
-  sorted_from_rising xs up k d low under = rising_pairs xs k (k + 1) d up (omega arith) under
+  sorted_from_rising xs up k d low under = up k (k + 1) d (omega arith) under
 
   module _ (o : IsStrictWeakOrder lt) where
     pub rising_from_sorted : (xs : List X) → IsSortedBy lt xs → Rising lt xs
-    rising_from_sorted [] up = tt
-    rising_from_sorted (x ∷ xs) up = (
-      all_members (λ y. lt y x ≡ false) xs (λ y (k, under, there). subst (λ w. lt w x ≡ false) there (sorted_far lt o (x ∷ xs) up 0 (suc k) y (omega arith) (omega arith))),
-      rising_from_sorted xs (λ k d low under. let e : suc k + 1 ≡ suc (k + 1) = omega arith in rw e at (up (suc k) d (omega arith) (omega arith))),
-    )
+    rising_from_sorted xs up i j d before under = sorted_far lt o xs up i j d (omega arith) under
 
     -- what stands up to an item comes first
     pub up_to_first : (xs : List X) (x : X) → IsSortedBy lt xs → IsPartitionedBy (λ y. not (lt x y)) xs
-    up_to_first xs x up i j d le under passes = unless (lt x (get_or xs i d)) (o.chain x (get_or xs j d) (get_or xs i d) (negated (lt x (get_or xs j d)) passes) (sorted_far lt o xs up i j d le under))
-      where
-        negated : (b : Bool) → not b ≡ true → b ≡ false
-        negated false e = refl
-        negated true e = cc
-
-        unless : (b : Bool) → b ≡ false → not b ≡ true
-        unless false e = refl
-        unless true e = cc
+    up_to_first xs x up i j d le under passes = not_from_false (lt x (get_or xs i d)) (o.chain x (get_or xs j d) (get_or xs i d) (not-true (lt x (get_or xs j d)) passes) (sorted_far lt o xs up i j d le under))
 
     -- an item goes between those that stand up to it and the others
     put_between : (a b c f : List X) (x : X) → Rising lt ((a ++ b) ++ f) → Rising lt ((c ++ x ∷ []) ++ f) → ((y : X) → Contains a y → lt x y ≡ false) → ((y : X) → Contains b y → lt x y ≡ true)
@@ -116,14 +77,13 @@ module _ {X : Type 0} (lt : X → X → Bool) where
     )
       where
         rest : Rising lt (x ∷ (b ++ f))
-        rest = (
-          all_members (λ y. lt y x ≡ false) (b ++ f) (λ y has.
-              elim (Contains-append_cases b f y has) [
-                | inl in_b ↦ o.one_way x y (second y in_b)
-                | inr in_f ↦ rising_cross (c ++ x ∷ []) f news x y (Contains-append_right c (x ∷ []) x (Contains-cons_here x [])) in_f
-              ]),
-          rising_append b f (rising_right a b (rising_left (a ++ b) f olds)) (rising_right (a ++ b) f olds) (λ y z y_in z_in. rising_cross (a ++ b) f olds y z (Contains-append_right a b y y_in) z_in),
-        )
+        rest =
+            rising_cons x (b ++ f) (λ y has.
+            elim (Contains-append_cases b f y has) [
+              | inl in_b ↦ o.one_way x y (second y in_b)
+              | inr in_f ↦ rising_cross (c ++ x ∷ []) f news x y (Contains-append_right c (x ∷ []) x (Contains-cons_here x [])) in_f
+            ])
+            (rising_append b f (rising_right a b (rising_left (a ++ b) f olds)) (rising_right (a ++ b) f olds) (λ y z y_in z_in. rising_cross (a ++ b) f olds y z (Contains-append_right a b y y_in) z_in))
 
 -- it is moved to what is done
 moved_more : {X : Type 0} (b d n f : List X) (x : X) → IsPermutation (d ++ n) f → IsPermutation ((b ++ d) ++ x ∷ n) (x ∷ (b ++ f))
@@ -220,11 +180,7 @@ module _ (lt : ℕ → ℕ → Bool) (o : IsStrictWeakOrder lt) (old new : List 
           let small : k < place = (let short = length-take-le place old (omega (arith, m.end_in)) in omega arith) in
           let passes = point.0 k y (omega arith) small in
           let is : get_or (take end index) k y ≡ y = rw (m.front, split) (get_or_append_left (take place old) b y k under ∙ there) in
-          negated (lt x y) (rw is at passes)
-        where
-          negated : (c : Bool) → not c ≡ true → c ≡ false
-          negated false e = refl
-          negated true e = cc
+          not-true (lt x y) (rw is at passes)
 
       second : (y : ℕ) → Contains b y → lt x y ≡ true
       second y (k, under, there) =
@@ -233,12 +189,8 @@ module _ (lt : ℕ → ℕ → Bool) (o : IsStrictWeakOrder lt) (old new : List 
           let long_end : length (take end old) ≡ end = length-take-le end old m.end_in in
           let is : get_or (take end index) (place + k) y ≡ y = rw (m.front, split) (get_or_behind (take place old) b place k y short ∙ there) in
           let fails = point.1 (place + k) y (omega arith) (omega (arith, count, all, long_end, under)) in
-          affirmed (lt x y) (rw is at fails)
+          not-false (lt x y) (rw is at fails)
         where
-          affirmed : (c : Bool) → not c ≡ false → c ≡ true
-          affirmed true e = refl
-          affirmed false e = cc
-
           get_or_behind : (xs ys : List ℕ) (n k d : ℕ) → length xs ≡ n → get_or (xs ++ ys) (n + k) d ≡ get_or ys k d
           get_or_behind xs ys n k d e = rw (← e) (get_or-append-add xs ys k d)
 

@@ -1,19 +1,23 @@
 -- The order of an index, and what it says of load dates.
-use Rattle.std.proofs.Common.{◌≡◌, ℕ, zero, suc, ◌<◌, ◌≤◌, Bool, true, false, List, [], ◌∷◌, length, get_or, map, refl, sym, ◌∙◌, ap, subst, arith, nat_le}
+use Rattle.std.proofs.Common.{◌≡◌, ℕ, zero, suc, ◌<◌, ◌≤◌, Bool, true, false, List, [], ◌∷◌, length, get_or, map, refl, sym, ◌∙◌, subst, arith, nat_le}
 use Rattle.std.specs.declared.cmp.Ordering.{Ordering}
 use Rattle.std.specs.declared.cmp.Ordering.TheVariants.{Less, Equal, Greater}
 use Rattle.std.specs.Cmp.{IsStrictWeakOrder, IsTotalOrder}
 use Rattle.std.specs.List.{list_all, All, range_with_len}
 use Rattle.std.specs.List.Sorted.{IsPartitionedBy}
-use Rattle.std.specs.Ordering.{is_lt, nat_cmp, ordering_reverse, ordering_then}
+use Rattle.std.specs.Ordering.{is_lt, nat_cmp, ordering_then}
 use Rattle.std.specs.Prelude.{Contains}
 use Rattle.std.proofs.lemmas.Bool.{and_parts, false≢true, le-leb, leb-true}
 use Rattle.std.proofs.lemmas.Bool.Decides.{nat_tests}
 use Rattle.std.proofs.lemmas.Cmp.{then_total, on_total, nat_list_cmp_total, nat_cmp_total}
 use Rattle.std.proofs.lemmas.List.{length-map}
-use Rattle.std.proofs.lemmas.List.Elements.{All-get_or, All-from_get_or}
+use Rattle.std.proofs.lemmas.List.Elements.{All-get_or, All-from_get_or, Contains-get_or}
 use Rattle.std.proofs.lemmas.List.FromFn.{length-range_with_len, get_or-range_with_len}
 use Rattle.std.proofs.lemmas.List.Sorted.{All-permutation, Contains-permutation, ranks_by, sorted_far}
+use Rattle.dv_text.proofs.Members.{Contains-range}
+use Rattle.dv_text.proofs.Orderings.{turned}
+use Rattle.dv_text.proofs.Passing.{passes_at}
+use Rattle.std.proofs.lemmas.List.Folds.{list_all-map}
 use Rattle.dv_text.specs.Exact.{text_cmp-IsAntisymmetric}
 use Rattle.dv_text.specs.Orders.{text_cmp}
 use Rattle.dv_index.specs.Places.{Place, are_in_load_order}
@@ -33,9 +37,9 @@ module _ (parents : List (List ℕ)) where
 
 -- where no other row is earlier than a date
 no_earlier : {X : Type 0} (load : X → ℕ) (date : ℕ) (rows : List X) (j : ℕ) → list_all (λ other. nat_le date (load other)) rows ≡ true → j < length rows → date ≤ get_or (map load rows) j 0
-no_earlier load date [] j e under = absurd (omega arith)
-no_earlier load date (row ∷ rows) zero e under = leb-true date (load row) (and_parts (nat_le date (load row)) _ e).0
-no_earlier load date (row ∷ rows) (suc j) e under = no_earlier load date rows j (and_parts (nat_le date (load row)) _ e).1 (omega arith)
+no_earlier load date rows j e under =
+    let early : list_all (nat_le date) (map load rows) ≡ true = list_all-map (nat_le date) load rows ∙ e in
+    leb-true date (get_or (map load rows) j 0) (passes_at (nat_le date) (map load rows) (get_or (map load rows) j 0) early (Contains-get_or (map load rows) j 0 (rw length-map under)))
 
 -- rows in load order: a row is not earlier than one before it
 pub loads_rise : {X : Type 0} (place : X → Place) (rows : List X) → are_in_load_order place rows ≡ true → (i j : ℕ) → i ≤ j → j < length rows → load_at (loads_of place rows) i ≤ load_at (loads_of place rows) j
@@ -57,21 +61,13 @@ module _ (parents : List (List ℕ)) (index : List ℕ) (is : IsIndex parents in
 
   -- each row's number is there
   pub number_there : (i : ℕ) → i < length parents → Contains index i
-  number_there i under =
-      let at : get_or (range_with_len 0 (length parents)) i i ≡ i = rw (get_or-range_with_len 0 (length parents) i i under) (omega arith) in
-      Contains-permutation (range_with_len 0 (length parents)) index i is.each (i, omega (arith, length-range_with_len 0 (length parents)), at)
+  number_there i under = Contains-permutation (range_with_len 0 (length parents)) index i is.each (Contains-range (length parents) i under)
 
   -- no number stands behind one that comes after it
   pub in_order : (j k d : ℕ) → j ≤ k → k < length index → number_lt parents (get_or index k d) (get_or index j d) ≡ false
   in_order j k d le under = sorted_far (number_lt parents) (number_order parents) index is.ordered j k d le under
 
 -- ---- what is reached
-
-not_less : (r : Ordering) → r ≡ Less → is_lt r ≡ false → ⊥
-not_less r e f = false≢true (sym f ∙ ap is_lt e)
-
-turned : (a b : List ℕ) → text_cmp b a ≡ Greater → text_cmp a b ≡ Less
-turned a b e = nat_list_cmp_total.antisymm a b ∙ ap ordering_reverse e
 
 pub le_from_not_lt : (a b : ℕ) → is_lt (nat_cmp b a) ≡ false → a ≤ b
 le_from_not_lt a b e = grind (arith, nat_tests)
@@ -82,8 +78,8 @@ reached_before pa pb parent a b la lb date behind loads reached = by (text_cmp p
   where
     by : (r : Ordering) → text_cmp pb pa ≡ r → (s : Ordering) → text_cmp pb parent ≡ s → is_reached_by (text_cmp pa parent) (nat_le la date) ≡ true
     by Less e s f = absurd (false≢true (sym (rw e at behind)))
-    by Greater e Less f = rw (nat_list_cmp_total.trans pa pb parent (turned pa pb e) f) refl
-    by Greater e Equal f = let same : pb ≡ parent = text_cmp-IsAntisymmetric pb parent f in rw (subst (λ p. text_cmp pa p ≡ Less) same (turned pa pb e)) refl
+    by Greater e Less f = rw (nat_list_cmp_total.trans pa pb parent (turned nat_list_cmp_total pb pa e) f) refl
+    by Greater e Equal f = let same : pb ≡ parent = text_cmp-IsAntisymmetric pb parent f in rw (subst (λ p. text_cmp pa p ≡ Less) same (turned nat_list_cmp_total pb pa e)) refl
     by Greater e Greater f = absurd (false≢true (rw f at reached))
     by Equal e s f =
         let same : pb ≡ pa = text_cmp-IsAntisymmetric pb pa e in

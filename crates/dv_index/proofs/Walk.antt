@@ -1,26 +1,27 @@
 -- The rows that a walk over an index finds are the latest ones of each parent.
-use Rattle.std.proofs.Common.{◌≡◌, ℕ, zero, suc, ◌+◌, ◌-◌, ◌<◌, ◌≤◌, Bool, true, false, ◌&&◌, List, [], ◌∷◌, ◌++◌, Option, Some, None, length, get_or, refl, sym, ◌∙◌, ap, subst, arith, reverse}
-use Rattle.std.specs.Prelude.{Contains, find, not, slice_get, if◌then◌else◌, nat_le}
+use Rattle.std.proofs.Common.{◌≡◌, ℕ, zero, suc, ◌+◌, ◌-◌, ◌<◌, ◌≤◌, Bool, true, false, ◌&&◌, List, [], ◌++◌, Option, Some, None, length, get_or, refl, sym, ◌∙◌, ap, subst, arith, reverse}
+use Rattle.std.specs.Prelude.{Contains, not, slice_get, if◌then◌else◌, nat_le}
 use Rattle.std.specs.declared.cmp.Ordering.{Ordering}
 use Rattle.std.specs.declared.cmp.Ordering.TheVariants.{Less, Equal, Greater}
-use Rattle.std.specs.Cmp.{IsTotalOrder, on_total}
-use Rattle.std.specs.List.{AllByRecursion, cons_option, filter_map, prefix_len, range_with_len}
+use Rattle.std.specs.Cmp.{on_total}
+use Rattle.std.specs.List.{filter_map, prefix_len, range_with_len}
 use Rattle.std.specs.List.Sorted.{IsPartitionPoint, IsPartitionedBy, IsStrictlySortedBy}
 use Rattle.std.specs.Option.{option_to_list}
-use Rattle.std.specs.Ordering.{is_lt, nat_cmp, ordering_then}
 use Rattle.std.specs.Str.{bytes_eq}
-use Rattle.std.proofs.lemmas.Bool.{and_from, and_parts, false≢true}
+use Rattle.std.proofs.lemmas.Bool.{and_from, and_parts, false_from_ne_true, false≢true, not_from_false, not-true}
 use Rattle.std.proofs.lemmas.Cmp.{nat_list_cmp_total}
 use Rattle.std.proofs.lemmas.List.{get_or_default, get_or-map, length-map}
 use Rattle.std.proofs.lemmas.List.Elements.{filter_map-append}
 use Rattle.std.proofs.lemmas.List.FromFn.{length-range_with_len, get_or-range_with_len}
 use Rattle.std.proofs.lemmas.List.Sums.{prefix_len-le-length, prefix_len_passes, prefix_len_stops}
-use Rattle.std.proofs.lemmas.Option.{get_or_from_slice_get, slice_get-get_or, slice_get_within}
+use Rattle.std.proofs.lemmas.Option.{get_or_from_slice_get, none-some, same_Some, slice_get-get_or, slice_get_within}
 use Rattle.std.proofs.lemmas.Slice.Eq.{bytes_eq-Decides}
 use Rattle.dv_text.specs.Exact.{text_cmp-IsAntisymmetric}
 use Rattle.dv_text.specs.Orders.{text_cmp}
 use Rattle.dv_text.specs.Sorting.{sorted_by}
-use Rattle.dv_text.proofs.Members.{Contains-cons_here, Contains-cons_there, filter_map_member, member_of_filter_map, IsStrictlySortedBy-filter_map}
+use Rattle.dv_text.proofs.Orderings.{turned}
+use Rattle.dv_text.proofs.Passing.{found_member}
+use Rattle.dv_text.proofs.Members.{all_members, Contains-range, filter_map_member, member_of_filter_map, IsStrictlySortedBy-filter_map}
 use Rattle.dv_text.proofs.SortedLists.{ascending-sorted_by, member_after_sort, same_ascending}
 use Rattle.dv_index.specs.Places.{Place, are_in_load_order, latest_at, latest_of_each}
 use Rattle.dv_index.specs.Numbers.{IsIndex, is_last, is_reached, is_reached_if, last_row, loads_of, parent_at, parents_of}
@@ -33,18 +34,11 @@ pub walk_more : {X : Type 0} (h : ℕ → Option X) (k : ℕ) (o : Option X) →
 walk_more h k None e = rw (range_more 0 k (k + 1) k refl (omega arith), filter_map-append, e) refl
 walk_more h k (Some x) e = rw (range_more 0 k (k + 1) k refl (omega arith), filter_map-append, e) refl
 
-all_members : {X : Type 0} (P : X → Type 0) (xs : List X) → ((x : X) → Contains xs x → P x) → AllByRecursion P xs
-all_members P [] f = tt
-all_members P (x ∷ xs) f = (f x (Contains-cons_here x xs), all_members P xs (λ y has. f y (Contains-cons_there x xs y has)))
-
 in_range : (a n k : ℕ) → Contains (range_with_len a n) k → (a ≤ k) × (k < a + n)
 in_range a n k (i, under, there) =
     let small : i < n = (let long = length-range_with_len a n in omega arith) in
     let is : a + i ≡ k = sym (get_or-range_with_len a n i k small) ∙ there in
     (omega arith, omega arith)
-
-range_has : (n k : ℕ) → k < n → Contains (range_with_len 0 n) k
-range_has n k under = (k, (let long = length-range_with_len 0 n in omega arith), rw (get_or-range_with_len 0 n k k under) (omega arith))
 
 -- what is found place by place ascends, where that of each place is before that of each later one
 ascending_walk : {X : Type 0} (R : X → X → Ordering) (h : ℕ → Option X) (limit : ℕ) → ((j k : ℕ) (x y : X) → j < k → k < limit → h j ≡ Some x → h k ≡ Some y → R x y ≡ Less)
@@ -63,26 +57,6 @@ ascending_walk {X} R h limit less (suc n) a le = by (h a) refl (ascending_walk R
               less a k x y (omega arith) (omega arith) e is),
           rest,
         )
-
--- what a search finds passes
-found_passes : {X : Type 0} (p : X → Bool) (xs : List X) (x : X) → find p xs ≡ Some x → p x ≡ true
-found_passes p [] x e = cc
-found_passes p (y ∷ xs) x e = by (p y) refl (λ rest. found_passes p xs x rest)
-  where
-    by : (b : Bool) → p y ≡ b → (find p xs ≡ Some x → p x ≡ true) → p x ≡ true
-    by true t later = let found : Some y ≡ Some x = rw t at e in let same : y ≡ x = cc in sym (ap p same) ∙ t
-    by false f later = later (rw f at e)
-
-none_some : {X A : Type 0} (x : X) → None ≡ Some x → A
-none_some x e = cc
-
-negated : (b : Bool) → not b ≡ true → b ≡ false
-negated false e = refl
-negated true e = cc
-
-unless : (b : Bool) → b ≡ false → not b ≡ true
-unless false e = refl
-unless true e = cc
 
 chosen : {X : Type 0} (b : Bool) (o : Option X) (x : X) → (if b then o else None) ≡ Some x → (b ≡ true) × (o ≡ Some x)
 chosen true o x e = (refl, e)
@@ -108,7 +82,7 @@ module _ {X : Type 0} (place : X → Place) (rows : List X) (index : List ℕ) (
   found_at k row inside e =
       let (last, there) = chosen (is_last (parents_of place rows) (loads_of place rows) index date k) _ row e in
       let (reached, not_next) = and_parts (reaches (parent_of k) (get_or index k 0)) _ last in
-      let stops = negated (is_reached_if (parents_of place rows) (loads_of place rows) (parent_of k) date (slice_get index (k + 1))) not_next in
+      let stops = not-true (is_reached_if (parents_of place rows) (loads_of place rows) (parent_of k) date (slice_get index (k + 1))) not_next in
       let read = get_or_from_slice_get rows (get_or index k 0) row row there in
       let small = slice_get_within rows (get_or index k 0) row there in
       record {
@@ -131,11 +105,7 @@ module _ {X : Type 0} (place : X → Place) (rows : List X) (index : List ℕ) (
       before i d le under = parted i k d (omega arith) f.inside (rw (get_or_default index k d 0 f.inside) f.reached)
 
       after : (i : ℕ) (d : ℕ) → k + 1 ≤ i → i < length index → reaches (parent_of k) (get_or index i d) ≡ false
-      after i d le under = by (reaches (parent_of k) (get_or index i d)) refl
-        where
-          by : (b : Bool) → reaches (parent_of k) (get_or index i d) ≡ b → reaches (parent_of k) (get_or index i d) ≡ false
-          by false e = e
-          by true e = absurd (false≢true (sym (f.next d (omega arith)) ∙ parted (k + 1) i d le under e))
+      after i d le under = false_from_ne_true (reaches (parent_of k) (get_or index i d)) (λ e. false≢true (sym (f.next d (omega arith)) ∙ parted (k + 1) i d le under e))
 
       read : row ≡ get_or rows (get_or index (k + 1 - 1) 0) row
       read = let same : k + 1 - 1 ≡ k = omega arith in rw same f.read
@@ -152,76 +122,63 @@ module _ {X : Type 0} (place : X → Place) (rows : List X) (index : List ℕ) (
           let parted = reached_first place rows index is order (parent_of j) date in
           absurd (false≢true (sym (f.next 0 (omega (arith, g.inside))) ∙ parted (j + 1) k 0 (omega arith) g.inside reached))
       by Greater e =
-          let back : text_cmp (parent_of k) (parent_of j) ≡ Less = nat_list_cmp_total.antisymm (parent_of k) (parent_of j) ∙ ap Rattle.std.specs.Ordering.ordering_reverse e in
+          let back : text_cmp (parent_of k) (parent_of j) ≡ Less = turned nat_list_cmp_total (parent_of j) (parent_of k) e in
           absurd (false≢true (sym (rw back at (in_order (parents_of place rows) index is j k 0 (omega arith) g.inside))))
 
   -- what is the latest one of a parent is found at a place
   module _ (parent : List ℕ) (row : X) (e : latest_at place rows parent date ≡ Some row) where
-    count : ℕ
-    count = prefix_len (reaches parent) index
+    parted : IsPartitionedBy (reaches parent) index
+    parted = reached_first place rows index is order parent date
 
     place_of : (n : ℕ) → prefix_len (reaches parent) index ≡ n → (k : ℕ) × (k < length index) × (last_row place rows index date k ≡ Some row)
-    place_of n counted = by n counted
+    place_of n counted = decide n refl
       where
         bound : n ≤ length index
         bound = rw (← counted) (prefix_len-le-length (reaches parent) index)
 
-        parted : IsPartitionedBy (reaches parent) index
-        parted = reached_first place rows index is order parent date
-
         point : IsPartitionPoint (λ number. reaches parent number ≡ true) (λ number. reaches parent number ≡ false) index n
         point = (
           λ i d le under. prefix_len_passes (reaches parent) index i d (rw counted under),
-          λ i d le under. after i d le under (reaches parent (get_or index i d)) refl,
+          λ i d le under. false_from_ne_true (reaches parent (get_or index i d)) (λ reached.
+              false≢true (sym (rw counted at (prefix_len_stops (reaches parent) index d (rw counted (omega arith)))) ∙ parted n i d le under reached)),
         )
+
+        decide : (m : ℕ) → n ≡ m → (k : ℕ) × (k < length index) × (last_row place rows index date k ≡ Some row)
+        decide zero none = absurd (none-some row (sym (latest_at_start place rows index is parent date n bound point none) ∙ e))
+        decide (suc k) some = at_place (bytes_eq (place found).parent parent) refl
           where
-            after : (i d : ℕ) → n ≤ i → i < length index → (b : Bool) → reaches parent (get_or index i d) ≡ b → reaches parent (get_or index i d) ≡ false
-            after i d le under false e = e
-            after i d le under true e =
-                let stop : reaches parent (get_or index n d) ≡ false = rw counted at (prefix_len_stops (reaches parent) index d (rw counted (omega arith))) in
-                absurd (false≢true (sym stop ∙ parted n i d le under e))
+            small : n - 1 ≡ k
+            small = omega arith
 
-        by : (m : ℕ) → prefix_len (reaches parent) index ≡ m → (k : ℕ) × (k < length index) × (last_row place rows index date k ≡ Some row)
-        by m same = decide n refl
-          where
-            decide : (m : ℕ) → n ≡ m → (k : ℕ) × (k < length index) × (last_row place rows index date k ≡ Some row)
-            decide zero none = none_some row (sym (latest_at_start place rows index is parent date n bound point none) ∙ e)
-            decide (suc k) some = at_place (bytes_eq (place found).parent parent) refl
-              where
-                small : n - 1 ≡ k
-                small = omega arith
+            inside : k < length index
+            inside = omega (arith, bound)
 
-                inside : k < length index
-                inside = omega (arith, bound)
+            number_inside : get_or index k 0 < length rows
+            number_inside = rw length-map at (within (parents_of place rows) index is k 0 inside)
 
-                number_inside : get_or index k 0 < length rows
-                number_inside = rw length-map at (within (parents_of place rows) index is k 0 inside)
+            found : X
+            found = get_or rows (get_or index k 0) row
 
-                found : X
-                found = get_or rows (get_or index k 0) row
+            read : found ≡ get_or rows (get_or index (n - 1) 0) found
+            read = rw small (get_or_default rows (get_or index k 0) row found number_inside)
 
-                read : found ≡ get_or rows (get_or index (n - 1) 0) found
-                read = rw small (get_or_default rows (get_or index k 0) row found number_inside)
+            stops : (o : Option ℕ) → slice_get index (k + 1) ≡ o → is_reached_if (parents_of place rows) (loads_of place rows) parent date (slice_get index (k + 1)) ≡ false
+            stops None none = rw none refl
+            stops (Some number) there =
+                let under = slice_get_within index (k + 1) number there in
+                rw (there, ← (get_or_from_slice_get index (k + 1) number number there)) (point.1 (k + 1) number (omega arith) under)
 
-                at_place : (b : Bool) → bytes_eq (place found).parent parent ≡ b → (k : ℕ) × (k < length index) × (last_row place rows index date k ≡ Some row)
-                at_place false other =
-                    none_some row (sym (latest_missing place rows index is parent date n bound point (omega arith) found read (λ same. false≢true (sym other ∙ (bytes_eq-Decides (place found).parent parent).1 same))) ∙ e)
-                at_place true equal =
-                    let own : (place found).parent ≡ parent = (bytes_eq-Decides (place found).parent parent).0 equal in
-                    let both : Some found ≡ Some row = sym (latest_found place rows index is parent date n bound point (omega arith) found read own) ∙ e in
-                    let same : found ≡ row = cc in
-                    let its : parent_of k ≡ parent = get_or-map (λ row. (place row).parent) rows (get_or index k 0) row [] number_inside ∙ own in
-                    let reached : reaches (parent_of k) (get_or index k 0) ≡ true = subst (λ q. reaches q (get_or index k 0) ≡ true) (sym its) (point.0 k 0 (omega arith) (omega arith)) in
-                    let next : is_reached_if (parents_of place rows) (loads_of place rows) (parent_of k) date (slice_get index (k + 1)) ≡ false = subst (λ q. is_reached_if (parents_of place rows) (loads_of place rows) q date (slice_get index (k + 1)) ≡ false) (sym its) (stops (slice_get index (k + 1)) refl) in
-                    let last : is_last (parents_of place rows) (loads_of place rows) index date k ≡ true = and_from _ _ reached (unless _ next) in
-                    (k, inside, rw (last, slice_get-get_or rows (get_or index k 0) row number_inside) (ap Some same))
-                  where
-                    stops : (o : Option ℕ) → slice_get index (k + 1) ≡ o → is_reached_if (parents_of place rows) (loads_of place rows) parent date (slice_get index (k + 1)) ≡ false
-                    stops None none = rw none refl
-                    stops (Some number) there =
-                        let under = slice_get_within index (k + 1) number there in
-                        let is_number = get_or_from_slice_get index (k + 1) number number there in
-                        rw (there, ← is_number) (point.1 (k + 1) number (omega arith) under)
+            at_place : (b : Bool) → bytes_eq (place found).parent parent ≡ b → (k : ℕ) × (k < length index) × (last_row place rows index date k ≡ Some row)
+            at_place false other =
+                absurd (none-some row (sym (latest_missing place rows index is parent date n bound point (omega arith) found read (λ same. false≢true (sym other ∙ (bytes_eq-Decides (place found).parent parent).1 same))) ∙ e))
+            at_place true equal =
+                let own : (place found).parent ≡ parent = (bytes_eq-Decides (place found).parent parent).0 equal in
+                let same : found ≡ row = same_Some found row (sym (latest_found place rows index is parent date n bound point (omega arith) found read own) ∙ e) in
+                let its : parent_of k ≡ parent = get_or-map (λ row. (place row).parent) rows (get_or index k 0) row [] number_inside ∙ own in
+                let last : is_last (parents_of place rows) (loads_of place rows) index date k ≡ true =
+                subst (λ q. (reaches q (get_or index k 0) && not (is_reached_if (parents_of place rows) (loads_of place rows) q date (slice_get index (k + 1)))) ≡ true) (sym its)
+                (and_from _ _ (point.0 k 0 (omega arith) (omega arith)) (not_from_false _ (stops (slice_get index (k + 1)) refl))) in
+                (k, inside, rw (last, slice_get-get_or rows (get_or index k 0) row number_inside) (ap Some same))
 
   abbrev by_parent : X → X → Ordering
   by_parent a b = text_cmp (place a).parent (place b).parent
@@ -234,7 +191,7 @@ module _ {X : Type 0} (place : X → Place) (rows : List X) (index : List ℕ) (
       there back
     where
       own : (parent : List ℕ) (row : X) → latest_at place rows parent date ≡ Some row → (place row).parent ≡ parent
-      own parent row e = (bytes_eq-Decides (place row).parent parent).0 (and_parts _ (nat_le (place row).load date) (found_passes (λ row. bytes_eq (place row).parent parent && nat_le (place row).load date) (reverse rows) row e)).0
+      own parent row e = (bytes_eq-Decides (place row).parent parent).0 (and_parts _ (nat_le (place row).load date) (found_member (λ row. bytes_eq (place row).parent parent && nat_le (place row).load date) (reverse rows) row e).1).0
 
       there : (row : X) → Contains (filter_map (last_row place rows index date) (range_with_len 0 (length index))) row → Contains (latest_of_each place rows date) row
       there row has =
@@ -250,4 +207,4 @@ module _ {X : Type 0} (place : X → Place) (rows : List X) (index : List ℕ) (
       back row has =
           let (parent, member, e) = filter_map_member (λ parent. latest_at place rows parent date) (sorted_by text_cmp (parents_of place rows)) row has in
           let (k, under, gives) = place_of parent row e _ refl in
-          member_of_filter_map (last_row place rows index date) (range_with_len 0 (length index)) k row (range_has (length index) k under) gives
+          member_of_filter_map (last_row place rows index date) (range_with_len 0 (length index)) k row (Contains-range (length index) k under) gives

@@ -5,7 +5,8 @@ use Rattle.std.specs.List.{list_any, slice_get}
 use Rattle.std.specs.Option.{option_or}
 use Rattle.std.proofs.lemmas.List.Folds.{find-append, list_any-append}
 use Rattle.dv_catalog.specs.declared.entries.FeedDef.{FeedDef}
-use Rattle.dv_catalog.specs.Headers.{is_among, known_columns, mapped_columns}
+use Rattle.dv_catalog.specs.Headers.{known_columns, mapped_columns}
+use Rattle.dv_catalog.specs.Lookups.{is_among}
 use Rattle.dv_stage.proofs.FieldFacts.{drop_at}
 
 pub list_any-flat_map : {X : Type 0} (test : X → Bool) (lists : List (List X)) → list_any test (flat_map (λ xs. xs) lists) ≡ list_any (λ xs. list_any test xs) lists

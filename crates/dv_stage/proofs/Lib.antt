@@ -1,6 +1,7 @@
 pub mod ColumnFacts
 pub mod FieldFacts
 pub mod NeighbourFacts
+pub mod Neighbouring
 pub mod PartnerFacts
 pub mod Places
 pub mod RecordsFacts

@@ -2,60 +2,35 @@
 use Rattle.std.proofs.Common.{◌≡◌, ◌∷◌, ◌++◌, ℕ, List, [], Option, Some, None, Bool, true, false, length, refl, sym, ap, ◌∙◌, subst, inl, inr, ◌⊎◌, ◌&&◌, not, Decides}
 use Rattle.std.specs.Prelude.{Contains, cond, position}
 use Rattle.std.specs.BTreeMap.{BTreeMap, Updates, get}
-use Rattle.std.specs.Cmp.Lexicographic.{bytes_decides, lists_ties, pointwise_decides, slice_cmp, texts_ties}
+use Rattle.std.specs.Cmp.{tied_then}
+use Rattle.std.specs.Cmp.Lexicographic.{slice_cmp}
 use Rattle.std.specs.List.{slice_get}
 use Rattle.std.specs.Option.{option_or}
-use Rattle.std.specs.Ordering.{eq_by_cmp, is_eq, ordering_then}
-use Rattle.std.specs.declared.cmp.Ordering.{Ordering}
-use Rattle.std.specs.declared.cmp.Ordering.TheVariants.{Less, Equal, Greater}
+use Rattle.std.specs.Ordering.{is_eq}
+use Rattle.std.proofs.lemmas.Bool.{and_parts, both_ways, false_from_ne_true, not-true}
+use Rattle.std.proofs.lemmas.List.Elements.{Contains-push_cases}
 use Rattle.std.proofs.lemmas.Option.{same_Some}
-use Rattle.dv_text.specs.Keys.{key_eq, refs_eq, texts_eq}
-use Rattle.dv_text.specs.Orders.{key_cmp, refs_cmp, text_cmp}
-use Rattle.dv_text.specs.declared.rows.Key.{Key}
+use Rattle.dv_text.specs.Keys.{refs_eq, texts_eq}
+use Rattle.dv_text.specs.Orders.{refs_cmp, text_cmp}
 use Rattle.dv_text.specs.declared.rows.NRow.{NRow}
-use Rattle.dv_text.proofs.Members.{Contains-cons_cases, Contains-cons_here, Contains-cons_there}
+use Rattle.dv_text.proofs.Deciding.{refs_eq-Decides, refs-tie, texts_eq-Decides, texts-tie}
+use Rattle.dv_text.proofs.Options.{option_or-none}
 use Rattle.dv_catalog.specs.Records.{are_rivals}
 use Rattle.dv_stage.specs.declared.taken_rows.RowName.{RowName}
 use Rattle.dv_stage.specs.declared.taken_rows.TakenRows.{TakenRows}
 use Rattle.dv_stage.specs.Rivals.{HasNoRivals, IsFirsts, IsTakenRows, is_named, name_cmp, name_of}
 use Rattle.dv_stage.proofs.Places.{found_at, none_passes, place_where-last, place_where-narrow, place_where-none, position-is}
 
--- what tells texts, keys and reference lists apart
-pub texts_eq-Decides : (a b : List (List ℕ)) → Decides (texts_eq a b) (a ≡ b)
-texts_eq-Decides = pointwise_decides bytes_decides
-
-key_eq-Decides : (a b : Key) → Decides (key_eq a b) (a ≡ b)
-key_eq-Decides a b = (λ e. let parts = (texts_eq-Decides a.parts b.parts).0 e in λ i. record { parts = parts i }, λ e. (texts_eq-Decides a.parts b.parts).1 (ap (λ k. k.parts) e))
-
-pub refs_eq-Decides : (a b : List Key) → Decides (refs_eq a b) (a ≡ b)
-refs_eq-Decides = pointwise_decides key_eq-Decides
-
--- tests and orders agree
-texts-tie : (a b : List (List ℕ)) → texts_eq a b ≡ eq_by_cmp (slice_cmp text_cmp) a b
-texts-tie = lists_ties text_cmp texts_ties
-
-refs-tie : (a b : List Key) → refs_eq a b ≡ eq_by_cmp refs_cmp a b
-refs-tie = lists_ties key_cmp (λ x y. texts-tie x.parts y.parts)
-
-is_eq-then : (r s : Ordering) → is_eq (ordering_then r s) ≡ (is_eq r && is_eq s)
-is_eq-then Less s = refl
-is_eq-then Equal s = refl
-is_eq-then Greater s = refl
-
 -- a row has a name where its own name ties with it
 named-tie : (row : NRow) (name : RowName) → is_eq (name_cmp (name_of row) name) ≡ is_named name row
 named-tie row name =
-    is_eq-then (refs_cmp row.refs name.refs) (slice_cmp text_cmp row.sub name.sub)
+    sym (tied_then (refs_cmp row.refs name.refs) (slice_cmp text_cmp row.sub name.sub))
     ∙ rw (← refs-tie row.refs name.refs, ← texts-tie row.sub name.sub) refl
-
-pub both : (a b : Bool) → (a && b) ≡ true → (a ≡ true) × (b ≡ true)
-both true b e = (refl, e)
-both false b e = cc
 
 -- a row's name is the only one that it has
 name-is : (row : NRow) (name : RowName) → is_named name row ≡ true → name_of row ≡ name
 name-is row name e =
-    let parts = both (refs_eq row.refs name.refs) (texts_eq row.sub name.sub) e in
+    let parts = and_parts (refs_eq row.refs name.refs) (texts_eq row.sub name.sub) e in
     let refs = (refs_eq-Decides row.refs name.refs).0 parts.0 in
     let sub = (texts_eq-Decides row.sub name.sub).0 parts.1 in
     λ i. record { refs = refs i; sub = sub i }
@@ -71,47 +46,32 @@ pub firsts_more-old : (firsts : BTreeMap RowName ℕ) (rows : List NRow) (row : 
     → IsFirsts firsts (rows ++ row ∷ [])
 firsts_more-old firsts rows row first h e name = by (is_named name row) refl
   where
-    or_none : (o : Option ℕ) → o ≡ option_or o None
-    or_none None = refl
-    or_none (Some n) = refl
-
     by : (b : Bool) → is_named name row ≡ b → get name_cmp firsts name ≡ position (is_named name) (rows ++ row ∷ [])
     by true named =
         let there : position (is_named name) rows ≡ Some first = subst (λ (q : RowName). position (is_named q) rows ≡ Some first) (name-is row name named) e in
         rw (first_more rows row name true named, h name, there) refl
-    by false other = rw (first_more rows row name false other, h name) (or_none (position (is_named name) rows))
+    by false other = rw (first_more rows row name false other, h name) (sym (option_or-none (position (is_named name) rows)))
 
 -- a row of a new name is the first of it
 pub firsts_more-new : (before after : BTreeMap RowName ℕ) (rows : List NRow) (row : NRow) → IsFirsts before rows → position (is_named (name_of row)) rows ≡ None
     → Updates name_cmp before after (name_of row) (Some (length rows)) → IsFirsts after (rows ++ row ∷ [])
 firsts_more-new before after rows row h e updates name = updates.0 name ∙ rw (named-tie row name) (by (is_named name row) refl)
   where
-    or_none : (o : Option ℕ) → o ≡ option_or o None
-    or_none None = refl
-    or_none (Some n) = refl
-
     by : (b : Bool) → is_named name row ≡ b → cond b (Some (length rows)) (get name_cmp before name) ≡ position (is_named name) (rows ++ row ∷ [])
     by true named =
         let none : position (is_named name) rows ≡ None = subst (λ (q : RowName). position (is_named q) rows ≡ None) (name-is row name named) e in
         rw (first_more rows row name true named, none) refl
-    by false other = rw (first_more rows row name false other, h name) (or_none (position (is_named name) rows))
+    by false other = rw (first_more rows row name false other, h name) (sym (option_or-none (position (is_named name) rows)))
 
 -- a rival of a row has its name, and other attributes
-is_rival : NRow → NRow → Bool
-is_rival row other = are_rivals other row
-
 not_named : (row other : NRow) → is_named (name_of row) other ≡ false → are_rivals other row ≡ false
 not_named row other e = rw e refl
 
 pub rival_parts : (a b : NRow) → are_rivals a b ≡ true → (a.refs ≡ b.refs) × (a.sub ≡ b.sub) × (texts_eq a.attrs b.attrs ≡ false)
 rival_parts a b e =
-    let outer = both (refs_eq a.refs b.refs && texts_eq a.sub b.sub) (not (texts_eq a.attrs b.attrs)) e in
-    let inner = both (refs_eq a.refs b.refs) (texts_eq a.sub b.sub) outer.0 in
-    ((refs_eq-Decides a.refs b.refs).0 inner.0, (texts_eq-Decides a.sub b.sub).0 inner.1, turned (texts_eq a.attrs b.attrs) outer.1)
-  where
-    turned : (t : Bool) → not t ≡ true → t ≡ false
-    turned true h = cc
-    turned false h = refl
+    let outer = and_parts (refs_eq a.refs b.refs && texts_eq a.sub b.sub) (not (texts_eq a.attrs b.attrs)) e in
+    let inner = and_parts (refs_eq a.refs b.refs) (texts_eq a.sub b.sub) outer.0 in
+    ((refs_eq-Decides a.refs b.refs).0 inner.0, (texts_eq-Decides a.sub b.sub).0 inner.1, not-true (texts_eq a.attrs b.attrs) outer.1)
 
 pub rival_from : (a b : NRow) → a.refs ≡ b.refs → a.sub ≡ b.sub → texts_eq a.attrs b.attrs ≡ false → are_rivals a b ≡ true
 rival_from a b refs sub attrs = rw ((refs_eq-Decides a.refs b.refs).1 refs, (texts_eq-Decides a.sub b.sub).1 sub, attrs) refl
@@ -138,17 +98,11 @@ rival-none rows row first x apart e at same =
     let named : name_of x ≡ name_of row = name-is x (name_of row) (ap wide (sym is_x) ∙ found.passes) in
     let member : Contains rows x = subst (Contains rows) is_x found.member in
     let attrs : x.attrs ≡ row.attrs = (texts_eq-Decides x.attrs row.attrs).0 same in
-    position-is (λ other. are_rivals other row) rows ∙ place_where-none (λ other. are_rivals other row) rows (λ y has. by y has named member attrs (are_rivals y row) refl)
-  where
-    by : (y : NRow) → Contains rows y → name_of x ≡ name_of row → Contains rows x → x.attrs ≡ row.attrs → (b : Bool) → are_rivals y row ≡ b → are_rivals y row ≡ false
-    by y has named member attrs false e = e
-    by y has named member attrs true e =
-        let parts = rival_parts y row e in
-        let refs : y.refs ≡ x.refs = parts.0 ∙ sym (ap (λ (n : RowName). n.refs) named) in
-        let sub : y.sub ≡ x.sub = parts.1 ∙ sym (ap (λ (n : RowName). n.sub) named) in
-        let differ : texts_eq y.attrs x.attrs ≡ false = rw attrs parts.2 in
-        let no : true ≡ false = sym (rival_from y x refs sub differ) ∙ apart y x has member in
-        cc
+    position-is (λ other. are_rivals other row) rows ∙ place_where-none (λ other. are_rivals other row) rows (λ y has. false_from_ne_true (are_rivals y row) (λ e.
+    let parts = rival_parts y row e in
+    let refs : y.refs ≡ x.refs = parts.0 ∙ sym (ap (λ (n : RowName). n.refs) named) in
+    let sub : y.sub ≡ x.sub = parts.1 ∙ sym (ap (λ (n : RowName). n.sub) named) in
+    both_ways _ (apart y x has member) (rival_from y x refs sub (rw attrs parts.2))))
 
 -- a row of a new name has no rival
 pub rival-new : (rows : List NRow) (row : NRow) → position (is_named (name_of row)) rows ≡ None → position (λ other. are_rivals other row) rows ≡ None
@@ -161,53 +115,31 @@ rival-new rows row e =
 pub rival-bare : (rows : List NRow) (row : NRow) → ((other : NRow) → Contains rows other → other.attrs ≡ []) → row.attrs ≡ [] → position (λ other. are_rivals other row) rows ≡ None
 rival-bare rows row bare none =
     position-is (λ other. are_rivals other row) rows
-    ∙ place_where-none (λ other. are_rivals other row) rows (λ y has. by y (bare y has) (are_rivals y row) refl)
-  where
-    by : (y : NRow) → y.attrs ≡ [] → (b : Bool) → are_rivals y row ≡ b → are_rivals y row ≡ false
-    by y empty false e = e
-    by y empty true e =
-        let parts = rival_parts y row e in
-        let same : texts_eq y.attrs row.attrs ≡ true = (texts_eq-Decides y.attrs row.attrs).1 (empty ∙ sym none) in
-        let no : true ≡ false = sym same ∙ parts.2 in
-        cc
-
-last_cases : (rows : List NRow) (row y : NRow) → Contains (rows ++ row ∷ []) y → (row ≡ y) ⊎ Contains rows y
-last_cases [] row y has = Contains-cons_cases row [] y has
-last_cases (x ∷ rows) row y has =
-    elim (Contains-cons_cases x (rows ++ row ∷ []) y has) [
-      | inl same ↦ inr (subst (Contains (x ∷ rows)) same (Contains-cons_here x rows))
-      | inr rest ↦ elim (last_cases rows row y rest) [ inl same ↦ inl same | inr more ↦ inr (Contains-cons_there x rows y more) ]
-    ]
-
-pub no_true : (b : Bool) → (b ≡ true → ⊥) → b ≡ false
-no_true true h = absurd (h refl)
-no_true false h = refl
-
-pub not_both : (b : Bool) → b ≡ true → b ≡ false → ⊥
-not_both true e f = cc
-not_both false e f = cc
+    ∙ place_where-none (λ other. are_rivals other row) rows (λ y has. false_from_ne_true (are_rivals y row) (λ e.
+    both_ways _ (rival_parts y row e).2 ((texts_eq-Decides y.attrs row.attrs).1 (bare y has ∙ sym none))))
 
 pub rivals-turned : (a b : NRow) → are_rivals a b ≡ true → are_rivals b a ≡ true
 rivals-turned a b e =
     let parts = rival_parts a b e in
-    rival_from b a (sym parts.0) (sym parts.1) (no_true (texts_eq b.attrs a.attrs) (λ same. not_both (texts_eq a.attrs b.attrs) ((texts_eq-Decides a.attrs b.attrs).1 (sym ((texts_eq-Decides b.attrs a.attrs).0 same))) parts.2))
+    rival_from b a (sym parts.0) (sym parts.1) (false_from_ne_true (texts_eq b.attrs a.attrs) (λ same.
+    both_ways _ parts.2 ((texts_eq-Decides a.attrs b.attrs).1 (sym ((texts_eq-Decides b.attrs a.attrs).0 same)))))
 
 pub no_rival_of_itself : (a b : NRow) → a ≡ b → are_rivals a b ≡ true → ⊥
-no_rival_of_itself a b same e = not_both (texts_eq a.attrs b.attrs) ((texts_eq-Decides a.attrs b.attrs).1 (ap (λ (row : NRow). row.attrs) same)) (rival_parts a b e).2
+no_rival_of_itself a b same e = both_ways _ (rival_parts a b e).2 ((texts_eq-Decides a.attrs b.attrs).1 (ap (λ (row : NRow). row.attrs) same))
 
 -- a row without a rival leaves the rows without rivals
 pub apart_more : (rows : List NRow) (row : NRow) → HasNoRivals rows → position (λ other. are_rivals other row) rows ≡ None → HasNoRivals (rows ++ row ∷ [])
 apart_more rows row apart e a b has_a has_b =
-    no_true (are_rivals a b) (λ rivals. by (last_cases rows row a has_a) (last_cases rows row b has_b) rivals)
+    false_from_ne_true (are_rivals a b) (λ rivals. by (Contains-push_cases rows row a has_a) (Contains-push_cases rows row b has_b) rivals)
   where
     none : (y : NRow) → Contains rows y → are_rivals y row ≡ false
     none = none_passes (λ other. are_rivals other row) rows (sym (position-is (λ other. are_rivals other row) rows) ∙ e)
 
-    by : (row ≡ a) ⊎ Contains rows a → (row ≡ b) ⊎ Contains rows b → are_rivals a b ≡ true → ⊥
-    by (inl x) (inl y) rivals = no_rival_of_itself a b (sym x ∙ y) rivals
-    by (inr x) (inl y) rivals = not_both (are_rivals a b) rivals (subst (λ (other : NRow). are_rivals a other ≡ false) y (none a x))
-    by (inl x) (inr y) rivals = not_both (are_rivals b a) (rivals-turned a b rivals) (subst (λ (other : NRow). are_rivals b other ≡ false) x (none b y))
-    by (inr x) (inr y) rivals = not_both (are_rivals a b) rivals (apart a b x y)
+    by : Contains rows a ⊎ (row ≡ a) → Contains rows b ⊎ (row ≡ b) → are_rivals a b ≡ true → ⊥
+    by (inr x) (inr y) rivals = no_rival_of_itself a b (sym x ∙ y) rivals
+    by (inl x) (inr y) rivals = both_ways (are_rivals a b) (subst (λ (other : NRow). are_rivals a other ≡ false) y (none a x)) rivals
+    by (inr x) (inl y) rivals = both_ways (are_rivals b a) (subst (λ (other : NRow). are_rivals b other ≡ false) x (none b y)) (rivals-turned a b rivals)
+    by (inl x) (inl y) rivals = both_ways (are_rivals a b) (apart a b x y) rivals
 
 -- one more row taken
 pub taken_more : (old new : TakenRows) (row : NRow) → IsTakenRows old → new.rows.items ≡ old.rows.items ++ row ∷ [] → new.bare ≡ old.bare
@@ -216,9 +148,8 @@ pub taken_more : (old new : TakenRows) (row : NRow) → IsTakenRows old → new.
 taken_more old new row taken rows same rival firsts bare = record {
   apart = rw rows (apart_more old.rows.items row taken.apart rival);
   named = λ e. rw rows (firsts (sym same ∙ e));
-  bare = λ e other has. by (sym same ∙ e) other (last_cases old.rows.items row other (rw rows at has));
+  bare = λ e other has. elim (Contains-push_cases old.rows.items row other (rw rows at has)) [
+    | inl before ↦ taken.bare (sym same ∙ e) other before
+    | inr is ↦ sym (ap (λ (r : NRow). r.attrs) is) ∙ bare (sym same ∙ e)
+  ];
 }
-  where
-    by : old.bare ≡ true → (other : NRow) → (row ≡ other) ⊎ Contains old.rows.items other → other.attrs ≡ []
-    by e other (inl is) = sym (ap (λ (r : NRow). r.attrs) is) ∙ bare e
-    by e other (inr has) = taken.bare e other has

@@ -5,6 +5,7 @@ use Rattle.std.specs.List.{list_any, cons_option}
 use Rattle.std.specs.Option.{option_map_or, option_or}
 use Rattle.dv_text.specs.Keys.{is_missing}
 use Rattle.dv_text.specs.declared.rows.NRow.{NRow}
+use Rattle.dv_text.proofs.Options.{option_or-none}
 use Rattle.dv_catalog.specs.declared.entries.FeedDef.{FeedDef}
 use Rattle.dv_catalog.specs.declared.rules.Rule.{Rule}
 use Rattle.dv_catalog.specs.Records.{driver_keys, empty_key, field_long, not_utf8, ragged, record_rule, row_of, too_many_rows, two_rows}
@@ -24,10 +25,6 @@ driver-missing feed row = list_any-filter_map is_missing (slice_get row.refs) fe
 
 pub ruleset any_driver = (driver-missing)
 
-or_none : {X : Type 0} (a : Option X) → option_or a None ≡ a
-or_none None = refl
-or_none (Some x) = refl
-
 -- the rules of the record alone come before those that look at earlier records
 pub record_rule-parts : (feed : FeedDef) (names : List (List ℕ)) (room number : ℕ) (earlier : List NRow) (fields : List (List ℕ))
     → record_rule feed names room number earlier fields
@@ -41,6 +38,6 @@ record_rule-parts feed names room number earlier fields =
     by None (Some b) c d e f = refl
     by None None (Some c) d e f = refl
     by None None None (Some d) e f = refl
-    by None None None None e f = rw (or_none f) refl
+    by None None None None e f = rw (option_or-none f) refl
 
 pub ruleset record_parts = (record_rule-parts)

@@ -1,30 +1,42 @@
 -- Names that were seen, held in a set.
-use Rattle.std.proofs.Common.{◌≡◌, ◌+◌, ◌∷◌, ◌||◌, ℕ, List, drop, Some, Bool, true, false, not, cond, refl, sym, ◌∙◌}
+use Rattle.std.proofs.Common.{◌≡◌, ◌+◌, [], ◌∷◌, ◌++◌, ◌||◌, ℕ, List, drop, Some, Bool, true, false, not, cond, refl, sym, ◌∙◌}
 use Rattle.std.specs.Prelude.{bytes_eq}
 use Rattle.std.specs.Ordering.{nat_cmp}
 use Rattle.std.specs.Cmp.Lexicographic.{slice_cmp}
 use Rattle.std.specs.BTreeSet.{BTreeSet, Updates, contains}
 use Rattle.std.proofs.lemmas.Map.Text.{is_eq-slice_cmp}
 use Rattle.std.specs.List.{slice_get}
-use Rattle.dv_catalog.specs.Headers.{first_twice, is_among}
+use Rattle.std.proofs.lemmas.List.Folds.{list_any-append}
+use Rattle.dv_catalog.specs.Lookups.{again_after, is_among}
 use Rattle.dv_stage.proofs.FieldFacts.{drop_at}
 
-cond-or : (a b : Bool) → cond a true b ≡ (a || b)
-cond-or true b = refl
-cond-or false b = refl
+cond-or : (a b : Bool) → cond a true b ≡ (b || (a || false))
+cond-or true true = refl
+cond-or true false = refl
+cond-or false true = refl
+cond-or false false = refl
 
 -- the set has one name more
 pub seen_more : (s n : BTreeSet (List ℕ)) (seen : List (List ℕ)) (name : List ℕ) → ((q : List ℕ) → contains (slice_cmp nat_cmp) s q ≡ is_among seen q)
-    → Updates (slice_cmp nat_cmp) s n name true → (q : List ℕ) → contains (slice_cmp nat_cmp) n q ≡ is_among (name ∷ seen) q
+    → Updates (slice_cmp nat_cmp) s n name true → (q : List ℕ) → contains (slice_cmp nat_cmp) n q ≡ is_among (seen ++ name ∷ []) q
 seen_more s n seen name had updates q =
-    updates.0 q ∙ rw (is_eq-slice_cmp name q, had q) (cond-or (bytes_eq name q) (is_among seen q))
+    updates.0 q ∙ rw (is_eq-slice_cmp name q, had q, list_any-append (λ t. bytes_eq t q) seen (name ∷ [])) (cond-or (bytes_eq name q) (is_among seen q))
 
 -- the next name is none of those before it
-pub first_twice_more : (seen names : List (List ℕ)) (i : ℕ) (name : List ℕ) → slice_get names i ≡ Some name → is_among seen name ≡ false
-    → first_twice seen (drop i names) ≡ first_twice (name ∷ seen) (drop (i + 1) names)
-first_twice_more seen names i name e new = rw (drop_at names i name e, new) refl
+pub again_more : (seen names : List (List ℕ)) (i : ℕ) (name : List ℕ) → slice_get names i ≡ Some name → is_among seen name ≡ false
+    → again_after bytes_eq seen (drop i names) ≡ again_after bytes_eq (seen ++ name ∷ []) (drop (i + 1) names)
+again_more seen names i name e new = rw (drop_at names i name e, new) refl
+
+-- or it is one of them
+pub again_here : (seen names : List (List ℕ)) (i : ℕ) (name : List ℕ) → slice_get names i ≡ Some name → is_among seen name ≡ true → again_after bytes_eq seen (drop i names) ≡ Some name
+again_here seen names i name e old = rw (drop_at names i name e, old) refl
 
 -- a name that was put in anew was not there
 pub was_new : (added had seen : Bool) → added ≡ not had → added ≡ true → had ≡ seen → seen ≡ false
 was_new added true seen e h s = cc
 was_new added false seen e h s = sym s
+
+-- and one that was not put in was there
+pub was_old : (added had seen : Bool) → added ≡ not had → added ≡ false → had ≡ seen → seen ≡ true
+was_old added true seen e h s = sym s
+was_old added false seen e h s = cc

@@ -1,5 +1,5 @@
 -- Rows that have the same references and the same sub, and what is kept to find those with other attributes.
-use Rattle.std.specs.Prelude.{◌≡◌, ℕ, ◌&&◌, ◌||◌, true, false, Bool, List, [], ◌∷◌, Contains, position}
+use Rattle.std.specs.Prelude.{◌≡◌, ℕ, ◌&&◌, true, false, Bool, List, [], Contains, is_some, position}
 use Rattle.std.specs.BTreeMap.{BTreeMap, get}
 use Rattle.std.specs.Cmp.Lexicographic.{slice_cmp}
 use Rattle.std.specs.Ordering.{ordering_then}
@@ -10,6 +10,7 @@ use Rattle.dv_text.specs.declared.rows.NRow.{NRow}
 use Rattle.dv_catalog.specs.Records.{are_rivals}
 use Rattle.dv_stage.specs.declared.taken_rows.RowName.{RowName}
 use Rattle.dv_stage.specs.declared.taken_rows.TakenRows.{TakenRows}
+use Rattle.dv_stage.specs.Neighbours.{first_neighbour}
 
 -- the order of names: by references, then sub
 abbrev pub name_cmp : RowName → RowName → Ordering
@@ -22,11 +23,13 @@ is_named name row = refs_eq row.refs name.refs && texts_eq row.sub name.sub
 abbrev pub name_of : NRow → RowName
 name_of row = record { refs = row.refs; sub = row.sub }
 
+-- whether two rows have one name
+abbrev pub share_name : NRow → NRow → Bool
+share_name before row = is_named (name_of before) row
+
 -- whether a row has the name of the one before it
 abbrev pub repeats_name : List NRow → Bool
-repeats_name [] = false
-repeats_name (before ∷ []) = false
-repeats_name (before ∷ row ∷ rest) = is_named (name_of before) row || repeats_name (row ∷ rest)
+repeats_name rows = is_some (first_neighbour share_name rows)
 
 -- the map has the place of the first row of each name
 abbrev pub IsFirsts : BTreeMap RowName ℕ → List NRow → Type 0

@@ -1,6 +1,6 @@
 // The rules that a record may break by itself.
 ghost use Rattle.std.specs.Prelude.{◌≡◌, IfOk, false, slice_get};
-ghost use Rattle.std.specs.List.{list_all, list_any};
+ghost use Rattle.std.specs.List.{list_any};
 ghost use Rattle.std.specs.Option.{option_map_or};
 ghost use Rattle.csv.specs.Records.{fields_of};
 ghost use Rattle.dv_text.specs.Keys as keys;
@@ -11,7 +11,7 @@ use crate::fields::{are_texts, has_long_field};
 use crate::rows::ref_at;
 use csv::ByteRecord;
 use dv_catalog::{FeedDef, Rule};
-use dv_text::{Duplicate, Key, Memory, NRow, Text};
+use dv_text::{Duplicate, Key, Memory, NRow, Text, are_missing};
 
 fn ragged(
     feed: &FeedDef,
@@ -66,24 +66,12 @@ pub(crate) fn fields_rule(
     field_long(feed, row_no, row)
 }
 
-fn is_missing(key: &Key) -> bool
-    ensures { result ≡ keys.is_missing key.now }
-{
-    key.parts.items().iter().all(|part| part.bytes().is_empty())
-}
-
-fn are_missing(refs: &[Key]) -> bool
-    ensures { result ≡ list_all keys.is_missing refs.now }
-{
-    refs.iter().all(|key| is_missing(key))
-}
-
 // Whether there is a key at a place, and it is missing.
 fn is_missing_at(refs: &[Key], place: u32) -> bool
     ensures { result ≡ option_map_or keys.is_missing (slice_get refs.now place) false }
 {
     match ref_at(refs, place) {
-        Some(key) => is_missing(key),
+        Some(key) => key.is_missing(),
         None => false,
     }
 }

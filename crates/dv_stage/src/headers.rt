@@ -3,6 +3,7 @@ ghost use Rattle.std.specs.Prelude.{◌≡◌, [], IfOk, find, flat_map, not, op
 ghost use Rattle.std.specs.List.{list_any};
 ghost use Rattle.csv.specs.Records.{fields_of};
 ghost use Rattle.dv_catalog.specs.Headers as spec;
+ghost use Rattle.dv_catalog.specs.Lookups.{is_among, text_twice};
 
 use crate::fields::{are_texts, field_in};
 use csv::ByteRecord;
@@ -35,7 +36,7 @@ fn header_not_utf8(feed: &FeedDef, header: &ByteRecord) -> Result<Option<Rule>, 
 
 // The first name that stands earlier.
 fn first_twice(alloc: Global, names: &[Text]) -> Result<Option<Text>, Memory>
-    ensures { IfOk result (λ found. found ≡ spec.first_twice [] names.now) }
+    ensures { IfOk result (λ found. found ≡ text_twice names.now) }
 {
     let mut earlier = BTreeSet::new(alloc);
     for name in names {
@@ -58,14 +59,14 @@ fn column_twice(alloc: Global, feed: &FeedDef, names: &[Text]) -> Result<Option<
 
 // Whether some columns have a name.
 fn are_columns(keys: &[List<Text>], name: &Text) -> bool
-    ensures { result ≡ list_any (λ columns. spec.is_among columns name.now) keys.now }
+    ensures { result ≡ list_any (λ columns. is_among columns name.now) keys.now }
 {
     keys.iter().any(|columns| columns.items().contains(name))
 }
 
 #[tactic(auto, using(crate::proofs::ColumnFacts::among_known))]
 fn is_known(feed: &FeedDef, name: &Text) -> bool
-    ensures { result ≡ spec.is_among (spec.known_columns feed.now) name.now }
+    ensures { result ≡ is_among (spec.known_columns feed.now) name.now }
 {
     are_columns(feed.keys.items(), name)
         || feed.sub.items().contains(name)
@@ -74,7 +75,7 @@ fn is_known(feed: &FeedDef, name: &Text) -> bool
 }
 
 fn first_unmapped<'a>(feed: &FeedDef, names: &'a [Text]) -> Option<&'a Text>
-    ensures { option_copied result ≡ find (λ name. not (spec.is_among (spec.known_columns feed.now) name)) names.entry.now }
+    ensures { option_copied result ≡ find (λ name. not (is_among (spec.known_columns feed.now) name)) names.entry.now }
 {
     names.iter().find(|name| !is_known(feed, name))
 }
@@ -92,13 +93,13 @@ fn unmapped_column(feed: &FeedDef, names: &[Text]) -> Result<Option<Rule>, Memor
 
 // The first of some columns that no name is.
 fn first_missing<'a>(names: &[Text], columns: &'a [Text]) -> Option<&'a Text>
-    ensures { option_copied result ≡ find (λ column. not (spec.is_among names.now column)) columns.entry.now }
+    ensures { option_copied result ≡ find (λ column. not (is_among names.now column)) columns.entry.now }
 {
     columns.iter().find(|column| !names.contains(column))
 }
 
 fn first_missing_key<'a>(names: &[Text], keys: &'a [List<Text>]) -> Option<&'a Text>
-    ensures { option_copied result ≡ find (λ column. not (spec.is_among names.now column)) (flat_map (λ columns. columns) keys.entry.now) }
+    ensures { option_copied result ≡ find (λ column. not (is_among names.now column)) (flat_map (λ columns. columns) keys.entry.now) }
 {
     for columns in keys {
         match first_missing(names, columns.items()) {
@@ -111,7 +112,7 @@ fn first_missing_key<'a>(names: &[Text], keys: &'a [List<Text>]) -> Option<&'a T
 
 #[tactic(auto, using(crate::proofs::ColumnFacts::find_mapped))]
 fn first_missing_column<'a>(feed: &'a FeedDef, names: &[Text]) -> Option<&'a Text>
-    ensures { option_copied result ≡ find (λ column. not (spec.is_among names.now column)) (spec.mapped_columns feed.entry.now) }
+    ensures { option_copied result ≡ find (λ column. not (is_among names.now column)) (spec.mapped_columns feed.entry.now) }
 {
     if let Some(column) = first_missing_key(names, feed.keys.items()) {
         return Some(column);

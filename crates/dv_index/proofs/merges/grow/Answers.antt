@@ -30,6 +30,8 @@ returns-clause-index g c =
     let start : c.len-start.result ≡ length c.args.index.now.items = omega (arith, c.len-start.ensures, c.args.index.now.ok) in
     let numbers : c.add_numbers.new.index.items ≡ range_with_len (length c.args.index.now.items) (length c.args.rows.now - length c.args.index.now.items) = c.add_numbers.ensures.items ∙ rw (c.requires.none, start) refl in
     record {
-      each = grown_numbers (parents_of g.R.Placed.place c.args.rows.now) c.args.index.now.items c.add_numbers.new.index.items c.sort_numbers.new.index.items _ (omega (arith, long, c.requires.fewer)) c.requires.index (numbers ∙ rw long refl) c.sort_numbers.ensures.each (rw c.deref.ensures.value at c.merge.ensures.each);
+      each =
+          grown_numbers (parents_of g.R.Placed.place c.args.rows.now) c.args.index.now.items c.add_numbers.new.index.items c.sort_numbers.new.index.items _ (omega (arith, long, c.requires.fewer)) c.requires.index
+          (numbers ∙ rw long refl) c.sort_numbers.ensures.each (rw c.deref.ensures.value at c.merge.ensures.each);
       ordered = c.merge.ensures.ordered;
     }

@@ -17,4 +17,9 @@ pub loop-number-preserved : goal.loop-number-preserved
 loop-number-preserved c =
     let pushed = (c.in-Ok.ensures {u = tt}).items in
     let more = range_more c.args.start (c.loop-number.number - c.args.start) (c.loop-number.number + 1 - c.args.start) c.loop-number.number (omega arith) (omega arith) in
-    record { items = pushed ∙ ap (λ xs. xs ++ c.loop-number.number ∷ []) c.loop-number.invariant.items ∙ append_assoc c.args.index.now.items (range_with_len c.args.start (c.loop-number.number - c.args.start)) (c.loop-number.number ∷ []) ∙ ap (λ xs. c.args.index.now.items ++ xs) (sym more); room = omega (arith, (c.in-Ok.ensures {u = tt}).capacity) }
+    record {
+      items =
+          pushed ∙ ap (λ xs. xs ++ c.loop-number.number ∷ []) c.loop-number.invariant.items
+          ∙ append_assoc c.args.index.now.items (range_with_len c.args.start (c.loop-number.number - c.args.start)) (c.loop-number.number ∷ []) ∙ ap (λ xs. c.args.index.now.items ++ xs) (sym more);
+      room = omega (arith, (c.in-Ok.ensures {u = tt}).capacity);
+    }

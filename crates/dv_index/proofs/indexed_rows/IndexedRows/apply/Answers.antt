@@ -1,7 +1,5 @@
-use Rattle.std.proofs.Common.{◌∙◌, arith, ap, length, length-append}
-use Rattle.std.proofs.lemmas.List.{length-map}
-use Rattle.dv_index.specs.Numbers.{parents_of}
-use Rattle.dv_index.proofs.Grown.{index_length, kept_index}
+use Rattle.std.proofs.Common.{◌∙◌, arith}
+use Rattle.dv_index.proofs.Grown.{counted, kept_index}
 use Rattle.dv_index.proofs.indexed_rows.IndexedRows.apply.Goals as goal
 
 pub grow-requires-clause-index : goal.grow-requires-clause-index
@@ -10,23 +8,17 @@ grow-requires-clause-index g c =
 
 pub grow-requires-clause-fewer : goal.grow-requires-clause-fewer
 grow-requires-clause-fewer g c =
-    let long = index_length (parents_of g.R.Placed.place c.self.inside.rows.items) c.self.inside.index.items c.self.invariant.0 in
-    let all = ap length (c.deref.ensures.value ∙ c.append_within.ensures) in
-    omega (arith, long, all, length-map c.self.inside.rows.items (λ row. (g.R.Placed.place row).parent), length-append c.self.inside.rows.items c.args.rows)
+    omega (arith, counted g.R.Placed.place c.self.inside.rows.items c.args.rows c.deref.result.now c.self.inside.index.items (c.deref.ensures.value ∙ c.append_within.ensures) c.self.invariant.0)
 
 pub grow-requires-clause-room : goal.grow-requires-clause-room
 grow-requires-clause-room g c =
-    let long = index_length (parents_of g.R.Placed.place c.self.inside.rows.items) c.self.inside.index.items c.self.invariant.0 in
-    let all = ap length (c.deref.ensures.value ∙ c.append_within.ensures) in
     let room = rw (← c.self.view_is) at c.requires.room in
-    omega (arith, room, long, all, length-map c.self.inside.rows.items (λ row. (g.R.Placed.place row).parent), length-append c.self.inside.rows.items c.args.rows)
+    omega (arith, room, counted g.R.Placed.place c.self.inside.rows.items c.args.rows c.deref.result.now c.self.inside.index.items (c.deref.ensures.value ∙ c.append_within.ensures) c.self.invariant.0)
 
 pub grow-requires-clause-none : goal.grow-requires-clause-none
 grow-requires-clause-none g c = c.self.invariant.2
 
 pub grow-requires-clause-arrivals_room : goal.grow-requires-clause-arrivals_room
 grow-requires-clause-arrivals_room g c =
-    let long = index_length (parents_of g.R.Placed.place c.self.inside.rows.items) c.self.inside.index.items c.self.invariant.0 in
-    let all = ap length (c.deref.ensures.value ∙ c.append_within.ensures) in
     let room = rw (← c.self.view_is) at c.requires.room in
-    omega (arith, room, long, all, length-map c.self.inside.rows.items (λ row. (g.R.Placed.place row).parent), length-append c.self.inside.rows.items c.args.rows)
+    omega (arith, room, counted g.R.Placed.place c.self.inside.rows.items c.args.rows c.deref.result.now c.self.inside.index.items (c.deref.ensures.value ∙ c.append_within.ensures) c.self.invariant.0)
