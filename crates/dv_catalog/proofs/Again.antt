@@ -1,18 +1,16 @@
 -- What a loop that looks for a name that stands earlier keeps.
-use Rattle.std.proofs.Common.{◌≡◌, ℕ, ◌+◌, ◌<◌, Bool, true, false, cond, List, [], ◌∷◌, length, get_or, take, drop, map, Some, refl, sym, ◌∙◌, ap}
+use Rattle.std.proofs.Common.{◌≡◌, ℕ, ◌+◌, ◌<◌, Bool, true, false, cond, List, length, get_or, take, drop, map, Some, None, sym, ◌∙◌, ap}
 use Rattle.std.specs.List.{list_any}
+use Rattle.std.specs.Option.{option_or}
 use Rattle.std.specs.Str.{bytes_eq}
 use Rattle.std.proofs.lemmas.List.{drop_more, take_more, map-append}
+use Rattle.dv_text.proofs.Passing.{list_any-map}
 use Rattle.dv_catalog.specs.Lookups.{again_after, text_twice}
-
-pub list_any-map : {X Y : Type 0} (p : Y → Bool) (f : X → Y) (xs : List X) → list_any p (map f xs) ≡ list_any (λ x. p (f x)) xs
-list_any-map p f [] = refl
-list_any-map p f (x ∷ xs) = rw (list_any-map p f xs)
 
 -- the search after one entry more
 pub again_turn : {X : Type 0} (f : X → List ℕ) (xs : List X) (i : ℕ) (d : X) → i < length xs
     → again_after bytes_eq (map f (take i xs)) (map f (drop i xs))
-    ≡ cond (list_any (λ y. bytes_eq (f y) (f (get_or xs i d))) (take i xs)) (Some (f (get_or xs i d))) (again_after bytes_eq (map f (take (i + 1) xs)) (map f (drop (i + 1) xs)))
+    ≡ option_or (cond (list_any (λ y. bytes_eq (f y) (f (get_or xs i d))) (take i xs)) (Some (f (get_or xs i d))) None) (again_after bytes_eq (map f (take (i + 1) xs)) (map f (drop (i + 1) xs)))
 again_turn f xs i d at = rw (drop_more xs i d at, take_more xs i d at, map-append, list_any-map)
 
 -- a name that stands among those before is the answer

@@ -1,22 +1,20 @@
 -- The tables of a mapping are of its hubs, links and feeds, and so is the table with a name.
-use Rattle.std.proofs.Common.{◌≡◌, ℕ, ◌+◌, ◌<◌, ◌≤◌, Bool, true, List, [], ◌∷◌, ◌++◌, length, get_or, map, nat_lt, Some, refl, sym, ◌∙◌, ap, arith}
+use Rattle.std.proofs.Common.{◌≡◌, ℕ, ◌+◌, ◌<◌, ◌≤◌, true, List, [], ◌∷◌, ◌++◌, length, get_or, map, nat_lt, Some, refl, sym, ◌∙◌, ap, arith}
 use Rattle.std.specs.Prelude.{Contains}
 use Rattle.std.specs.List.{list_all, range_with_len}
 use Rattle.std.specs.Str.{bytes_eq}
+use Rattle.std.proofs.lemmas.Bool.{and_from}
 use Rattle.std.proofs.lemmas.Bool.Decides.{nat_tests}
 use Rattle.std.proofs.lemmas.List.FromFn.{get_or-range_with_len, length-range_with_len}
 use Rattle.std.proofs.lemmas.List.Elements.{Contains-get_or}
-use Rattle.std.proofs.lemmas.List.Folds.{list_all-append}
 use Rattle.dv_catalog.specs.declared.entries.FeedDef.{FeedDef}
 use Rattle.dv_catalog.specs.declared.tables.TableId.{TableId}
 use Rattle.dv_catalog.specs.declared.tables.TableId.TheVariants.{Hub, Link, Status}
 use Rattle.dv_catalog.specs.Entries.{Mapping}
 use Rattle.dv_catalog.specs.TableLookups.{is_table_of, table_named}
 use Rattle.dv_catalog.specs.Tables.{effect_tables, feed_tables, sat_tables, table_name, tables}
-use Rattle.dv_catalog.proofs.Everywhere.{all_pass, both, found_is_in, passes_at, Contains-map_source}
-
-joined : {X : Type 0} (p : X → Bool) (xs ys : List X) → list_all p xs ≡ true → list_all p ys ≡ true → list_all p (xs ++ ys) ≡ true
-joined p xs ys a b = rw (list_all-append p xs ys) (both (list_all p xs) (list_all p ys) a b)
+use Rattle.dv_text.proofs.Members.{map_member}
+use Rattle.dv_text.proofs.Passing.{all_pass, all_pass_both, found_member, passes_at}
 
 below : (n k : ℕ) → Contains (range_with_len 0 n) k → nat_lt k n ≡ true
 below n k (i, under, there) =
@@ -28,17 +26,17 @@ numbered : (f : ℕ → TableId) (m : Mapping) (count : ℕ) → ((n : ℕ) → 
 numbered f m count of =
     all_pass (is_table_of m) (map f (range_with_len 0 count))
     (λ table has.
-    let (n, member, is) = Contains-map_source f (range_with_len 0 count) table has in
+    let (n, member, is) = map_member f (range_with_len 0 count) table has in
     ap (is_table_of m) (sym is) ∙ of n ∙ below count n member)
 
 sat_in : (m : Mapping) (n : ℕ) (sub attrs : List (List ℕ)) → nat_lt n (length m.feeds) ≡ true → list_all (is_table_of m) (sat_tables n sub attrs) ≡ true
 sat_in m n sub [] e = refl
-sat_in m n [] (a ∷ attrs) e = both _ _ e refl
-sat_in m n (s ∷ sub) (a ∷ attrs) e = both _ _ e refl
+sat_in m n [] (a ∷ attrs) e = and_from _ _ e refl
+sat_in m n (s ∷ sub) (a ∷ attrs) e = and_from _ _ e refl
 
 effect_in : (m : Mapping) (n : ℕ) (driver : List ℕ) → nat_lt n (length m.feeds) ≡ true → list_all (is_table_of m) (effect_tables n driver) ≡ true
 effect_in m n [] e = refl
-effect_in m n (d ∷ driver) e = both _ _ e refl
+effect_in m n (d ∷ driver) e = and_from _ _ e refl
 
 feeds_in : (m : Mapping) (n : ℕ) (feeds : List FeedDef) → n + length feeds ≤ length m.feeds → list_all (is_table_of m) (feed_tables n feeds) ≡ true
 feeds_in m n [] few = refl
@@ -46,14 +44,14 @@ feeds_in m n (feed ∷ feeds) few =
     let here : n < length m.feeds = omega arith in
     let in_range : nat_lt n (length m.feeds) ≡ true = grind (arith, nat_tests, here) in
     let rest = feeds_in m (n + 1) feeds (omega arith) in
-    joined (is_table_of m) (sat_tables n feed.sub feed.attrs ++ Status n ∷ effect_tables n feed.driver) (feed_tables (n + 1) feeds)
-    (joined (is_table_of m) (sat_tables n feed.sub feed.attrs) (Status n ∷ effect_tables n feed.driver) (sat_in m n feed.sub feed.attrs in_range) (both _ _ in_range (effect_in m n feed.driver in_range)))
+    all_pass_both (is_table_of m) (sat_tables n feed.sub feed.attrs ++ Status n ∷ effect_tables n feed.driver) (feed_tables (n + 1) feeds)
+    (all_pass_both (is_table_of m) (sat_tables n feed.sub feed.attrs) (Status n ∷ effect_tables n feed.driver) (sat_in m n feed.sub feed.attrs in_range) (and_from _ _ in_range (effect_in m n feed.driver in_range)))
     rest
 
 pub tables_in : (m : Mapping) → list_all (is_table_of m) (tables m) ≡ true
 tables_in m =
-    joined (is_table_of m) (map (λ n. Hub n) (range_with_len 0 (length m.hubs)) ++ map (λ n. Link n) (range_with_len 0 (length m.links))) (feed_tables 0 m.feeds)
-    (joined (is_table_of m) (map (λ n. Hub n) (range_with_len 0 (length m.hubs))) (map (λ n. Link n) (range_with_len 0 (length m.links)))
+    all_pass_both (is_table_of m) (map (λ n. Hub n) (range_with_len 0 (length m.hubs)) ++ map (λ n. Link n) (range_with_len 0 (length m.links))) (feed_tables 0 m.feeds)
+    (all_pass_both (is_table_of m) (map (λ n. Hub n) (range_with_len 0 (length m.hubs))) (map (λ n. Link n) (range_with_len 0 (length m.links)))
     (numbered (λ n. Hub n) m (length m.hubs) (λ n. refl)) (numbered (λ n. Link n) m (length m.links) (λ n. refl)))
     (feeds_in m 0 m.feeds (omega arith))
 
@@ -65,4 +63,4 @@ table_at m items i d e at =
 -- and the table with a name
 pub table_named_in : (m : Mapping) (name : List ℕ) (table : TableId) → table_named m name ≡ Some table → is_table_of m table ≡ true
 table_named_in m name table e =
-    passes_at (is_table_of m) (tables m) table (tables_in m) (found_is_in (λ t. bytes_eq (table_name m t) name) (tables m) table e)
+    passes_at (is_table_of m) (tables m) table (tables_in m) (found_member (λ t. bytes_eq (table_name m t) name) (tables m) table e).0

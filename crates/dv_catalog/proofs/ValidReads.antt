@@ -1,10 +1,12 @@
 -- What a valid mapping keeps to, part by part.
-use Rattle.std.proofs.Common.{◌≡◌, ℕ, zero, suc, ◌+◌, ◌≤◌, Bool, true, false, not, ◌&&◌, ◌||◌, ◌==◌, List, [], ◌∷◌, length, map, nat_le, Option, Some, None, ap, refl, sym, ◌∙◌}
+use Rattle.std.proofs.Common.{◌≡◌, ℕ, ◌+◌, ◌≤◌, true, not, ◌&&◌, ◌||◌, ◌==◌, length, map, nat_le, Some, None}
 use Rattle.std.specs.Prelude.{is_none, slice_get}
 use Rattle.std.specs.List.{list_all, zip}
 use Rattle.std.proofs.lemmas.Bool.{and_parts, eqb-true}
 use Rattle.std.proofs.lemmas.Bool.Decides.{nat_tests}
 use Rattle.std.proofs.Common.{arith}
+use Rattle.dv_text.proofs.Options.{none_from}
+use Rattle.dv_text.proofs.Passing.{passes_got}
 use Rattle.dv_catalog.specs.declared.entries.FeedDef.{FeedDef}
 use Rattle.dv_catalog.specs.declared.entries.HubDef.{HubDef}
 use Rattle.dv_catalog.specs.declared.entries.LinkDef.{LinkDef}
@@ -60,18 +62,6 @@ valid_parts m e =
       feeds = feeds;
       paths = paths;
     }
-
-passes_got : {X : Type 0} (p : X → Bool) (xs : List X) (i : ℕ) (x : X) → list_all p xs ≡ true → slice_get xs i ≡ Some x → p x ≡ true
-passes_got p [] i x all got = let no : None ≡ Some x = got in cc
-passes_got p (y ∷ xs) zero x all got =
-    let same : Some y ≡ Some x = got in
-    let is : y ≡ x = cc in
-    ap p (sym is) ∙ (and_parts (p y) (list_all p xs) all).0
-passes_got p (y ∷ xs) (suc i) x all got = passes_got p xs i x (and_parts (p y) (list_all p xs) all).1 got
-
-none_from : {X : Type 0} (found : Option X) → is_none found ≡ true → found ≡ None
-none_from None e = refl
-none_from (Some x) e = let no : false ≡ true = e in cc
 
 within : (low high n : ℕ) → is_within low high n ≡ true → (low ≤ n) × (n ≤ high)
 within low high n e =

@@ -13,9 +13,9 @@ use Rattle.dv_catalog.specs.declared.outlines.FeedOutline.{FeedOutline}
 use Rattle.dv_catalog.specs.declared.outlines.PathOutline.{PathOutline}
 use Rattle.dv_catalog.specs.declared.outlines.ParentName.{ParentName}
 use Rattle.dv_catalog.specs.declared.outlines.ParentName.TheVariants.{Hub, Link}
-use Rattle.dv_catalog.specs.FirstOf.{first_of}
+use Rattle.dv_catalog.specs.FirstOf.{first_along, first_of}
 use Rattle.dv_catalog.specs.Limits.{most_hubs, most_links, most_feeds, most_paths, most_references, most_columns, most_ignored, most_steps, has_name_form}
-use Rattle.dv_catalog.specs.Lookups.{has_text, text_twice}
+use Rattle.dv_catalog.specs.Lookups.{is_among, text_twice}
 
 -- a link's name, where a link before has it, or else the first hub that the link names twice
 abbrev pub again_in_link : List LinkOutline → LinkOutline → Option (List ℕ)
@@ -23,8 +23,7 @@ again_in_link before link = option_or (if list_any (λ other. bytes_eq other.nam
 
 -- the first such name of links, after those before
 abbrev pub again_in_links : List LinkOutline → List LinkOutline → Option (List ℕ)
-again_in_links before [] = None
-again_in_links before (link ∷ links) = option_or (again_in_link before link) (again_in_links (before ++ link ∷ []) links)
+again_in_links before links = first_along again_in_link before links
 
 -- the first name that stands earlier among the hubs, the links, the feeds or the paths, or in a link
 abbrev pub first_again : Outline → Option (List ℕ)
@@ -118,7 +117,7 @@ sub_without_attrs outline =
 -- some hubs of a link, each once, and not all of them
 abbrev pub are_some_hubs : List (List ℕ) → List (List ℕ) → Bool
 are_some_hubs hubs driver =
-    list_all (λ name. has_text hubs name) driver && is_none (text_twice driver) && not (list_all (λ hub. has_text driver hub) hubs)
+    list_all (λ name. is_among hubs name) driver && is_none (text_twice driver) && not (list_all (λ hub. is_among driver hub) hubs)
 
 -- the driving keys of a feed are some hubs of its link
 abbrev pub driver_in_link : List LinkOutline → ParentName → List (List ℕ) → Bool
@@ -148,7 +147,7 @@ step_hubs outline name =
 
 -- a hub is one of the link that the feed with this name delivers
 abbrev pub is_hub_of_step : Outline → List ℕ → List ℕ → Bool
-is_hub_of_step outline hub feed = option_map_or (λ hubs. has_text hubs hub) (step_hubs outline feed) false
+is_hub_of_step outline hub feed = option_map_or (λ hubs. is_among hubs hub) (step_hubs outline feed) false
 
 -- each hub is one of the links of both its neighbours
 abbrev pub are_joined : Outline → List (List ℕ) → List (List ℕ) → Bool

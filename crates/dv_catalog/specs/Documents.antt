@@ -3,14 +3,15 @@ use Rattle.std.specs.Prelude.{ℕ, nat_le, List, [], ◌∷◌, length, Option, 
 use Rattle.std.specs.Str.{is_utf8}
 use Rattle.toml.specs.Data.{Members, no_members, member}
 use Rattle.toml.specs.Parse.{parse_document}
+use Rattle.dv_catalog.specs.Limits.{most_mapping_bytes}
 
 -- the document that some bytes are, where `toml` reads them
 abbrev pub document_of : List ℕ → Option Members
 document_of bytes = if is_utf8 bytes then parse_document bytes else None
 
--- the document of a mapping file, which has at most 1,048,576 bytes
+-- the document of a mapping file, which is not too long
 abbrev pub mapping_document : List ℕ → Option Members
-mapping_document bytes = if nat_le (length bytes) 1_048_576 then document_of bytes else None
+mapping_document bytes = if nat_le (length bytes) most_mapping_bytes then document_of bytes else None
 
 -- the keys of a table, in the order of their bytes
 abbrev pub keys_of : Members → List (List ℕ)

@@ -1,19 +1,14 @@
 -- The forms that values of a mapping file have: texts, column names, part counts, and lists of them.
-use Rattle.std.specs.Prelude.{ℕ, ℤ, pos, negsuc, nat_le, ◌&&◌, Bool, List, [], ◌∷◌, length, Option, Some, None, option_map, option_and_then, ok_or, is_some, Result, Ok, if◌then◌else◌}
-use Rattle.std.specs.Str.{bytes_eq}
-use Rattle.dv_text.specs.Normal.{norm_field}
+use Rattle.std.specs.Prelude.{ℕ, ℤ, pos, negsuc, List, [], ◌∷◌, Option, Some, None, option_map, option_and_then, ok_or, is_some, Result, Ok, if◌then◌else◌}
 use Rattle.toml.specs.Data.{Data, Items, no_items, item, Members, as_array, as_integer, as_str, get_member}
-
--- a name of 1 to 200 bytes, without blanks at its ends
-abbrev pub is_column : List ℕ → Bool
-is_column name = nat_le 1 (length name) && nat_le (length name) 200 && bytes_eq (norm_field name) name
+use Rattle.dv_catalog.specs.Limits.{has_column_form, is_within, most_parts}
 
 abbrev pub column_or_none : List ℕ → Option (List ℕ)
-column_or_none name = if is_column name then Some name else None
+column_or_none name = if has_column_form name then Some name else None
 
--- a number from 1 to 4
+-- a number of parts that a key may have
 abbrev pub count_or_none : ℤ → Option ℕ
-count_or_none (pos n) = if nat_le 1 n && nat_le n 4 then Some n else None
+count_or_none (pos n) = if is_within 1 most_parts n then Some n else None
 count_or_none (negsuc n) = None
 
 -- what is made of each item, where something is made of all

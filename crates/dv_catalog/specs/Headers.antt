@@ -1,16 +1,13 @@
 -- The rules of an extract's header. A header name is the normal form of a field of the header.
-use Rattle.std.specs.Prelude.{ℕ, Bool, not, List, [], ◌∷◌, ◌++◌, Option, Some, None, if◌then◌else◌, map, find, flat_map, option_map, bytes_eq}
-use Rattle.std.specs.List.{list_any, list_all}
+use Rattle.std.specs.Prelude.{ℕ, not, List, [], ◌∷◌, ◌++◌, Option, Some, None, if◌then◌else◌, map, find, flat_map, option_map}
+use Rattle.std.specs.List.{list_all}
 use Rattle.std.specs.Str.{is_utf8}
 use Rattle.dv_text.specs.Normal.{norm_field}
 use Rattle.dv_catalog.specs.declared.entries.FeedDef.{FeedDef}
 use Rattle.dv_catalog.specs.declared.rules.Rule.{Rule}
 use Rattle.dv_catalog.specs.declared.rules.Rule.TheVariants.{HeaderNotUtf8, ColumnTwice, UnmappedColumn, MissingColumn}
 use Rattle.dv_catalog.specs.FirstOf.{first_of}
-
--- whether a name is one of some names
-abbrev pub is_among : List (List ℕ) → List ℕ → Bool
-is_among names name = list_any (λ other. bytes_eq other name) names
+use Rattle.dv_catalog.specs.Lookups.{is_among, text_twice}
 
 -- the names of a header
 abbrev pub header_names : List (List ℕ) → List (List ℕ)
@@ -28,14 +25,9 @@ known_columns feed = mapped_columns feed ++ feed.ignore
 abbrev pub header_not_utf8 : FeedDef → List (List ℕ) → Option Rule
 header_not_utf8 feed header = if list_all is_utf8 header then None else Some (HeaderNotUtf8 feed.name)
 
--- the first name that is among those before it, the earlier ones included
-abbrev pub first_twice : List (List ℕ) → List (List ℕ) → Option (List ℕ)
-first_twice earlier [] = None
-first_twice earlier (name ∷ names) = if is_among earlier name then Some name else first_twice (name ∷ earlier) names
-
 -- W9: the first header name that stands earlier in the header
 abbrev pub column_twice : FeedDef → List (List ℕ) → Option Rule
-column_twice feed names = option_map (λ name. ColumnTwice feed.name name) (first_twice [] names)
+column_twice feed names = option_map (λ name. ColumnTwice feed.name name) (text_twice names)
 
 -- W10: the first header name that the feed neither maps nor ignores
 abbrev pub unmapped_column : FeedDef → List (List ℕ) → Option Rule

@@ -1,5 +1,4 @@
 pub mod Built
-pub mod CheckExamples
 pub mod Checks
 pub mod Documents
 pub mod Entries
@@ -10,19 +9,13 @@ pub mod Forms
 pub mod Headers
 pub mod Limits
 pub mod Lookups
-pub mod ManifestFaults
-pub mod Manifests
 pub mod MapTexts
-pub mod MappingExamples
 pub mod MappingFiles
 pub mod Mappings
-pub mod Meets
 pub mod Printed
-pub mod ReadingExamples
 pub mod Readings
 pub mod Records
 pub mod RuleTexts
-pub mod SampleOutlines
 pub mod Shapes
 pub mod Steps
 pub mod TableLookups

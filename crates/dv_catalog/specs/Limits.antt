@@ -1,4 +1,4 @@
--- The limits of a mapping, and the forms of its names and columns.
+-- The limits of mappings, files and windows, and the forms of names and columns.
 use Rattle.std.specs.Prelude.{ℕ, ◌==◌, Bool, ◌&&◌, ◌||◌, List, length, nat_le}
 use Rattle.std.specs.List.{list_all}
 use Rattle.std.specs.Str.{bytes_eq}
@@ -36,6 +36,42 @@ most_ignored = 64
 abbrev pub most_steps : ℕ
 most_steps = 4
 
+-- the bytes of a name or a source
+abbrev pub most_name_bytes : ℕ
+most_name_bytes = 40
+
+-- the bytes of a column's name
+abbrev pub most_column_bytes : ℕ
+most_column_bytes = 200
+
+-- the bytes of a mapping file
+abbrev pub most_mapping_bytes : ℕ
+most_mapping_bytes = 1_048_576
+
+-- the bytes of a manifest
+abbrev pub most_manifest_bytes : ℕ
+most_manifest_bytes = 65_536
+
+-- the bytes of an extract
+abbrev pub most_extract_bytes : ℕ
+most_extract_bytes = 33_554_432
+
+-- the bytes of the extracts of a window together
+abbrev pub most_window_bytes : ℕ
+most_window_bytes = 67_108_864
+
+-- the bytes of a field of a record
+abbrev pub most_field_bytes : ℕ
+most_field_bytes = 4_096
+
+-- the records of an extract
+abbrev pub most_records : ℕ
+most_records = 200_000
+
+-- the records of the extracts of a window together
+abbrev pub most_window_records : ℕ
+most_window_records = 400_000
+
 -- a number is from low to high
 abbrev pub is_within : ℕ → ℕ → ℕ → Bool
 is_within low high n = nat_le low n && nat_le n high
@@ -44,10 +80,10 @@ is_within low high n = nat_le low n && nat_le n high
 abbrev pub is_name_byte : ℕ → Bool
 is_name_byte b = is_within 97 122 b || is_within 48 57 b || (b == 95)
 
--- names and sources: 1 to 40 such bytes
+-- names and sources: such bytes, at least one
 abbrev pub has_name_form : List ℕ → Bool
-has_name_form name = is_within 1 40 (length name) && list_all is_name_byte name
+has_name_form name = is_within 1 most_name_bytes (length name) && list_all is_name_byte name
 
--- column names: 1 to 200 bytes, in the normal form of a field
+-- column names: at least one byte, in the normal form of a field
 abbrev pub has_column_form : List ℕ → Bool
-has_column_form column = is_within 1 200 (length column) && bytes_eq (norm_field column) column
+has_column_form column = is_within 1 most_column_bytes (length column) && bytes_eq (norm_field column) column

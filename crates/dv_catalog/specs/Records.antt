@@ -12,6 +12,7 @@ use Rattle.dv_catalog.specs.declared.entries.FeedDef.{FeedDef}
 use Rattle.dv_catalog.specs.declared.rules.Rule.{Rule}
 use Rattle.dv_catalog.specs.declared.rules.Rule.TheVariants.{Ragged, NotUtf8, FieldLong, EmptyKey, TwoRows, TooManyRows}
 use Rattle.dv_catalog.specs.FirstOf.{first_of}
+use Rattle.dv_catalog.specs.Limits.{most_field_bytes}
 
 -- the place of a column in the header
 abbrev pub place_of : List (List ℕ) → List ℕ → Option ℕ
@@ -45,9 +46,9 @@ ragged feed names number fields = if length fields == length names then None els
 abbrev pub not_utf8 : FeedDef → ℕ → List (List ℕ) → Option Rule
 not_utf8 feed number fields = if list_all is_utf8 fields then None else Some (NotUtf8 feed.name number)
 
--- W14: a field of the record, also an ignored one, has more than 4,096 bytes
+-- W14: a field of the record, also an ignored one, is too long
 abbrev pub field_long : FeedDef → ℕ → List (List ℕ) → Option Rule
-field_long feed number fields = if list_any (λ field. nat_lt 4096 (length field)) fields then Some (FieldLong feed.name number) else None
+field_long feed number fields = if list_any (λ field. nat_lt most_field_bytes (length field)) fields then Some (FieldLong feed.name number) else None
 
 -- W15: every reference is missing, so also the one key of a hub's feed, or a driving key is
 abbrev pub empty_key : FeedDef → ℕ → NRow → Option Rule

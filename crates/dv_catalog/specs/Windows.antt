@@ -9,6 +9,7 @@ use Rattle.dv_catalog.specs.declared.windows.ExtractIn.{ExtractIn}
 use Rattle.dv_catalog.specs.declared.windows.WindowIn.{WindowIn}
 use Rattle.dv_catalog.specs.Entries.{Mapping}
 use Rattle.dv_catalog.specs.FirstOf.{first_of}
+use Rattle.dv_catalog.specs.Limits.{most_records, most_window_records}
 use Rattle.dv_catalog.specs.Readings.{Read, broken_rule, reads, taken_count}
 use Rattle.dv_catalog.specs.Readings.Read.{Broken, Taken}
 
@@ -37,9 +38,9 @@ extract_at mapping extracts feed =
 abbrev pub placed_extracts : Mapping → List ExtractIn → List PlacedExtract
 placed_extracts mapping extracts = filter_map (extract_at mapping extracts) (range_with_len 0 (length mapping.feeds))
 
--- how many records an extract may have: 200,000, and with those taken before it 400,000
+-- how many records an extract may have, also with those taken before it
 abbrev pub room_after : ℕ → ℕ
-room_after taken = min 200_000 (400_000 - taken)
+room_after taken = min most_records (most_window_records - taken)
 
 -- what extracts read as one after another, where so many records were taken before them
 abbrev pub reads_after : Mapping → ℕ → List PlacedExtract → List ReadExtract

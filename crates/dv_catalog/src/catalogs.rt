@@ -53,7 +53,7 @@ fn same_paths(some: &List<PathDef>, other: &List<PathDef>) -> bool
 }
 
 impl Catalog {
-    pub(crate) fn new(
+    pub fn new(
         hubs: List<HubDef>,
         links: List<LinkDef>,
         feeds: List<FeedDef>,
@@ -140,27 +140,27 @@ impl Catalog {
         find_place(self.paths.items(), name)
     }
 
-    pub(crate) fn hubs(&self) -> &[HubDef]
+    pub fn hubs(&self) -> &[HubDef]
         ensures { result.now ≡ self.now.hubs }
     {
         self.hubs.items()
     }
 
-    pub(crate) fn links(&self) -> &[LinkDef]
+    pub fn links(&self) -> &[LinkDef]
         ensures { result.now ≡ self.now.links }
     {
         self.links.items()
     }
 
     #[tactic(auto, using(crate::proofs::ValidReads::valid_parts))]
-    pub(crate) fn feeds(&self) -> &[FeedDef]
+    pub fn feeds(&self) -> &[FeedDef]
         ensures value { result.now ≡ self.now.feeds }
         ensures few { length result.now ≤ 64 }
     {
         self.feeds.items()
     }
 
-    pub(crate) fn paths(&self) -> &[PathDef]
+    pub fn paths(&self) -> &[PathDef]
         ensures { result.now ≡ self.now.paths }
     {
         self.paths.items()

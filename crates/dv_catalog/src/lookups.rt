@@ -8,7 +8,7 @@ use crate::outlines::{FeedOutline, HubOutline, LinkOutline, PathOutline};
 use dv_text::Text;
 
 /// What is looked up by a name.
-pub(crate) trait Named {
+pub trait Named {
     ghost name_of: { Self → List ℕ };
 
     fn name(&self) -> &Text
@@ -88,21 +88,21 @@ impl Named for PathDef {
 }
 
 /// Whether an entry has a name.
-pub(crate) fn has_name<T: Named>(entries: &[T], name: &Text) -> bool
+pub fn has_name<T: Named>(entries: &[T], name: &Text) -> bool
     ensures { result ≡ list_any (λ entry. bytes_eq (T.name_of entry) name.now) entries.now }
 {
     entries.iter().any(|entry| entry.name() == name)
 }
 
 /// The place of the first entry with a name.
-pub(crate) fn position_of<T: Named>(entries: &[T], name: &Text) -> Option<usize>
+pub fn position_of<T: Named>(entries: &[T], name: &Text) -> Option<usize>
     ensures { result ≡ position (λ entry. bytes_eq (T.name_of entry) name.now) entries.now }
 {
     entries.iter().position(|entry| entry.name() == name)
 }
 
 /// The place of the first entry with a name; where there is none, the number of entries.
-pub(crate) fn place_of<T: Named>(entries: &[T], name: &Text) -> u32
+pub fn place_of<T: Named>(entries: &[T], name: &Text) -> u32
     requires { length entries.now < 2 ^ 32 }
     ensures { result ≡ position_or_len (λ entry. bytes_eq (T.name_of entry) name.now) entries.now }
 {
@@ -110,7 +110,7 @@ pub(crate) fn place_of<T: Named>(entries: &[T], name: &Text) -> u32
 }
 
 /// The place of the first entry with a name; none where there is none.
-pub(crate) fn find_place<T: Named>(entries: &[T], name: &Text) -> Option<u32>
+pub fn find_place<T: Named>(entries: &[T], name: &Text) -> Option<u32>
     requires { length entries.now < 2 ^ 32 }
     ensures { result ≡ position (λ entry. bytes_eq (T.name_of entry) name.now) entries.now }
 {
@@ -123,14 +123,14 @@ pub(crate) fn find_place<T: Named>(entries: &[T], name: &Text) -> Option<u32>
 }
 
 /// The first entry with a name.
-pub(crate) fn find_named<'a, T: Named>(entries: &'a [T], name: &Text) -> Option<&'a T>
+pub fn find_named<'a, T: Named>(entries: &'a [T], name: &Text) -> Option<&'a T>
     ensures { option_map (λ entry. entry.now) result ≡ find (λ entry. bytes_eq (T.name_of entry) name.now) entries.now }
 {
     entries.iter().find(|entry| entry.name() == name)
 }
 
 /// The first name that stands earlier among the entries.
-pub(crate) fn name_again<T: Named>(entries: &[T]) -> Option<&Text>
+pub fn name_again<T: Named>(entries: &[T]) -> Option<&Text>
     ensures { option_map (λ name. name.now) result ≡ text_twice (map T.name_of entries.now) }
 {
     for (i, entry) in entries.iter().enumerate() {

@@ -1,7 +1,0 @@
-ghost use Rattle.dv_catalog.specs.ReadingExamples.{ReadingsHold};
-
-/// What worked extracts read as.
-#[tactic(auto, unfolding(crate::proofs::Literals::extracts_on_literals))]
-pub fn readings_hold()
-    ensures { ReadingsHold }
-{}

@@ -1,0 +1,10 @@
+use Rattle.std.proofs.Common.{◌≡◌, drop, not, find}
+use Rattle.std.specs.List.{filter_map, list_any}
+use Rattle.std.specs.Str.{bytes_eq}
+use Rattle.dv_catalog.specs.Checks as spec
+use Rattle.dv_mapfile.proofs.name_checks.unknown_in_feeds.Given as goal
+
+abbrev pub invariant-loop-feed : goal.invariant-loop-feed
+invariant-loop-feed l =
+    find (λ name. not (list_any (λ hub. bytes_eq hub.name name) l.hubs)) (filter_map (λ feed. spec.parent_hub feed.parent) (drop l.feed-index l.feeds))
+    ≡ find (λ name. not (list_any (λ hub. bytes_eq hub.name name) l.hubs)) (filter_map (λ feed. spec.parent_hub feed.parent) l.feeds)

@@ -1,0 +1,3 @@
+pub mod ManifestFaults
+pub mod Manifests
+pub mod Meets

@@ -1,0 +1,108 @@
+ghost use Rattle.std.specs.Prelude.{◌≡◌, Err, IfErr, IfOk, Ok};
+ghost use Rattle.toml.specs.View.{table_view};
+ghost use Rattle.dv_mapfile.specs.ManifestFaults.{Explains};
+ghost use Rattle.dv_mapfile.specs.Manifests as spec;
+ghost use Rattle.dv_mapfile.specs.Meets.{Meets};
+
+use crate::documents::any_document;
+use crate::fields::required;
+use crate::forms::Form;
+use crate::shape_faults::ShapeFault;
+use crate::shapes::{Entry, read_entries};
+use crate::tops::tables_at;
+use dv_text::{List, Memory, Stamp, Text};
+use std::alloc::Global;
+use toml::{Table, Value};
+
+const MOST_BYTES: usize = 65_536;
+
+/// A window's manifest: its load date, and the extracts in the manifest's order.
+#[derive(Debug, Drop)]
+pub struct Manifest {
+    pub load: Stamp,
+    pub extracts: List<ManifestExtract>,
+}
+
+/// An extract of a manifest: the feed's name, and the name of the file that holds the extract.
+#[derive(Debug, Drop)]
+pub struct ManifestExtract {
+    pub feed: Text,
+    pub file: Text,
+}
+
+/// Why a manifest was not read: at a place it has not the form that it has to have, or memory ran out.
+#[derive(Debug, Drop)]
+pub enum ManifestFault {
+    Broken { place: Text },
+    Memory,
+}
+
+// The form of a load date.
+struct LoadDate;
+
+impl Form for LoadDate {
+    type Made = Stamp;
+
+    ghost made_of = { spec.stamp };
+
+    fn read(_alloc: Global, value: &Value) -> Result<Option<Stamp>, Memory> {
+        match value.as_str() {
+            Some(text) => Ok(Stamp::read(text.as_bytes())),
+            None => Ok(None),
+        }
+    }
+}
+
+impl Entry for ManifestExtract {
+    ghost entry_of = { spec.extract_of };
+
+    fn read(alloc: Global, table: &Table) -> Result<ManifestExtract, ShapeFault> {
+        let feed = required::<Text>(alloc, table, "feed")?;
+        let file = required::<Text>(alloc, table, "file")?;
+        Ok(ManifestExtract { feed, file })
+    }
+}
+
+// What a manifest's document says.
+fn declared(alloc: Global, document: &Table) -> Result<Manifest, ShapeFault>
+    ensures { Meets result (spec.manifest_of (table_view document.now)) }
+{
+    let load = required::<LoadDate>(alloc, document, "load")?;
+    let tables = tables_at(alloc, document, "extract")?;
+    let extracts = read_entries(alloc, "extract", tables.as_slice())?;
+    Ok(Manifest { load, extracts })
+}
+
+fn broken_at(alloc: Global, place: &str) -> ManifestFault
+    ensures { Explains result (Err place.now) }
+{
+    match Text::of(alloc, place.as_bytes()) {
+        Ok(place) => ManifestFault::Broken { place },
+        Err(Memory) => ManifestFault::Memory,
+    }
+}
+
+impl Manifest {
+    /// The manifest that some bytes are. `Broken` names the place of the first fault: `length` where there
+    /// are more than 65,536 bytes, `text` where they are no TOML document, `load` where there is no load
+    /// date, `extract` where the extracts are no list of tables, and `extract N feed` or `extract N file`
+    /// where the N-th extract lacks that text.
+    pub fn read(alloc: Global, bytes: &[u8]) -> Result<Manifest, ManifestFault>
+        ensures ok { IfOk result (λ manifest. spec.manifest_in bytes.now ≡ Ok manifest) }
+        ensures err { IfErr result (λ fault. Explains fault (spec.manifest_in bytes.now)) }
+    {
+        if bytes.len() > MOST_BYTES {
+            return Err(broken_at(alloc, "length"));
+        }
+        let document = match any_document(alloc, bytes) {
+            Ok(Some(document)) => document,
+            Ok(None) => return Err(broken_at(alloc, "text")),
+            Err(Memory) => return Err(ManifestFault::Memory),
+        };
+        match declared(alloc, &document) {
+            Ok(manifest) => Ok(manifest),
+            Err(ShapeFault::At(place)) => Err(ManifestFault::Broken { place }),
+            Err(ShapeFault::Memory) => Err(ManifestFault::Memory),
+        }
+    }
+}

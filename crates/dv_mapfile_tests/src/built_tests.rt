@@ -1,0 +1,83 @@
+//! Which mapping files are built.
+
+use crate::sample_files::{
+    ACCOUNTS, ASSIGNMENTS, BY_EMPLOYEE, BY_ORDER, CUSTOMERS, NAMES, ORDERS, PHONES, SITES, SOLD,
+    fault,
+};
+use dv_mapfile::read_built_catalog;
+use std::test::Fail;
+
+/// A second feed of the customers, with several rows of one key.
+const PHONES_TOO: &str = r#"
+[[feed]]
+name = "phones"
+source = "crm"
+hub = "customer"
+keys = [["CUST_NO"]]
+sub = ["KIND"]
+attrs = ["PHONE"]
+"#;
+
+/// A path over the feed of assignments.
+const WORKED: &str = r#"
+[[path]]
+name = "worked"
+feeds = ["assignments"]
+via = []
+"#;
+
+#[test]
+fn the_first_form_that_is_not_built_is_named(rt: HostRuntime) -> Result<(), Fail> {
+    let cases = [
+        ("", "", ""),
+        ("", CUSTOMERS, ""),
+        (
+            CUSTOMERS,
+            "sub = []\nattrs = []\nignore = []\ndriver = []",
+            "",
+        ),
+        (
+            "[[hub]]\nname = \"customer\"\nparts = 5",
+            "",
+            "2 Shape place=hub 1 parts",
+        ),
+        ("[[hub]]\nname = \"customer\"\nparts = 4", "", ""),
+        (CUSTOMERS, SITES, ""),
+        (CUSTOMERS, ACCOUNTS, ""),
+        (CUSTOMERS, NAMES, ""),
+        (CUSTOMERS, "ignore = [\"CLERK\"]", ""),
+        ("", ORDERS, ""),
+        ("", ASSIGNMENTS, ""),
+        ("", PHONES, "0 NotYet place=feed 1 sub"),
+        (CUSTOMERS, PHONES_TOO, "0 NotYet place=feed 2 sub"),
+        (ASSIGNMENTS, BY_EMPLOYEE, "0 NotYet place=feed 1 driver"),
+        (SOLD, BY_ORDER, "0 NotYet place=path 1 name"),
+        (WORKED, ASSIGNMENTS, "0 NotYet place=path 1 name"),
+        (
+            PHONES,
+            "driver = [\"customer\"]",
+            "10 DriverNotInLink feed=phones",
+        ),
+        (
+            CUSTOMERS,
+            "attrs = [\"CUST_NO\"]",
+            "8 ColumnTwice feed=customers name=CUST_NO",
+        ),
+        (CUSTOMERS, "attrs = [", "1 Text"),
+    ];
+    for (first, second, expected) in cases {
+        let file = format!(in rt.alloc(); "{first}{second}")?;
+        let found = fault(rt.alloc(), read_built_catalog(rt.alloc(), file.as_bytes()))?;
+        assert_eq!(rt; found.bytes(), expected.as_bytes(), "at {file}");
+    }
+    let file = format!(in rt.alloc(); "{WORKED}{ASSIGNMENTS}{BY_EMPLOYEE}")?;
+    let found = fault(rt.alloc(), read_built_catalog(rt.alloc(), file.as_bytes()))?;
+    assert_eq!(rt; found.bytes(), b"0 NotYet place=feed 1 driver".as_slice());
+    let (without_path, _) = SOLD.split_once("[[path]]").ok_or("no path")?;
+    let found = fault(
+        rt.alloc(),
+        read_built_catalog(rt.alloc(), without_path.as_bytes()),
+    )?;
+    assert_eq!(rt; found.bytes(), b"".as_slice());
+    Ok(())
+}
