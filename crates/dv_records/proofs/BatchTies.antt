@@ -1,22 +1,26 @@
 -- A list is a batch's value exactly where it meets the record.
-use Rattle.std.proofs.Common.{◌≡◌, ◌↔◌, ℕ, List, Option, Some, None, sym, ◌∙◌, ap, subst}
-use Rattle.std.specs.Prelude.{Contains}
-use Rattle.std.specs.List.{filter_map}
 use Rattle.std.specs.declared.cmp.Ordering.{Ordering}
 use Rattle.std.specs.declared.cmp.Ordering.TheVariants.{Equal}
 use Rattle.std.specs.Cmp.{IsTotalOrder, on_total}
 use Rattle.std.specs.Cmp.Lexicographic.{nat_list_cmp_total}
 use Rattle.std.specs.FinMap.{nat_cmp-IsAntisymmetric, slice_cmp-IsAntisymmetric}
+use Rattle.std.specs.List.{filter_map}
 use Rattle.std.specs.Option.{option_map}
+use Rattle.std.specs.Prelude.{Contains}
+use Rattle.std.proofs.Common.{◌≡◌, ◌↔◌, ℕ, List, Option, Some, None, sym, ◌∙◌, ap, subst}
 use Rattle.dv_text.proofs.Members.{filter_map_member, member_of_filter_map}
 use Rattle.dv_text.proofs.SortedLists.{ascending-sorted_by, member_after_sort, member_before_sort, same_ascending}
 use Rattle.dv_records.specs.Batches.{batch_of, digest_cmp, IsBatchOf, IsWholeBatch}
+
+-- each row of a batch is made of one of the things
+pub batch_made : {T R : Type 0} (cmp : R → R → Ordering) (row_of : T → Option R) (things : List T) (row : R) → Contains (batch_of cmp row_of things) row → (thing : T) × Contains things thing × (row_of thing ≡ Some row)
+batch_made cmp row_of things row has = filter_map_member row_of things row (member_before_sort cmp (filter_map row_of things) row has)
 
 module _ {T R : Type 0} (cmp : R → R → Ordering) (o : IsTotalOrder cmp) (row_of : T → Option R) (things : List T) (exact : (s t : T) (a b : R) → Contains things s → Contains things t → row_of s ≡ Some a → row_of t ≡ Some b → cmp a b ≡ Equal → a ≡ b) where
   pub IsBatchOf-batch_of : IsBatchOf cmp row_of things (batch_of cmp row_of things)
   IsBatchOf-batch_of = record {
     ascending = ascending-sorted_by cmp o (filter_map row_of things);
-    only = λ row has. filter_map_member row_of things row (member_before_sort cmp (filter_map row_of things) row has);
+    only = batch_made cmp row_of things;
     each = λ thing row member is.
         member_after_sort cmp (filter_map row_of things) row (
         λ other has tied.

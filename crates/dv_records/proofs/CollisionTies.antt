@@ -1,93 +1,51 @@
 -- The collision of a hub or a link is the least pair of different lists with one hash key.
-use Rattle.std.proofs.Common.{◌≡◌, ◌↔◌, inl, inr, ◌⊎◌, Bool, true, false, List, [], ◌∷◌, Option, Some, None, refl, sym, ◌∙◌, ap, subst}
-use Rattle.std.specs.Prelude.{All, Contains, find}
 use Rattle.std.specs.declared.cmp.Ordering.{Ordering}
 use Rattle.std.specs.declared.cmp.Ordering.TheVariants.{Less, Equal, Greater}
-use Rattle.std.specs.Cmp.{IsTotalOrder, on_total, tied_itself}
-use Rattle.std.specs.Cmp.Lexicographic.{lists_total, nat_list_cmp_total}
-use Rattle.std.specs.FinMap.{slice_cmp-IsAntisymmetric}
+use Rattle.std.specs.Cmp.{IsTotalOrder, on_total, then_total}
 use Rattle.std.specs.List.{AllByRecursion}
 use Rattle.std.specs.List.Sorted.{IsStrictlySortedBy}
+use Rattle.std.specs.Prelude.{All, Contains, find}
 use Rattle.std.specs.Str.{bytes_eq}
+use Rattle.std.proofs.Common.{◌≡◌, ◌↔◌, inl, inr, ◌⊎◌, Bool, true, false, List, [], ◌∷◌, Option, Some, None, refl, sym, ◌∙◌, ap, subst}
+use Rattle.std.proofs.lemmas.Bool.{false≢true}
 use Rattle.std.proofs.lemmas.List.Elements.{All-cons, All-head, All-nil, All-tail}
 use Rattle.std.proofs.lemmas.Slice.Eq.{bytes_eq-Decides}
-use Rattle.std.proofs.lemmas.Bool.{false≢true}
 use Rattle.dv_text.specs.declared.rows.Key.{Key}
 use Rattle.dv_text.specs.declared.rows.Window.{Window}
-use Rattle.dv_text.specs.Exact.{key_cmp-IsAntisymmetric}
+use Rattle.dv_text.specs.Exact.{both_tied}
 use Rattle.dv_text.specs.Keys.{Hashes}
 use Rattle.dv_text.specs.Orders.{refs_cmp}
 use Rattle.dv_text.specs.Sorting.{sorted_by}
-use Rattle.dv_text.proofs.Members.{Contains-cons_cases, Contains-cons_here, Contains-cons_there}
+use Rattle.dv_text.proofs.Deciding.{refs_exact, refs_total}
+use Rattle.dv_text.proofs.Members.{member_of_all, Contains-cons_cases, Contains-cons_here, Contains-cons_there, Contains-nil}
+use Rattle.dv_text.proofs.Options.{none_before_map, or_none}
+use Rattle.dv_text.proofs.Orderings.{asymmetric, irreflexive, then_less, turned}
+use Rattle.dv_text.proofs.Passing.{finds, found_member}
 use Rattle.dv_text.proofs.SortedLists.{ascending-sorted_by, member_after_sort, member_before_sort}
 use Rattle.dv_catalog.specs.declared.entries.Parent.{Parent}
 use Rattle.dv_catalog.specs.Entries.{Mapping}
 use Rattle.dv_records.specs.Collisions.{Pair, IsApart, IsLeastPair, IsPairOf, collision, collision_in, first_collision, hashed_refs, least_pair, pair_cmp, parents}
-use Rattle.dv_records.proofs.Memberships.{Contains-nil, finds, found_member}
-
--- ---- the order of reference lists
-
-pub refs_total : IsTotalOrder refs_cmp
-refs_total = lists_total (on_total (λ (key : Key). key.parts) (lists_total nat_list_cmp_total))
-
-pub refs_exact : (a b : List Key) → refs_cmp a b ≡ Equal → a ≡ b
-refs_exact = slice_cmp-IsAntisymmetric key_cmp-IsAntisymmetric
-
-not_less_itself : (a : List Key) → refs_cmp a a ≡ Less → ⊥
-not_less_itself a e = let same : Less ≡ Equal = sym e ∙ tied_itself refs_total a in cc
-
-not_both : (a b : List Key) → refs_cmp a b ≡ Less → refs_cmp b a ≡ Less → ⊥
-not_both a b e f = not_less_itself a (refs_total.trans a b a e f)
-
--- different lists stand in one order or the other
-either_less : (a b : List Key) → (a ≡ b → ⊥) → (refs_cmp a b ≡ Less) ⊎ (refs_cmp b a ≡ Less)
-either_less a b differ = by (refs_cmp a b) refl
-  where
-    by : (o : Ordering) → refs_cmp a b ≡ o → (refs_cmp a b ≡ Less) ⊎ (refs_cmp b a ≡ Less)
-    by Less e = inl e
-    by Equal e = absurd (differ (refs_exact a b e))
-    by Greater e = inr (refs_total.antisymm b a ∙ rw e)
 
 greater_than : (x : List Key) (xs : List (List Key)) → AllByRecursion (λ y. refs_cmp x y ≡ Less) xs → (y : List Key) → Contains xs y → refs_cmp x y ≡ Less
-greater_than x [] all y has = Contains-nil y has
-greater_than x (z ∷ xs) all y has =
-    elim (Contains-cons_cases z xs y has) [
-      | inl same ↦ subst (λ w. refs_cmp x w ≡ Less) same all.0
-      | inr rest ↦ greater_than x xs all.1 y rest
-    ]
+greater_than x xs all y has = member_of_all (λ y. refs_cmp x y ≡ Less) xs y all has
 
 -- ---- the order of pairs
 
-first_differs : (a b : Pair) → refs_cmp a.first b.first ≡ Less → pair_cmp a b ≡ Less
-first_differs a b e = rw e
-
-second_differs : (a b : Pair) → a.first ≡ b.first → refs_cmp a.second b.second ≡ Less → pair_cmp a b ≡ Less
-second_differs a b same e = rw (same, tied_itself refs_total b.first) e
-
-less_cases : (a b : Pair) → pair_cmp a b ≡ Less → (refs_cmp a.first b.first ≡ Less) ⊎ ((a.first ≡ b.first) × (refs_cmp a.second b.second ≡ Less))
-less_cases a b e = by (refs_cmp a.first b.first) refl
-  where
-    by : (o : Ordering) → refs_cmp a.first b.first ≡ o → (refs_cmp a.first b.first ≡ Less) ⊎ ((a.first ≡ b.first) × (refs_cmp a.second b.second ≡ Less))
-    by Less f = inl f
-    by Equal f = inr (refs_exact a.first b.first f, rw f at e)
-    by Greater f = let no : Greater ≡ Less = rw f at e in cc
+pair_total : IsTotalOrder pair_cmp
+pair_total = then_total (on_total (λ (pair : Pair). pair.first) refs_total) (on_total (λ (pair : Pair). pair.second) refs_total)
 
 -- pairs of which neither is less are one
 pairs_same : (a b : Pair) → (pair_cmp a b ≡ Less → ⊥) → (pair_cmp b a ≡ Less → ⊥) → a ≡ b
-pairs_same a b not_ab not_ba =
-    let first : a.first ≡ b.first = by_first (refs_cmp a.first b.first) refl in
-    let second : a.second ≡ b.second = by_second first (refs_cmp a.second b.second) refl in
-    λ i. record { first = first i; second = second i }
+pairs_same a b not_ab not_ba = by (pair_cmp a b) refl
   where
-    by_first : (o : Ordering) → refs_cmp a.first b.first ≡ o → a.first ≡ b.first
-    by_first Less e = absurd (not_ab (first_differs a b e))
-    by_first Equal e = refs_exact a.first b.first e
-    by_first Greater e = absurd (not_ba (first_differs b a (refs_total.antisymm b.first a.first ∙ rw e)))
-
-    by_second : a.first ≡ b.first → (o : Ordering) → refs_cmp a.second b.second ≡ o → a.second ≡ b.second
-    by_second first Less e = absurd (not_ab (second_differs a b first e))
-    by_second first Equal e = refs_exact a.second b.second e
-    by_second first Greater e = absurd (not_ba (second_differs b a (sym first) (refs_total.antisymm b.second a.second ∙ rw e)))
+    by : (o : Ordering) → pair_cmp a b ≡ o → a ≡ b
+    by Less e = absurd (not_ab e)
+    by Equal e =
+        let ties = both_tied _ _ e in
+        let first = refs_exact a.first b.first ties.0 in
+        let second = refs_exact a.second b.second ties.1 in
+        λ i. record { first = first i; second = second i }
+    by Greater e = absurd (not_ba (turned pair_total a b e))
 
 -- ---- the least pair of a list in order
 
@@ -103,12 +61,12 @@ module _ (hashes : Hashes) where
       elim (Contains-cons_cases refs greater pair.first is.has_first) [
         | inl first ↦
             elim (Contains-cons_cases refs greater pair.second is.has_second) [
-              | inl second ↦ absurd (not_less_itself refs (subst (λ w. refs_cmp w refs ≡ Less) (sym first) (subst (λ w. refs_cmp pair.first w ≡ Less) (sym second) is.ordered)))
+              | inl second ↦ absurd (irreflexive refs_total refs (subst (λ w. refs_cmp w refs ≡ Less) (sym first) (subst (λ w. refs_cmp pair.first w ≡ Less) (sym second) is.ordered)))
               | inr rest ↦ inl (first, rest)
             ]
         | inr rest ↦
             elim (Contains-cons_cases refs greater pair.second is.has_second) [
-              | inl second ↦ absurd (not_both refs pair.first (greater_than refs greater up.0 pair.first rest) (subst (λ w. refs_cmp pair.first w ≡ Less) (sym second) is.ordered))
+              | inl second ↦ absurd (asymmetric refs_total refs pair.first (greater_than refs greater up.0 pair.first rest) (subst (λ w. refs_cmp pair.first w ≡ Less) (sym second) is.ordered))
               | inr more ↦ inr (record { has_first = rest; has_second = more; alike = is.alike; ordered = is.ordered })
             ]
       ]
@@ -137,8 +95,8 @@ module _ (hashes : Hashes) where
           let here : Some x ≡ Some found = rw t at e in
           let is : x ≡ found = cc in
           elim (Contains-cons_cases x all other has) [
-            | inl first ↦ not_less_itself x (subst (λ w. refs_cmp x w ≡ Less) (sym is) (subst (λ w. refs_cmp w found ≡ Less) (sym first) less))
-            | inr rest ↦ not_both x other (greater_than x all up.0 other rest) (subst (λ w. refs_cmp other w ≡ Less) (sym is) less)
+            | inl first ↦ irreflexive refs_total x (subst (λ w. refs_cmp x w ≡ Less) (sym is) (subst (λ w. refs_cmp w found ≡ Less) (sym first) less))
+            | inr rest ↦ asymmetric refs_total x other (greater_than x all up.0 other rest) (subst (λ w. refs_cmp other w ≡ Less) (sym is) less)
           ]
       by false f later =
           elim (Contains-cons_cases x all other has) [
@@ -158,16 +116,16 @@ module _ (hashes : Hashes) where
           alike = (bytes_eq-Decides (hashes.hash refs) (hashes.hash found)).0 same;
           ordered = greater_than refs greater up.0 found member;
         };
-        least = λ other is less. elim (less_cases other (record { first = refs; second = found }) less) [
+        least = λ other is less. elim (then_less (refs_cmp other.first refs) (refs_cmp other.second found) less) [
           | inl first ↦
               elim (Contains-cons_cases refs greater other.first is.has_first) [
-                | inl here ↦ not_less_itself refs (subst (λ w. refs_cmp w refs ≡ Less) (sym here) first)
-                | inr rest ↦ not_both refs other.first (greater_than refs greater up.0 other.first rest) first
+                | inl here ↦ irreflexive refs_total refs (subst (λ w. refs_cmp w refs ≡ Less) (sym here) first)
+                | inr rest ↦ asymmetric refs_total refs other.first (greater_than refs greater up.0 other.first rest) first
               ]
           | inr both ↦
               elim (pair_cases refs greater up other is) [
                 | inl pair ↦ first_found refs greater up.1 found e other.second pair.1 (ap hashes.hash pair.0 ∙ is.alike) both.1
-                | inr rest ↦ not_less_itself refs (subst (λ w. refs_cmp refs w ≡ Less) both.0 (greater_than refs greater up.0 other.first rest.has_first))
+                | inr rest ↦ irreflexive refs_total refs (subst (λ w. refs_cmp refs w ≡ Less) (refs_exact other.first refs both.0) (greater_than refs greater up.0 other.first rest.has_first))
               ]
         ];
       }
@@ -235,7 +193,7 @@ module _ (hashes : Hashes) where
         none apart None e is = e
         none apart (Some pair) e is =
             let same : pair.first ≡ pair.second = apart pair.first pair.second (back pair.first is.is.has_first) (back pair.second is.is.has_second) is.is.alike in
-            absurd (not_less_itself pair.first (subst (λ w. refs_cmp pair.first w ≡ Less) (sym same) is.is.ordered))
+            absurd (irreflexive refs_total pair.first (subst (λ w. refs_cmp pair.first w ≡ Less) (sym same) is.is.ordered))
 
     -- the pair that is found is the least one
     pub least_exactly : (pair : Pair) → (least_pair hashes.hash (sorted_by refs_cmp lists) ≡ Some pair) ↔ IsLeastPair hashes lists pair
@@ -261,11 +219,9 @@ collision_tied mapping hashes windows parent = least_exactly hashes (hashed_refs
 
 first_none : (mapping : Mapping) (hashes : Hashes) (windows : List Window) (all : List Parent) → first_collision mapping hashes windows all ≡ None → All (λ parent. collision_in mapping hashes windows parent ≡ None) all
 first_none mapping hashes windows [] e = All-nil (λ (parent : Parent). collision_in mapping hashes windows parent ≡ None)
-first_none mapping hashes windows (parent ∷ rest) e = by (collision_in mapping hashes windows parent) refl (first_none mapping hashes windows rest)
-  where
-    by : (o : Option Pair) → collision_in mapping hashes windows parent ≡ o → (first_collision mapping hashes windows rest ≡ None → All (λ parent. collision_in mapping hashes windows parent ≡ None) rest) → All (λ parent. collision_in mapping hashes windows parent ≡ None) (parent ∷ rest)
-    by None f later = All-cons (λ (parent : Parent). collision_in mapping hashes windows parent ≡ None) parent rest f (later (rw f at e))
-    by (Some pair) f later = let no = rw f at e in cc
+first_none mapping hashes windows (parent ∷ rest) e =
+    let (here, behind) = or_none _ (first_collision mapping hashes windows rest) e in
+    All-cons (λ (parent : Parent). collision_in mapping hashes windows parent ≡ None) parent rest (none_before_map _ _ here) (first_none mapping hashes windows rest behind)
 
 none_first : (mapping : Mapping) (hashes : Hashes) (windows : List Window) (all : List Parent) → All (λ parent. collision_in mapping hashes windows parent ≡ None) all → first_collision mapping hashes windows all ≡ None
 none_first mapping hashes windows [] none = refl

@@ -1,21 +1,22 @@
 -- The content of a valid feed, its rows' hash keys, and its status table in the vault.
-use Rattle.std.proofs.Common.{◌≡◌, ℕ, ◌&&◌, inl, inr, Bool, true, false, List, [], ◌∷◌, ◌++◌, Option, Some, None, refl, sym, ◌∙◌, ap, subst, map, nat_le, reverse}
-use Rattle.std.specs.Prelude.{Contains, find, slice_get}
-use Rattle.std.specs.declared.cmp.Ordering.TheVariants.{Equal}
-use Rattle.std.specs.FinMap.{nat_cmp-IsAntisymmetric, slice_cmp-IsAntisymmetric}
-use Rattle.std.specs.List.{filter_map}
 use Rattle.std.specs.List.Sorted.{IsStrictlySortedBy}
+use Rattle.std.specs.Prelude.{Contains, find, slice_get}
 use Rattle.std.specs.Str.{bytes_eq}
+use Rattle.std.proofs.Common.{◌≡◌, ℕ, ◌&&◌, inl, inr, Bool, true, false, List, [], ◌∷◌, ◌++◌, Option, Some, None, refl, sym, ◌∙◌, ap, subst, map, nat_le, reverse}
 use Rattle.std.proofs.lemmas.Bool.{and_parts}
 use Rattle.std.proofs.lemmas.List.Elements.{Contains-append_cases, Contains-append_right}
 use Rattle.std.proofs.lemmas.Slice.Eq.{bytes_eq-Decides}
 use Rattle.dv_text.specs.declared.rows.Key.{Key}
 use Rattle.dv_text.specs.declared.rows.NRow.{NRow}
 use Rattle.dv_text.specs.declared.rows.Window.{Window}
+use Rattle.dv_text.specs.Exact.{text_cmp-IsAntisymmetric}
 use Rattle.dv_text.specs.Keys.{Hashes, refs_eq}
 use Rattle.dv_text.specs.Orders.{row_cmp}
 use Rattle.dv_text.specs.Sorting.{sorted_by}
-use Rattle.dv_text.proofs.Members.{filter_map_member, filtered_members, member_of_filter_map}
+use Rattle.dv_text.proofs.Deciding.{refs_eq-Decides}
+use Rattle.dv_text.proofs.Members.{filtered_members, Contains-flat_map, map_member, Contains-map, Contains-nil, reverse_member}
+use Rattle.dv_text.proofs.Options.{made_of}
+use Rattle.dv_text.proofs.Passing.{some_passes_at, some_passes, found_member}
 use Rattle.dv_text.proofs.SortedLists.{member_after_sort, member_before_sort}
 use Rattle.dv_catalog.specs.declared.entries.FeedDef.{FeedDef}
 use Rattle.dv_catalog.specs.Entries.{Mapping}
@@ -25,23 +26,23 @@ use Rattle.dv_records.specs.declared.raw_rows.StatusRow.{StatusRow}
 use Rattle.dv_records.specs.declared.stores.Rows.TheVariants.{Statuses}
 use Rattle.dv_records.specs.Batches.{appended, digest_cmp}
 use Rattle.dv_records.specs.Collisions.{IsApart}
-use Rattle.dv_records.specs.Deliveries.{is_known}
-use Rattle.dv_records.specs.History.{Extract, all_refs, content, delivered_refs, delivers, extract_of, history, newest_rows, up_to, lists_of}
+use Rattle.dv_records.specs.History.{Extract, all_refs, content, delivered_refs, delivers, history, newest_rows, lists_of}
 use Rattle.dv_records.specs.ReadBack.{present_parents, refs_read, status_rows_in}
 use Rattle.dv_records.specs.Reconstruction.{present_at, says_present}
 use Rattle.dv_records.specs.States.{are_windows_valid}
 use Rattle.dv_records.specs.Statuses.{code_of, status_batch, status_cmp, status_row}
 use Rattle.dv_records.specs.Vault.{vault}
-use Rattle.dv_records.proofs.Deciding.{refs_eq-Decides}
-use Rattle.dv_records.proofs.FeedRefs.{parent_apart, refs_told, row_known}
+use Rattle.dv_records.proofs.BatchTies.{batch_made}
+use Rattle.dv_records.proofs.FeedRefs.{parent_apart, refs_told}
 use Rattle.dv_records.proofs.FeedSteps.{appended-history}
-use Rattle.dv_records.proofs.HubReconstruct.{newest_ascends, newest_extract}
-use Rattle.dv_records.proofs.KnownRefs.{known_apart}
-use Rattle.dv_records.proofs.Memberships.{Contains-flat_map, Contains-map, Contains-nil, any_from_member, any_member, flat_map_member, found_member, map_member}
-use Rattle.dv_records.proofs.Reversing.{made_of, reverse_member}
-use Rattle.dv_records.proofs.StatusReconstruct.{both_lists, delivered_tells, lists_reversed}
-use Rattle.dv_records.proofs.ValidWindows.{AreRows, HasForm, extract_rows, load_order}
+use Rattle.dv_records.proofs.KnownLists.{lists_apart, rows_valid}
+use Rattle.dv_records.proofs.LastChange.{lists_reversed}
+use Rattle.dv_records.proofs.NewestRows.{content_ascends as ascends, content_extract}
+use Rattle.dv_records.proofs.Reversing.{history_member}
+use Rattle.dv_records.proofs.StatusReconstruct.{both_lists, delivered_tells}
+use Rattle.dv_records.proofs.ValidWindows.{load_order, whole}
 use Rattle.dv_records.proofs.VaultRows.{vault_status}
+use Rattle.dv_records.proofs.WindowRows.{AreRows, HasForm}
 
 -- ---- status rows
 
@@ -54,8 +55,7 @@ parent_delivered hashes source (newest ∷ older) row has =
           let (refs, member, parent) = parent_delivered hashes source older row before in
           (refs, Contains-append_right (all_refs newest.rows) (lists_of older) refs member, parent)
       | inr now ↦
-          let lists = all_refs (newest_rows older) ++ all_refs newest.rows in
-          let (refs, member, gives) = filter_map_member (status_row hashes source older newest) lists row (member_before_sort status_cmp (filter_map (status_row hashes source older newest) lists) row now) in
+          let (refs, member, gives) = batch_made status_cmp (status_row hashes source older newest) (all_refs (newest_rows older) ++ all_refs newest.rows) row now in
           let (code, found, made) = made_of _ (code_of older newest refs) row gives in
           (refs, both_lists newest older refs member, ap (λ (r : StatusRow). r.parent) (sym made))
     ]
@@ -73,9 +73,6 @@ present_row rows digest date e = by (find is_up_to (reverse rows)) refl e
         let (member, same) = found_member is_up_to (reverse rows) row found in
         (row, (reverse_member rows row).0 member, (bytes_eq-Decides row.parent digest).0 (and_parts (bytes_eq row.parent digest) (nat_le row.load date) same).0)
 
-digest_exact : (a b : List ℕ) → digest_cmp a b ≡ Equal → a ≡ b
-digest_exact = slice_cmp-IsAntisymmetric nat_cmp-IsAntisymmetric
-
 -- so it is among the parents that are present
 among_present : (rows : List StatusRow) (digest : List ℕ) (date : ℕ) → present_at rows digest date ≡ true → Contains (present_parents rows date) digest
 among_present rows digest date e =
@@ -83,36 +80,16 @@ among_present rows digest date e =
     let parents = map (λ (row : StatusRow). row.parent) rows in
     let has : Contains parents digest = subst (Contains parents) parent (Contains-map (λ (row : StatusRow). row.parent) rows row member) in
     (filtered_members (λ parent. present_at rows parent date) (sorted_by digest_cmp parents) digest).1
-    (member_after_sort digest_cmp parents digest (λ x x_in same. digest_exact x digest same) has, e)
+    (member_after_sort digest_cmp parents digest (λ x x_in same. text_cmp-IsAntisymmetric x digest same) has, e)
 
 -- ---- a feed
 
 module _ (mapping : Mapping) (hashes : Hashes) (sealed : List Window) (feed : ℕ) (definition : FeedDef) (valid : is_valid mapping ≡ true) (windows_valid : are_windows_valid mapping hashes sealed ≡ true) (at : slice_get mapping.feeds feed ≡ Some definition) where
-  -- the extracts in either order
-  pub forward : (extract : Extract) → Contains (history feed (reverse sealed)) extract → Contains (history feed sealed) extract
-  forward extract has =
-      let (window, member, is) = filter_map_member (extract_of feed) (reverse sealed) extract has in
-      member_of_filter_map (extract_of feed) sealed window extract ((reverse_member sealed window).0 member) is
-
-  pub backward : (extract : Extract) → Contains (history feed sealed) extract → Contains (history feed (reverse sealed)) extract
-  backward extract has =
-      let (window, member, is) = filter_map_member (extract_of feed) sealed extract has in
-      member_of_filter_map (extract_of feed) (reverse sealed) window extract ((reverse_member sealed window).1 member) is
-
-  pub rows_valid : (extract : Extract) → Contains (history feed sealed) extract → AreRows mapping definition extract.rows
-  rows_valid = extract_rows mapping hashes sealed windows_valid feed definition at
-
-  -- ---- hash keys of their own
-
-  delivered_known : (refs : List Key) → Contains (delivered_refs feed sealed) refs → is_known mapping definition.parent (reverse sealed) refs ≡ true
-  delivered_known refs has =
-      let (extract, member, within) = flat_map_member (λ (extract : Extract). all_refs extract.rows) (history feed sealed) refs has in
-      let (row, row_in, same) = map_member (λ (row : NRow). row.refs) extract.rows refs within in
-      subst (λ refs. is_known mapping definition.parent (reverse sealed) refs ≡ true) same
-      (row_known mapping hashes sealed valid windows_valid feed definition at extract (backward extract member) row row_in ((rows_valid extract member).forms row row_in))
+  pub rows_of_extract : (extract : Extract) → Contains (history feed sealed) extract → AreRows mapping definition extract.rows
+  rows_of_extract = rows_valid mapping hashes sealed (whole mapping hashes sealed windows_valid) feed definition at
 
   pub feed_apart : IsApart hashes (delivered_refs feed sealed)
-  feed_apart a b a_in b_in = known_apart mapping hashes sealed definition.parent (parent_apart mapping hashes sealed valid windows_valid feed definition at) a b (delivered_known a a_in) (delivered_known b b_in)
+  feed_apart = lists_apart mapping hashes sealed (whole mapping hashes sealed windows_valid) feed definition at (parent_apart mapping hashes sealed valid windows_valid feed definition at)
 
   -- the status table tells of each list that is delivered
   pub status_told : (refs : List Key) → Contains (delivered_refs feed sealed) refs → (date : ℕ) → present_at (status_rows_in feed (vault mapping hashes sealed)) (hashes.hash refs) date ≡ delivers (content feed sealed date) refs
@@ -131,9 +108,7 @@ module _ (mapping : Mapping) (hashes : Hashes) (sealed : List Window) (feed : �
   module _ (date : ℕ) where
     -- a row of the content is one of an extract
     pub content_row : (row : NRow) → Contains (content feed sealed date) row → (extract : Extract) × Contains (history feed (reverse sealed)) extract × Contains extract.rows row
-    content_row row has =
-        let (extract, member, within) = newest_extract (up_to date (history feed (reverse sealed))) row has in
-        (extract, ((filtered_members (λ (extract : Extract). nat_le extract.load date) (history feed (reverse sealed)) extract).0 member).0, within)
+    content_row = content_extract feed sealed date
 
     pub content_delivered : (row : NRow) → Contains (content feed sealed date) row → Contains (delivered_refs feed sealed) row.refs
     content_delivered row has =
@@ -142,15 +117,13 @@ module _ (mapping : Mapping) (hashes : Hashes) (sealed : List Window) (feed : �
         (Contains-flat_map (λ (extract : Extract). all_refs extract.rows) (history feed (reverse sealed)) extract row.refs member (Contains-map (λ (row : NRow). row.refs) extract.rows row within))
 
     pub content_ascends : IsStrictlySortedBy row_cmp (content feed sealed date)
-    content_ascends =
-        newest_ascends (up_to date (history feed (reverse sealed)))
-        (λ extract has. (rows_valid extract (forward extract ((filtered_members (λ (extract : Extract). nat_le extract.load date) (history feed (reverse sealed)) extract).0 has).0)).ascending)
+    content_ascends = ascends feed sealed date (λ extract has. (rows_of_extract extract has).ascending)
 
     -- and has its feed's form
     pub row_form : (row : NRow) → Contains (content feed sealed date) row → HasForm mapping definition row
     row_form row has =
         let (extract, member, within) = content_row row has in
-        (rows_valid extract (forward extract member)).forms row within
+        (rows_of_extract extract ((history_member feed sealed extract).0 member)).forms row within
 
     -- its references are read back
     pub row_refs : (row : NRow) → Contains (content feed sealed date) row → refs_read mapping (vault mapping hashes sealed) definition.parent (hashes.hash row.refs) ≡ Some row.refs
@@ -161,7 +134,7 @@ module _ (mapping : Mapping) (hashes : Hashes) (sealed : List Window) (feed : �
     -- its parent is present
     pub row_present : (row : NRow) → Contains (content feed sealed date) row → Contains (present_parents (status_rows_in feed (vault mapping hashes sealed)) date) (hashes.hash row.refs)
     row_present row has =
-        let delivered : delivers (content feed sealed date) row.refs ≡ true = any_from_member (λ (r : NRow). refs_eq r.refs row.refs) (content feed sealed date) row has ((refs_eq-Decides row.refs row.refs).1 refl) in
+        let delivered : delivers (content feed sealed date) row.refs ≡ true = some_passes_at (λ (r : NRow). refs_eq r.refs row.refs) (content feed sealed date) row has ((refs_eq-Decides row.refs row.refs).1 refl) in
         among_present (status_rows_in feed (vault mapping hashes sealed)) (hashes.hash row.refs) date (status_told row.refs (content_delivered row has) date ∙ delivered)
 
     -- and each parent that is present is that of a row
@@ -174,5 +147,5 @@ module _ (mapping : Mapping) (hashes : Hashes) (sealed : List Window) (feed : �
         let is : hashes.hash refs ≡ digest = sym hashed ∙ parent in
         let delivered : delivers (content feed sealed date) refs ≡ true =
         sym (status_told refs refs_in date) ∙ ap (λ d. present_at (status_rows_in feed (vault mapping hashes sealed)) d date) is ∙ present in
-        let (row, member, same) = any_member (λ (r : NRow). refs_eq r.refs refs) (content feed sealed date) delivered in
+        let (row, member, same) = some_passes (λ (r : NRow). refs_eq r.refs refs) (content feed sealed date) delivered in
         (row, member, ap hashes.hash ((refs_eq-Decides row.refs refs).0 same) ∙ is)

@@ -1,15 +1,16 @@
 -- A reference list that windows bring is found in its table by its hash key.
-use Rattle.std.proofs.Common.{◌≡◌, ℕ, zero, suc, ◌==◌, Bool, true, false, not, List, [], ◌∷◌, Option, Some, None, refl, sym, ◌∙◌, ap, length, reverse}
-use Rattle.std.specs.Prelude.{Contains, replicate, slice_get}
 use Rattle.std.specs.List.{flat_map, list_all}
+use Rattle.std.specs.Prelude.{Contains, replicate, slice_get}
 use Rattle.std.specs.Str.{bytes_eq}
-use Rattle.std.proofs.lemmas.Bool.{and_parts, eqb-true, false≢true}
+use Rattle.std.proofs.Common.{◌≡◌, ℕ, ◌==◌, true, false, not, List, [], ◌∷◌, Option, Some, None, refl, sym, ◌∙◌, ap, length, reverse}
+use Rattle.std.proofs.lemmas.Bool.{and_parts, eqb-true, false≢true, not-true}
 use Rattle.std.proofs.lemmas.List.{nil_from_length}
 use Rattle.std.proofs.lemmas.Slice.Eq.{bytes_eq-Decides}
 use Rattle.dv_text.specs.declared.rows.Key.{Key}
 use Rattle.dv_text.specs.declared.rows.Window.{Window}
 use Rattle.dv_text.specs.Keys.{Hashes, is_missing}
-use Rattle.dv_text.proofs.Members.{Contains-cons_here, Contains-cons_there, filtered_members}
+use Rattle.dv_text.proofs.Members.{Contains-cons_here, Contains-cons_there, filtered_members, flat_map_member, Contains-flat_map, map_member, reverse_member}
+use Rattle.dv_text.proofs.Passing.{all_pass_replicate, some_passes_at, some_passes, finds, found_member}
 use Rattle.dv_catalog.specs.declared.entries.Parent.{Parent}
 use Rattle.dv_catalog.specs.declared.entries.Parent.TheVariants.{Hub, Link}
 use Rattle.dv_catalog.specs.Entries.{Mapping}
@@ -26,18 +27,8 @@ use Rattle.dv_records.specs.States.{fits_hub, is_key_part}
 use Rattle.dv_records.proofs.Delivered.{is_offered-member, offered_member}
 use Rattle.dv_records.proofs.HubTables.{table_has as hub_has, table_row as hub_row_of}
 use Rattle.dv_records.proofs.LinkTables.{table_has as link_has, table_row as link_row_of}
-use Rattle.dv_records.proofs.Memberships.{Contains-flat_map, any_from_member, any_member, finds, flat_map_member, found_member, map_member}
-use Rattle.dv_records.proofs.Reversing.{reverse_member}
 
 -- ---- what is missing
-
-not_true : (b : Bool) → not b ≡ true → b ≡ false
-not_true true e = let no : false ≡ true = e in cc
-not_true false e = refl
-
-missing_none : (n : ℕ) → list_all (λ (part : List ℕ). length part == 0) (replicate n []) ≡ true
-missing_none zero = refl
-missing_none (suc n) = missing_none n
 
 all_empty : (parts : List (List ℕ)) → list_all (λ part. length part == 0) parts ≡ true → parts ≡ replicate (length parts) []
 all_empty [] e = refl
@@ -57,17 +48,17 @@ the_missing mapping hub key fits missing =
 -- a list that windows bring isn't missing as a whole
 pub known_there : (mapping : Mapping) (parent : Parent) (windows : List Window) (refs : List Key) → is_known mapping parent windows refs ≡ true → list_all is_missing refs ≡ false
 known_there mapping parent windows refs known =
-    let (window, member, offered) = any_member (λ window. is_offered mapping parent window refs) windows known in
+    let (window, member, offered) = some_passes (λ window. is_offered mapping parent window refs) windows known in
     let (offer, has, same) = map_member (λ (offer : Delivery). offer.refs) (offers mapping parent window) refs (offered_member mapping parent window refs offered) in
     let (within, kept) = (filtered_members (λ (offer : Delivery). not (list_all is_missing offer.refs)) (flat_map (offers_of mapping parent) window.extracts) offer).0 has in
-    ap (list_all is_missing) (sym same) ∙ not_true (list_all is_missing offer.refs) kept
+    ap (list_all is_missing) (sym same) ∙ not-true (list_all is_missing offer.refs) kept
 
 -- ---- hash keys of their own
 
 module _ (mapping : Mapping) (hashes : Hashes) (sealed : List Window) (parent : Parent) (apart : IsApart hashes (hashed_refs mapping sealed parent)) where
   pub known_hashed : (refs : List Key) → is_known mapping parent (reverse sealed) refs ≡ true → Contains (hashed_refs mapping sealed parent) refs
   known_hashed refs known =
-      let (window, member, offered) = any_member (λ window. is_offered mapping parent window refs) (reverse sealed) known in
+      let (window, member, offered) = some_passes (λ window. is_offered mapping parent window refs) (reverse sealed) known in
       Contains-cons_there (missing_refs mapping parent) (flat_map (offered_refs mapping parent) sealed) refs
       (Contains-flat_map (offered_refs mapping parent) sealed window refs ((reverse_member sealed window).0 member) (offered_member mapping parent window refs offered))
 
@@ -77,9 +68,9 @@ module _ (mapping : Mapping) (hashes : Hashes) (sealed : List Window) (parent : 
   offered_known : (refs : List Key) → Contains (flat_map (offered_refs mapping parent) (reverse sealed)) refs → is_known mapping parent (reverse sealed) refs ≡ true
   offered_known refs has =
       let (window, member, offered) = flat_map_member (offered_refs mapping parent) (reverse sealed) refs has in
-      any_from_member (λ window. is_offered mapping parent window refs) (reverse sealed) window member (is_offered-member mapping parent window refs offered)
+      some_passes_at (λ window. is_offered mapping parent window refs) (reverse sealed) window member (is_offered-member mapping parent window refs offered)
 
-  offers_apart : IsApart hashes (flat_map (offered_refs mapping parent) (reverse sealed))
+  pub offers_apart : IsApart hashes (flat_map (offered_refs mapping parent) (reverse sealed))
   offers_apart a b a_in b_in = known_apart a b (offered_known a a_in) (offered_known b b_in)
 
 -- ---- rows by hash keys
@@ -118,7 +109,7 @@ module _ (mapping : Mapping) (hashes : Hashes) (sealed : List Window) (hub : ℕ
           apart (row.key ∷ []) (missing_key mapping hub ∷ []) (known_hashed mapping hashes sealed (Hub hub) apart (row.key ∷ []) known)
           (Contains-cons_here (missing_refs mapping (Hub hub)) _) hashed in
           let there = known_there mapping (Hub hub) (reverse sealed) (row.key ∷ []) known in
-          let gone : list_all is_missing (missing_key mapping hub ∷ []) ≡ true = rw (missing_none (parts_of (slice_get mapping.hubs hub))) refl in
+          let gone : list_all is_missing (missing_key mapping hub ∷ []) ≡ true = rw (all_pass_replicate (λ (part : List ℕ). length part == 0) (parts_of (slice_get mapping.hubs hub)) [] refl) refl in
           absurd (false≢true (sym there ∙ ap (list_all is_missing) same ∙ gone))
 
 module _ (mapping : Mapping) (hashes : Hashes) (sealed : List Window) (link : ℕ) (apart : IsApart hashes (hashed_refs mapping sealed (Link link))) where

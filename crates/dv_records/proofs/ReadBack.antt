@@ -1,14 +1,17 @@
 -- The content of a feed without a sub is read back from the tables of the vault.
-use Rattle.std.proofs.Common.{◌≡◌, ℕ, ◌==◌, Bool, true, false, List, [], ◌∷◌, Option, Some, refl, sym, ◌∙◌, ap, subst, length, nat_le, reverse, eqb-true}
-use Rattle.std.specs.Prelude.{Contains, slice_get}
 use Rattle.std.specs.List.{filter_map}
 use Rattle.std.specs.Option.{option_map, option_map_or}
+use Rattle.std.specs.Prelude.{Contains, slice_get}
+use Rattle.std.proofs.Common.{◌≡◌, ℕ, ◌==◌, Bool, true, false, List, [], ◌∷◌, Option, Some, refl, sym, ◌∙◌, ap, subst, length, nat_le, reverse, eqb-true}
 use Rattle.std.proofs.lemmas.List.{nil_from_length}
 use Rattle.dv_text.specs.declared.rows.NRow.{NRow}
 use Rattle.dv_text.specs.declared.rows.Window.{Window}
 use Rattle.dv_text.specs.Exact.{row_cmp-IsAntisymmetric}
 use Rattle.dv_text.specs.Keys.{Hashes, refs_eq}
-use Rattle.dv_text.proofs.Members.{Contains-cons_here, filter_map_member, filtered_members, member_of_filter_map}
+use Rattle.dv_text.proofs.Deciding.{refs_eq-Decides, row_total}
+use Rattle.dv_text.proofs.Members.{Contains-cons_here, filter_map_member, filtered_members, member_of_filter_map, Contains-nil}
+use Rattle.dv_text.proofs.Options.{made_of}
+use Rattle.dv_text.proofs.Passing.{some_passes_at}
 use Rattle.dv_text.proofs.SortedLists.{sorted_by-members}
 use Rattle.dv_catalog.specs.declared.entries.FeedDef.{FeedDef}
 use Rattle.dv_catalog.specs.Entries.{Mapping}
@@ -19,18 +22,16 @@ use Rattle.dv_records.specs.declared.stores.TableRows.{TableRows}
 use Rattle.dv_records.specs.History.{Extract, content, delivers, history, newest_rows, up_to}
 use Rattle.dv_records.specs.ReadBack.{attrs_read, content_read, content_read_by, present_parents, row_read, sat_rows_in, status_rows_in}
 use Rattle.dv_records.specs.Reconstruction.{first_attrs, valid_at, HasOneRowEach}
-use Rattle.dv_records.specs.Satellites.{last_rows}
+use Rattle.dv_records.specs.Satellites.{last_rows, IsOnePerList}
 use Rattle.dv_records.specs.States.{are_windows_valid}
-use Rattle.dv_records.specs.Ties.{IsOnePerList}
 use Rattle.dv_records.specs.Vault.{vault}
-use Rattle.dv_records.proofs.Deciding.{refs_eq-Decides}
-use Rattle.dv_records.proofs.FeedContents.{content_ascends, content_delivered, feed_apart, forward, present_has, row_form, row_present, row_refs, rows_valid}
-use Rattle.dv_records.proofs.HubReconstruct.{row_total}
-use Rattle.dv_records.proofs.Memberships.{Contains-nil, any_from_member}
-use Rattle.dv_records.proofs.Reversing.{made_of}
-use Rattle.dv_records.proofs.SatReconstruct.{only_attrs, sat_tells}
-use Rattle.dv_records.proofs.ValidWindows.{HasForm, load_order}
+use Rattle.dv_records.proofs.ChangedRows.{only_attrs}
+use Rattle.dv_records.proofs.FeedContents.{rows_of_extract, content_ascends, content_delivered, feed_apart, present_has, row_form, row_present, row_refs}
+use Rattle.dv_records.proofs.Reversing.{history_member}
+use Rattle.dv_records.proofs.SatReconstruct.{sat_tells}
+use Rattle.dv_records.proofs.ValidWindows.{load_order}
 use Rattle.dv_records.proofs.VaultRows.{vault_sat}
+use Rattle.dv_records.proofs.WindowRows.{HasForm}
 
 -- ---- attributes
 
@@ -38,8 +39,9 @@ use Rattle.dv_records.proofs.VaultRows.{vault_sat}
 last_held : (all : List Extract) → ((extract : Extract) → Contains all extract → IsOnePerList extract.rows) → (row : NRow) → Contains (newest_rows all) row → first_attrs (last_rows all row.refs) ≡ Some row.attrs
 last_held [] single row has = Contains-nil row has
 last_held (newest ∷ older) single row has =
-    let here : delivers newest.rows row.refs ≡ true = any_from_member (λ (r : NRow). refs_eq r.refs row.refs) newest.rows row has ((refs_eq-Decides row.refs row.refs).1 refl) in
-    rw here (only_attrs newest.rows (single newest (Contains-cons_here newest older)) row.refs row has refl)
+    let same = (refs_eq-Decides row.refs row.refs).1 refl in
+    let here : delivers newest.rows row.refs ≡ true = some_passes_at (λ (r : NRow). refs_eq r.refs row.refs) newest.rows row has same in
+    rw here (only_attrs newest.rows (single newest (Contains-cons_here newest older)) row.refs row ((filtered_members (λ (r : NRow). refs_eq r.refs row.refs) newest.rows row).1 (has, same)))
 
 told_or : (o : Option SatRow) (attrs : List (List ℕ)) → option_map (λ (row : SatRow). row.attrs) o ≡ Some attrs → option_map_or (λ (row : SatRow). row.attrs) o [] ≡ attrs
 told_or o attrs e =
@@ -57,14 +59,14 @@ module _ (mapping : Mapping) (hashes : Hashes) (sealed : List Window) (feed : �
 
   single : HasOneRowEach feed sealed
   single extract has a b a_in b_in same =
-      let rows = rows_valid mapping hashes sealed feed definition valid windows_valid at extract has in
+      let rows = rows_of_extract mapping hashes sealed feed definition valid windows_valid at extract has in
       rows.single a b a_in b_in same (no_sub a (rows.forms a a_in) ∙ sym (no_sub b (rows.forms b b_in)))
 
   module _ (date : ℕ) where
     singles : (extract : Extract) → Contains (up_to date (history feed (reverse sealed))) extract → IsOnePerList extract.rows
     singles extract has =
         single extract
-        (forward mapping hashes sealed feed definition valid windows_valid at extract ((filtered_members (λ (extract : Extract). nat_le extract.load date) (history feed (reverse sealed)) extract).0 has).0)
+        ((history_member feed sealed extract).0 ((filtered_members (λ (extract : Extract). nat_le extract.load date) (history feed (reverse sealed)) extract).0 has).0)
 
     -- the attributes of a row of the content are read back
     attrs_told : (row : NRow) → Contains (content feed sealed date) row → attrs_read tables definition feed (hashes.hash row.refs) date ≡ row.attrs

@@ -1,30 +1,17 @@
 -- Windows and extracts from the newest to the oldest.
-use Rattle.std.proofs.Common.{◌≡◌, ◌↔◌, ℕ, ◌<◌, inl, inr, List, [], ◌∷◌, ◌++◌, Option, Some, None, refl, sym, ap, subst, reverse, map}
-use Rattle.std.specs.Prelude.{Contains}
 use Rattle.std.specs.declared.cmp.Ordering.TheVariants.{Less}
 use Rattle.std.specs.Cmp.{ranked}
 use Rattle.std.specs.List.{AllByRecursion, filter_map}
 use Rattle.std.specs.List.Sorted.{IsStrictlySortedBy}
-use Rattle.std.specs.Option.{option_map}
 use Rattle.std.specs.Ordering.{nat_cmp}
+use Rattle.std.specs.Prelude.{Contains}
+use Rattle.std.proofs.Common.{◌≡◌, ◌↔◌, ℕ, ◌<◌, inl, inr, List, [], ◌∷◌, ◌++◌, Option, Some, None, refl, sym, ap, subst, reverse, map}
 use Rattle.std.proofs.lemmas.List.{reverse-append}
 use Rattle.std.proofs.lemmas.List.Elements.{Contains-append_cases}
-use Rattle.std.proofs.lemmas.List.Sorted.{Contains-permutation, IsPermutation-reverse, IsPermutation-sym}
-use Rattle.dv_text.proofs.Members.{Contains-cons_cases, Contains-cons_here, Contains-cons_there, filter_map_member}
 use Rattle.dv_text.specs.declared.rows.Window.{Window}
+use Rattle.dv_text.proofs.Members.{reverse_member, Contains-cons_cases, Contains-cons_here, Contains-cons_there, filter_map_member, member_of_filter_map, Contains-nil}
+use Rattle.dv_text.proofs.Options.{made_of}
 use Rattle.dv_records.specs.History.{Extract, extract_of, history, IsInLoadOrder}
-use Rattle.dv_records.proofs.Memberships.{Contains-nil}
-
-pub reverse_member : {X : Type 0} (xs : List X) (x : X) → Contains (reverse xs) x ↔ Contains xs x
-reverse_member xs x = (
-  Contains-permutation (reverse xs) xs x (IsPermutation-sym xs (reverse xs) (IsPermutation-reverse xs)),
-  Contains-permutation xs (reverse xs) x (IsPermutation-reverse xs),
-)
-
--- what an option's value is made of
-pub made_of : {X Y : Type 0} (f : X → Y) (o : Option X) (y : Y) → option_map f o ≡ Some y → (x : X) × (o ≡ Some x) × (f x ≡ y)
-made_of f None y e = cc
-made_of f (Some x) y e = let is : Some (f x) ≡ Some y = e in (x, cc, cc)
 
 -- each is before a date
 abbrev pub AllBefore : {X : Type 0} → (X → ℕ) → ℕ → List X → Type 0
@@ -91,3 +78,10 @@ pub history-newest_first : (feed : ℕ) (sealed : List Window) → IsInLoadOrder
 history-newest_first feed sealed order =
     newest_first-filter_map (λ (window : Window). window.load) (λ (extract : Extract). extract.load) (extract_of feed) (extract-load feed) (reverse sealed)
     (newest_first (λ (window : Window). window.load) sealed order)
+
+-- a feed has the same extracts in either order of the windows
+pub history_member : (feed : ℕ) (sealed : List Window) (extract : Extract) → Contains (history feed (reverse sealed)) extract ↔ Contains (history feed sealed) extract
+history_member feed sealed extract = (
+  λ has. let (window, member, is) = filter_map_member (extract_of feed) (reverse sealed) extract has in member_of_filter_map (extract_of feed) sealed window extract ((reverse_member sealed window).0 member) is,
+  λ has. let (window, member, is) = filter_map_member (extract_of feed) sealed extract has in member_of_filter_map (extract_of feed) (reverse sealed) window extract ((reverse_member sealed window).1 member) is,
+)

@@ -1,30 +1,23 @@
 -- Satellite batches are the lists that meet their records.
-use Rattle.std.proofs.Common.{◌≡◌, ◌↔◌, ℕ, Bool, true, false, List, Some, refl, sym, ◌∙◌, ap}
-use Rattle.std.specs.Prelude.{Contains}
-use Rattle.std.specs.declared.cmp.Ordering.{Ordering}
-use Rattle.std.specs.declared.cmp.Ordering.TheVariants.{Less, Equal, Greater}
+use Rattle.std.specs.declared.cmp.Ordering.TheVariants.{Equal}
 use Rattle.std.specs.Cmp.{IsTotalOrder, on_total, then_total}
 use Rattle.std.specs.Cmp.Lexicographic.{lists_total, nat_list_cmp_total}
 use Rattle.std.specs.FinMap.{nat_cmp-IsAntisymmetric, slice_cmp-IsAntisymmetric}
-use Rattle.std.specs.Ordering.{ordering_then}
+use Rattle.std.specs.Prelude.{Contains}
+use Rattle.std.proofs.Common.{◌≡◌, ◌↔◌, ℕ, Bool, true, false, List, Some, refl, sym, ◌∙◌, ap}
 use Rattle.dv_text.specs.declared.rows.NRow.{NRow}
+use Rattle.dv_text.specs.Exact.{both_tied}
 use Rattle.dv_text.specs.Keys.{Hashes}
+use Rattle.dv_text.proofs.Members.{Contains-map}
 use Rattle.dv_records.specs.declared.raw_rows.MultiRow.{MultiRow}
 use Rattle.dv_records.specs.declared.raw_rows.SatRow.{SatRow}
 use Rattle.dv_records.specs.Collisions.{IsApart}
 use Rattle.dv_records.specs.History.{Extract, all_refs}
-use Rattle.dv_records.specs.Satellites.{is_changed, multi_batch, multi_cmp, multi_row, sat_batch, sat_row, IsMultiBatch, IsSatBatch}
-use Rattle.dv_records.specs.Ties.{IsOnePerList, IsOnePerSub}
+use Rattle.dv_records.specs.Satellites.{is_changed, multi_batch, multi_cmp, multi_row, sat_batch, sat_row, IsMultiBatch, IsSatBatch, IsOnePerList, IsOnePerSub}
 use Rattle.dv_records.proofs.BatchTies.{tied, tied_by_digest}
-use Rattle.dv_records.proofs.Memberships.{Contains-map}
 
 pub multi_total : IsTotalOrder multi_cmp
 multi_total = then_total (on_total (λ (row : MultiRow). row.parent) nat_list_cmp_total) (on_total (λ (row : MultiRow). row.sub) (lists_total nat_list_cmp_total))
-
-both_tied : (r s : Ordering) → ordering_then r s ≡ Equal → (r ≡ Equal) × (s ≡ Equal)
-both_tied Less s e = (e, cc)
-both_tied Equal s e = (refl, e)
-both_tied Greater s e = (e, cc)
 
 module _ (hashes : Hashes) (source : List ℕ) (older : List Extract) (newest : Extract) where
   -- the row has the hash key of the extract row's list

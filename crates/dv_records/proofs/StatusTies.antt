@@ -1,37 +1,23 @@
--- Status and effectivity batches are the lists that meet their records.
-use Rattle.std.proofs.Common.{◌≡◌, ◌↔◌, ℕ, Bool, true, false, List, [], ◌∷◌, ◌++◌, Option, Some, None, refl}
+-- Status batches are the lists that meet their records.
 use Rattle.std.specs.Prelude.{Contains}
+use Rattle.std.proofs.Common.{◌≡◌, ◌↔◌, ℕ, Bool, true, false, List, ◌++◌, Some, refl}
 use Rattle.std.proofs.lemmas.List.Elements.{Contains-append_left, Contains-append_right}
 use Rattle.dv_text.specs.declared.rows.Key.{Key}
 use Rattle.dv_text.specs.Keys.{Hashes}
-use Rattle.dv_records.specs.declared.raw_rows.EffectRow.{EffectRow}
 use Rattle.dv_records.specs.declared.raw_rows.StatusRow.{StatusRow}
 use Rattle.dv_records.specs.Collisions.{IsApart}
-use Rattle.dv_records.specs.Effects.{effect_batch, effect_row, span_between, IsEffectBatch}
 use Rattle.dv_records.specs.History.{Extract, all_refs, delivers, newest_rows}
-use Rattle.dv_records.specs.Runs.{run_begin}
 use Rattle.dv_records.specs.Statuses.{code_of, status_batch, status_row, IsStatusBatch}
 use Rattle.dv_records.proofs.BatchTies.{given, tied_by_digest, tied_whole}
 use Rattle.dv_records.proofs.Deciding.{Contains-all_refs}
 
--- a run that goes on holds the list
-pub in_run : (older : List Extract) (refs : List Key) (begin : ℕ) → run_begin older refs ≡ Some begin → delivers (newest_rows older) refs ≡ true
-in_run [] refs begin e = cc
-in_run (newest ∷ older) refs begin e = by (delivers newest.rows refs) refl
-  where
-    by : (now : Bool) → delivers newest.rows refs ≡ now → delivers newest.rows refs ≡ true
-    by true t = t
-    by false f = let no : None ≡ Some begin = rw f at e in cc
-
 module _ (hashes : Hashes) (source : List ℕ) (older : List Extract) (newest : Extract) where
   -- a list of the extract, or of the one before it, is among the two's lists
-  was_there : (refs : List Key) → delivers (newest_rows older) refs ≡ true → Contains (all_refs (newest_rows older) ++ all_refs newest.rows) refs
+  pub was_there : (refs : List Key) → delivers (newest_rows older) refs ≡ true → Contains (all_refs (newest_rows older) ++ all_refs newest.rows) refs
   was_there refs e = Contains-append_left (all_refs (newest_rows older)) (all_refs newest.rows) refs (Contains-all_refs (newest_rows older) refs e)
 
-  is_there : (refs : List Key) → delivers newest.rows refs ≡ true → Contains (all_refs (newest_rows older) ++ all_refs newest.rows) refs
+  pub is_there : (refs : List Key) → delivers newest.rows refs ≡ true → Contains (all_refs (newest_rows older) ++ all_refs newest.rows) refs
   is_there refs e = Contains-append_right (all_refs (newest_rows older)) (all_refs newest.rows) refs (Contains-all_refs newest.rows refs e)
-
-  -- ---- status
 
   pub status_parent : (refs : List Key) (row : StatusRow) → status_row hashes source older newest refs ≡ Some row → row.parent ≡ hashes.hash refs
   status_parent refs row = given _ (λ (row : StatusRow). row.parent) (hashes.hash refs) (λ code. refl) (code_of older newest refs) row
@@ -48,21 +34,3 @@ module _ (hashes : Hashes) (source : List ℕ) (older : List Extract) (newest : 
   status_tied apart rows =
       tied_whole status_stands rows
       (tied_by_digest (λ (row : StatusRow). row.parent) hashes.hash (status_row hashes source older newest) (all_refs (newest_rows older) ++ all_refs newest.rows) status_parent apart rows)
-
-  -- ---- effectivity
-
-  pub effect_parent : (refs : List Key) (row : EffectRow) → effect_row hashes source older newest refs ≡ Some row → row.parent ≡ hashes.hash refs
-  effect_parent refs row = given _ (λ (row : EffectRow). row.parent) (hashes.hash refs) (λ span. refl) (span_between newest.load (run_begin older refs) (delivers newest.rows refs)) row
-
-  effect_stands : (refs : List Key) (row : EffectRow) → effect_row hashes source older newest refs ≡ Some row → Contains (all_refs (newest_rows older) ++ all_refs newest.rows) refs
-  effect_stands refs row is = by (run_begin older refs) (delivers newest.rows refs) refl refl
-    where
-      by : (was : Option ℕ) (now : Bool) → run_begin older refs ≡ was → delivers newest.rows refs ≡ now → Contains (all_refs (newest_rows older) ++ all_refs newest.rows) refs
-      by (Some begin) now w n = was_there refs (in_run older refs begin w)
-      by None true w n = is_there refs n
-      by None false w n = let no = rw (w, n) at is in cc
-
-  pub effect_tied : IsApart hashes (all_refs (newest_rows older) ++ all_refs newest.rows) → (rows : List EffectRow) → (rows ≡ effect_batch hashes source older newest) ↔ IsEffectBatch hashes source older newest rows
-  effect_tied apart rows =
-      tied_whole effect_stands rows
-      (tied_by_digest (λ (row : EffectRow). row.parent) hashes.hash (effect_row hashes source older newest) (all_refs (newest_rows older) ++ all_refs newest.rows) effect_parent apart rows)

@@ -1,39 +1,26 @@
 -- The rows of a table in the vault, and which tables a mapping has.
-use Rattle.std.proofs.Common.{◌≡◌, ◌⊎◌, ℕ, zero, suc, ◌+◌, ◌<◌, ◌==◌, inl, inr, Bool, true, false, List, [], ◌∷◌, ◌++◌, Some, None, refl, sym, ◌∙◌, ap, subst, arith, length, map, reverse, eq-eqb}
-use Rattle.std.specs.Prelude.{Contains, slice_get}
 use Rattle.std.specs.List.{range_with_len}
+use Rattle.std.specs.Prelude.{Contains, slice_get}
+use Rattle.std.proofs.Common.{◌≡◌, ◌⊎◌, ℕ, zero, suc, ◌+◌, ◌<◌, ◌==◌, inl, inr, Bool, true, false, List, [], ◌∷◌, ◌++◌, Some, None, refl, sym, ◌∙◌, ap, subst, arith, length, map, reverse}
 use Rattle.std.proofs.lemmas.Bool.{false≢true}
-use Rattle.std.proofs.lemmas.List.{reverse-append}
 use Rattle.std.proofs.lemmas.List.Elements.{Contains-append_left, Contains-append_right}
-use Rattle.std.proofs.lemmas.List.FromFn.{get_or-range_with_len, length-range_with_len}
 use Rattle.dv_text.specs.declared.rows.Window.{Window}
 use Rattle.dv_text.specs.Keys.{Hashes}
-use Rattle.dv_text.proofs.Members.{Contains-cons_cases, Contains-cons_here, Contains-cons_there}
+use Rattle.dv_text.proofs.Members.{Contains-range, Contains-cons_cases, Contains-cons_here, Contains-cons_there, Contains-map, Contains-nil}
 use Rattle.dv_catalog.specs.declared.entries.FeedDef.{FeedDef}
 use Rattle.dv_catalog.specs.declared.tables.TableId.{TableId}
-use Rattle.dv_catalog.specs.declared.tables.TableId.TheVariants.{Hub, Link, Sat, Multi, Status, Effect}
+use Rattle.dv_catalog.specs.declared.tables.TableId.TheVariants.{Hub, Link, Sat, Multi, Status}
 use Rattle.dv_catalog.specs.Entries.{Mapping}
 use Rattle.dv_catalog.specs.Feeds.{source}
 use Rattle.dv_catalog.specs.Tables.{effect_tables, feed_tables, sat_tables, tables}
 use Rattle.dv_records.specs.Batches.{appended}
 use Rattle.dv_records.specs.Hubs.{hub_batch, link_batch}
-use Rattle.dv_records.specs.Laws.{HoldsTable}
 use Rattle.dv_records.specs.ReadBack.{hub_rows, hub_rows_in, link_rows, link_rows_in, multi_rows, multi_rows_in, sat_rows, sat_rows_in, status_rows, status_rows_in}
 use Rattle.dv_records.specs.Satellites.{multi_batch, sat_batch}
 use Rattle.dv_records.specs.Statuses.{status_batch}
-use Rattle.dv_records.specs.Stores.{no_rows, rows_in, rows_then, table_eq}
-use Rattle.dv_records.specs.Vault.{feed_batch, table_after, table_batch, table_entry, vault}
-use Rattle.dv_records.proofs.Memberships.{Contains-map, Contains-nil}
-use Rattle.dv_records.proofs.VaultSteps.{table_after-newest}
-use Rattle.dv_records.proofs.WellFormedTables.{same_table}
-
-table_eq-itself : (table : TableId) → table_eq table table ≡ true
-table_eq-itself (Hub n) = eq-eqb n n refl
-table_eq-itself (Link n) = eq-eqb n n refl
-table_eq-itself (Sat n) = eq-eqb n n refl
-table_eq-itself (Multi n) = eq-eqb n n refl
-table_eq-itself (Status n) = eq-eqb n n refl
-table_eq-itself (Effect n) = eq-eqb n n refl
+use Rattle.dv_records.specs.Stores.{no_rows, rows_in, table_eq}
+use Rattle.dv_records.specs.Vault.{HoldsTable, feed_batch, table_after, table_entry, vault}
+use Rattle.dv_records.proofs.WellFormedTables.{same_table, table_eq-itself}
 
 -- ---- entries
 
@@ -66,34 +53,20 @@ vault_holds mapping hashes sealed table = record {
   none = none_in-entries mapping hashes (reverse sealed) (tables mapping) table;
 }
 
-pub table_grows : (mapping : Mapping) (hashes : Hashes) (sealed : List Window) (next : Window) (table : TableId) → Contains (tables mapping) table
-    → rows_in table (vault mapping hashes (sealed ++ next ∷ [])) ≡ rows_then (rows_in table (vault mapping hashes sealed)) (table_batch mapping hashes table (reverse sealed) next)
-table_grows mapping hashes sealed next table has =
-    let turned : reverse (sealed ++ next ∷ []) ≡ next ∷ reverse sealed = reverse-append sealed (next ∷ []) in
-    (vault_holds mapping hashes (sealed ++ next ∷ []) table).rows has
-    ∙ ap (λ windows. table_after mapping hashes windows table) turned
-    ∙ table_after-newest mapping hashes (reverse sealed) next table
-    ∙ ap (λ rows. rows_then rows (table_batch mapping hashes table (reverse sealed) next)) (sym ((vault_holds mapping hashes sealed table).rows has))
-
 -- ---- the tables of a mapping
-
-pub in_range : (n k : ℕ) → k < n → Contains (range_with_len 0 n) k
-in_range n k under =
-    let same : 0 + k ≡ k = omega arith in
-    (k, rw (length-range_with_len 0 n) under, get_or-range_with_len 0 n k k under ∙ same)
 
 module _ (mapping : Mapping) where
   pub has_hub : (hub : ℕ) → hub < length mapping.hubs → Contains (tables mapping) (Hub hub)
   has_hub hub under =
       Contains-append_left (map (λ n. Hub n) (range_with_len 0 (length mapping.hubs)) ++ map (λ n. Link n) (range_with_len 0 (length mapping.links))) (feed_tables 0 mapping.feeds) (Hub hub)
       (Contains-append_left (map (λ n. Hub n) (range_with_len 0 (length mapping.hubs))) (map (λ n. Link n) (range_with_len 0 (length mapping.links))) (Hub hub)
-      (Contains-map (λ n. Hub n) (range_with_len 0 (length mapping.hubs)) hub (in_range (length mapping.hubs) hub under)))
+      (Contains-map (λ n. Hub n) (range_with_len 0 (length mapping.hubs)) hub (Contains-range (length mapping.hubs) hub under)))
 
   pub has_link : (link : ℕ) → link < length mapping.links → Contains (tables mapping) (Link link)
   has_link link under =
       Contains-append_left (map (λ n. Hub n) (range_with_len 0 (length mapping.hubs)) ++ map (λ n. Link n) (range_with_len 0 (length mapping.links))) (feed_tables 0 mapping.feeds) (Link link)
       (Contains-append_right (map (λ n. Hub n) (range_with_len 0 (length mapping.hubs))) (map (λ n. Link n) (range_with_len 0 (length mapping.links))) (Link link)
-      (Contains-map (λ n. Link n) (range_with_len 0 (length mapping.links)) link (in_range (length mapping.links) link under)))
+      (Contains-map (λ n. Link n) (range_with_len 0 (length mapping.links)) link (Contains-range (length mapping.links) link under)))
 
 -- the tables of one feed
 abbrev tables_of : FeedDef → ℕ → List TableId

@@ -1,26 +1,14 @@
 -- Rows of a table's kind that are put at its end leave the tables well formed.
-use Rattle.std.proofs.Common.{◌≡◌, ℕ, ◌==◌, ◌&&◌, ◌||◌, not, Bool, true, false, cond, List, [], ◌∷◌, refl, ◌∙◌, ap, arith}
 use Rattle.std.specs.List.{list_any}
+use Rattle.std.proofs.Common.{eq-eqb, ◌≡◌, ◌==◌, ◌&&◌, ◌||◌, not, Bool, true, false, cond, List, [], ◌∷◌, refl, ◌∙◌, ap}
 use Rattle.std.proofs.lemmas.Bool.{and_from, and_parts, eqb-true}
-use Rattle.std.proofs.lemmas.Bool.Decides.{nat_tests}
+use Rattle.dv_text.proofs.Passing.{same_answer}
 use Rattle.dv_catalog.specs.declared.tables.TableId.{TableId}
 use Rattle.dv_catalog.specs.declared.tables.TableId.TheVariants.{Hub, Link, Sat, Multi, Status, Effect}
 use Rattle.dv_records.specs.declared.stores.Rows.{Rows}
 use Rattle.dv_records.specs.declared.stores.Rows.TheVariants.{Hubs, Links, Sats, Multis, Statuses, Effects}
 use Rattle.dv_records.specs.declared.stores.TableRows.{TableRows}
 use Rattle.dv_records.specs.Stores.{appended_to, are_apart, has_kind, have_kinds, is_of_kind, row_count, rows_in, rows_then, table_eq}
-
-nat_eq-sym : (m n : ℕ) → (m == n) ≡ (n == m)
-nat_eq-sym m n = grind (arith, nat_tests)
-
-table_eq-sym : (a b : TableId) → table_eq a b ≡ table_eq b a
-table_eq-sym (Hub m) (Hub n) = nat_eq-sym m n
-table_eq-sym (Link m) (Link n) = nat_eq-sym m n
-table_eq-sym (Sat m) (Sat n) = nat_eq-sym m n
-table_eq-sym (Multi m) (Multi n) = nat_eq-sym m n
-table_eq-sym (Status m) (Status n) = nat_eq-sym m n
-table_eq-sym (Effect m) (Effect n) = nat_eq-sym m n
-table_eq-sym a b = refl
 
 pub same_table : (a b : TableId) → table_eq a b ≡ true → a ≡ b
 same_table (Hub m) (Hub n) e = ap Hub (eqb-true m n e)
@@ -30,6 +18,20 @@ same_table (Multi m) (Multi n) e = ap Multi (eqb-true m n e)
 same_table (Status m) (Status n) e = ap Status (eqb-true m n e)
 same_table (Effect m) (Effect n) e = ap Effect (eqb-true m n e)
 same_table a b e = cc
+
+pub table_eq-itself : (table : TableId) → table_eq table table ≡ true
+table_eq-itself (Hub n) = eq-eqb n n refl
+table_eq-itself (Link n) = eq-eqb n n refl
+table_eq-itself (Sat n) = eq-eqb n n refl
+table_eq-itself (Multi n) = eq-eqb n n refl
+table_eq-itself (Status n) = eq-eqb n n refl
+table_eq-itself (Effect n) = eq-eqb n n refl
+
+table_eq-sym : (a b : TableId) → table_eq a b ≡ table_eq b a
+table_eq-sym a b = same_answer (table_eq a b) (table_eq b a) (turned a b) (turned b a)
+  where
+    turned : (a b : TableId) → table_eq a b ≡ true → table_eq b a ≡ true
+    turned a b e = ap (table_eq b) (same_table a b e) ∙ table_eq-itself b
 
 -- rows keep their kind where others come behind them
 kind_then : (table : TableId) (a b : Rows) → is_of_kind table a ≡ true → is_of_kind table (rows_then a b) ≡ true

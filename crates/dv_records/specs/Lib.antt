@@ -8,7 +8,7 @@ pub mod History
 pub mod HubNames
 pub mod HubPlaces
 pub mod Hubs
-pub mod Laws
+pub mod Limits
 pub mod LinkPlaces
 pub mod Loads
 pub mod Marts
@@ -16,6 +16,7 @@ pub mod MemoryKeepers
 pub mod Outcomes
 pub mod ReadBack
 pub mod Reconstruction
+pub mod RowViews
 pub mod Runs
 pub mod SatPlaces
 pub mod Satellites
@@ -26,7 +27,6 @@ pub mod StatusPlaces
 pub mod Statuses
 pub mod Steps
 pub mod Stores
-pub mod Ties
 pub mod Turns
 pub mod Vault
 pub mod Weights

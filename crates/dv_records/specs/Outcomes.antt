@@ -1,9 +1,9 @@
 -- What comes of a window that is given: the first rule that it breaks, or that it repeats a sealed one, or that it is loaded.
-use Rattle.std.specs.Prelude.{ℕ, ◌+◌, ◌==◌, Bool, not, ◌&&◌, ◌||◌, nat_le, nat_lt, is_none, is_some, List, [], ◌∷◌, ◌++◌, Option, Some, None, map, length, find, if◌then◌else◌}
+use Rattle.std.specs.Cmp.Lexicographic.{pointwise}
 use Rattle.std.specs.List.{list_any}
 use Rattle.std.specs.Option.{option_map, option_map_or}
+use Rattle.std.specs.Prelude.{ℕ, ◌+◌, ◌==◌, Bool, not, ◌&&◌, ◌||◌, nat_le, nat_lt, is_none, is_some, List, [], ◌∷◌, ◌++◌, Option, Some, None, map, length, find, if◌then◌else◌}
 use Rattle.std.specs.Str.{bytes_eq}
-use Rattle.std.specs.Cmp.Lexicographic.{pointwise}
 use Rattle.dv_text.specs.declared.rows.Staged.{Staged}
 use Rattle.dv_text.specs.declared.rows.Window.{Window}
 use Rattle.dv_text.specs.Keys.{Hashes, row_eq}
@@ -18,7 +18,8 @@ use Rattle.dv_catalog.specs.Windows.{window_of, window_rule}
 use Rattle.dv_records.specs.declared.answers.Outcome.{Outcome}
 use Rattle.dv_records.specs.declared.answers.Outcome.TheVariants.{Load, Repeated, Refused}
 use Rattle.dv_records.specs.Collisions.{collision}
-use Rattle.dv_records.specs.States.{State, all_windows, last_load, most_weight, most_windows}
+use Rattle.dv_records.specs.Limits.{most_extract_bytes, most_weight, most_window_bytes, most_windows}
+use Rattle.dv_records.specs.States.{State, all_windows, last_load}
 use Rattle.dv_records.specs.Weights.{vault_weight}
 
 -- ---- the extracts as they are given
@@ -45,17 +46,10 @@ repeated_name seen (name ∷ names) = if list_any (bytes_eq name) seen then Some
 abbrev pub feed_twice : WindowIn → Option Rule
 feed_twice given = option_map (λ name. FeedTwice name) (repeated_name [] (map (λ extract. extract.feed) given.extracts))
 
--- the most bytes of an extract, and of the extracts of a window together
-abbrev pub most_bytes : ℕ
-most_bytes = 33554432
-
-abbrev pub most_window_bytes : ℕ
-most_window_bytes = 67108864
-
 abbrev pub too_long_behind : ℕ → List ExtractIn → Option Rule
 too_long_behind bytes [] = None
 too_long_behind bytes (extract ∷ extracts) =
-    if nat_lt most_bytes (length extract.bytes) || nat_lt most_window_bytes (bytes + length extract.bytes) then Some (TooLong extract.feed)
+    if nat_lt most_extract_bytes (length extract.bytes) || nat_lt most_window_bytes (bytes + length extract.bytes) then Some (TooLong extract.feed)
     else too_long_behind (bytes + length extract.bytes) extracts
 
 -- W6: the first extract, as given, that is too long, or with which the window is

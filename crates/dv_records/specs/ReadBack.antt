@@ -1,13 +1,11 @@
 -- The content of a feed read back from the tables alone, at any date (Linstedt and Olschimke 2015, chapter 11, on hash
 -- keys, and chapter 5, on status tracking satellites).
-use Rattle.std.specs.Prelude.{◌≡◌, ℕ, ◌==◌, true, false, List, [], ◌∷◌, Option, Some, None, filter, find, if◌then◌else◌, length, map, replicate, slice_get}
 use Rattle.std.specs.List.{filter_map, flat_map}
 use Rattle.std.specs.Option.{option_map, option_map_or}
+use Rattle.std.specs.Prelude.{ℕ, ◌==◌, List, [], ◌∷◌, Option, Some, None, filter, find, if◌then◌else◌, length, map, replicate, slice_get}
 use Rattle.std.specs.Str.{bytes_eq}
 use Rattle.dv_text.specs.declared.rows.Key.{Key}
 use Rattle.dv_text.specs.declared.rows.NRow.{NRow}
-use Rattle.dv_text.specs.declared.rows.Window.{Window}
-use Rattle.dv_text.specs.Keys.{Hashes}
 use Rattle.dv_text.specs.Orders.{row_cmp}
 use Rattle.dv_text.specs.Sorting.{sorted_by}
 use Rattle.dv_catalog.specs.declared.entries.FeedDef.{FeedDef}
@@ -16,7 +14,6 @@ use Rattle.dv_catalog.specs.declared.entries.Parent.TheVariants.{Hub, Link}
 use Rattle.dv_catalog.specs.declared.tables.TableId.TheVariants.{Hub as HubTable, Link as LinkTable, Sat, Multi, Status}
 use Rattle.dv_catalog.specs.Entries.{Mapping}
 use Rattle.dv_catalog.specs.Feeds.{parent_hubs, parts_of}
-use Rattle.dv_catalog.specs.Mappings.{is_valid}
 use Rattle.dv_records.specs.declared.raw_rows.HubRow.{HubRow}
 use Rattle.dv_records.specs.declared.raw_rows.LinkRow.{LinkRow}
 use Rattle.dv_records.specs.declared.raw_rows.MultiRow.{MultiRow}
@@ -26,11 +23,8 @@ use Rattle.dv_records.specs.declared.stores.Rows.{Rows}
 use Rattle.dv_records.specs.declared.stores.Rows.TheVariants.{Hubs, Links, Sats, Multis, Statuses}
 use Rattle.dv_records.specs.declared.stores.TableRows.{TableRows}
 use Rattle.dv_records.specs.Batches.{digest_cmp}
-use Rattle.dv_records.specs.History.{content}
 use Rattle.dv_records.specs.Reconstruction.{all_valid_at, described_row, present_at, valid_at}
-use Rattle.dv_records.specs.States.{are_windows_valid}
 use Rattle.dv_records.specs.Stores.{rows_in}
-use Rattle.dv_records.specs.Vault.{vault}
 
 -- ---- rows by their kind: none where they are of another one
 
@@ -128,15 +122,6 @@ content_read_by mapping tables (Some definition) feed date =
 abbrev pub content_read : Mapping → List TableRows → ℕ → ℕ → List NRow
 content_read mapping tables feed date = content_read_by mapping tables (slice_get mapping.feeds feed) feed date
 
--- the tables of the vault tell the content of a feed without a sub at each date, of a hub or a link, with attributes
--- or without: it is read back from them as the windows delivered it
-abbrev pub FeedTells : Type 0
-FeedTells =
-    (mapping : Mapping) (hashes : Hashes) (sealed : List Window) (feed : ℕ) (definition : FeedDef)
-    → is_valid mapping ≡ true → are_windows_valid mapping hashes sealed ≡ true
-    → slice_get mapping.feeds feed ≡ Some definition → definition.sub ≡ []
-    → (date : ℕ) → content_read mapping (vault mapping hashes sealed) feed date ≡ content feed sealed date
-
 -- ---- the content of a feed with a sub
 
 -- the rows of a parent at a date, for a feed with a sub: one for each row of the feed's multi-active satellite that is
@@ -155,14 +140,6 @@ multi_content_read_by mapping tables (Some definition) feed date =
 abbrev pub multi_content_read : Mapping → List TableRows → ℕ → ℕ → List NRow
 multi_content_read mapping tables feed date = multi_content_read_by mapping tables (slice_get mapping.feeds feed) feed date
 
--- so the tables of the vault tell the content of a feed with a sub
-abbrev pub MultiFeedTells : Type 0
-MultiFeedTells =
-    (mapping : Mapping) (hashes : Hashes) (sealed : List Window) (feed : ℕ) (definition : FeedDef)
-    → is_valid mapping ≡ true → are_windows_valid mapping hashes sealed ≡ true
-    → slice_get mapping.feeds feed ≡ Some definition → (length definition.sub == 0) ≡ false
-    → (date : ℕ) → multi_content_read mapping (vault mapping hashes sealed) feed date ≡ content feed sealed date
-
 -- ---- the content of any feed
 
 abbrev pub any_content_read_by : Mapping → List TableRows → Option FeedDef → ℕ → ℕ → List NRow
@@ -173,10 +150,3 @@ any_content_read_by mapping tables (Some definition) feed date =
 -- the content of a feed at a date, by the tables alone, whether it has a sub or not; none where the mapping hasn't the feed
 abbrev pub any_content_read : Mapping → List TableRows → ℕ → ℕ → List NRow
 any_content_read mapping tables feed date = any_content_read_by mapping tables (slice_get mapping.feeds feed) feed date
-
--- the tables of the vault tell everything that the windows delivered: the content of each feed at each date
-abbrev pub VaultTells : Type 0
-VaultTells =
-    (mapping : Mapping) (hashes : Hashes) (sealed : List Window)
-    → is_valid mapping ≡ true → are_windows_valid mapping hashes sealed ≡ true
-    → (feed date : ℕ) → any_content_read mapping (vault mapping hashes sealed) feed date ≡ content feed sealed date

@@ -1,30 +1,21 @@
 -- What the tables say of a date is what the windows delivered.
-use Rattle.std.specs.Prelude.{◌≡◌, ◌↔◌, ℕ, ◌==◌, nat_le, Bool, true, false, ◌&&◌, List, [], ◌∷◌, Option, Some, None, Contains, find, filter, map, reverse, slice_get}
 use Rattle.std.specs.List.Sorted.{IsStrictlySortedBy}
-use Rattle.std.specs.Option.{option_map}
+use Rattle.std.specs.Prelude.{◌≡◌, ℕ, ◌==◌, nat_le, Bool, true, false, ◌&&◌, List, [], ◌∷◌, Option, Some, None, Contains, find, filter, map, reverse}
 use Rattle.std.specs.Str.{bytes_eq}
 use Rattle.dv_text.specs.declared.rows.Key.{Key}
 use Rattle.dv_text.specs.declared.rows.NRow.{NRow}
 use Rattle.dv_text.specs.declared.rows.Window.{Window}
-use Rattle.dv_text.specs.Keys.{Hashes, is_missing}
+use Rattle.dv_text.specs.Keys.{is_missing}
 use Rattle.dv_text.specs.Orders.{row_cmp}
 use Rattle.dv_text.specs.Sorting.{sorted_by}
-use Rattle.dv_catalog.specs.declared.entries.FeedDef.{FeedDef}
-use Rattle.dv_catalog.specs.declared.entries.Parent.TheVariants.{Hub}
-use Rattle.dv_catalog.specs.declared.tables.TableId.TheVariants.{Hub as HubTable, Sat, Multi, Status}
-use Rattle.dv_catalog.specs.Entries.{Mapping}
 use Rattle.dv_records.specs.declared.raw_rows.Code.{Code}
 use Rattle.dv_records.specs.declared.raw_rows.Code.TheVariants.{I, D}
 use Rattle.dv_records.specs.declared.raw_rows.HubRow.{HubRow}
 use Rattle.dv_records.specs.declared.raw_rows.MultiRow.{MultiRow}
 use Rattle.dv_records.specs.declared.raw_rows.SatRow.{SatRow}
 use Rattle.dv_records.specs.declared.raw_rows.StatusRow.{StatusRow}
-use Rattle.dv_records.specs.declared.stores.Rows.TheVariants.{Hubs, Sats, Multis, Statuses}
-use Rattle.dv_records.specs.Collisions.{collision_in, IsApart}
-use Rattle.dv_records.specs.History.{Extract, content, delivered_refs, delivers, history, up_to, IsInLoadOrder}
-use Rattle.dv_records.specs.Satellites.{last_rows}
-use Rattle.dv_records.specs.Ties.{IsOnePerList, IsOnePerSub}
-use Rattle.dv_records.specs.Vault.{table_after}
+use Rattle.dv_records.specs.History.{Extract, history}
+use Rattle.dv_records.specs.Satellites.{IsOnePerList, IsOnePerSub}
 
 -- ---- status
 
@@ -43,25 +34,6 @@ says_present (Some row) = is_appearance row.code
 abbrev pub present_at : List StatusRow → List ℕ → ℕ → Bool
 present_at rows parent date = says_present (find (λ row. bytes_eq row.parent parent && nat_le row.load date) (reverse rows))
 
--- the status table of a feed says of each reference list, by its hash key, and at each date whether the feed's content
--- delivers it, where no other list that the windows deliver has its hash key
-abbrev pub StatusTells : Type 0
-StatusTells =
-    (mapping : Mapping) (hashes : Hashes) (feed : ℕ) (sealed : List Window) (rows : List StatusRow)
-    → table_after mapping hashes (reverse sealed) (Status feed) ≡ Statuses rows
-    → IsInLoadOrder sealed → IsApart hashes (delivered_refs feed sealed)
-    → (refs : List Key) → ((other : List Key) → Contains (delivered_refs feed sealed) other → hashes.hash other ≡ hashes.hash refs → other ≡ refs)
-    → (date : ℕ) → present_at rows (hashes.hash refs) date ≡ delivers (content feed sealed date) refs
-
--- so it says so of each list that the windows deliver
-abbrev pub DeliveredTells : Type 0
-DeliveredTells =
-    (mapping : Mapping) (hashes : Hashes) (feed : ℕ) (sealed : List Window) (rows : List StatusRow)
-    → table_after mapping hashes (reverse sealed) (Status feed) ≡ Statuses rows
-    → IsInLoadOrder sealed → IsApart hashes (delivered_refs feed sealed)
-    → (refs : List Key) → Contains (delivered_refs feed sealed) refs
-    → (date : ℕ) → present_at rows (hashes.hash refs) date ≡ delivers (content feed sealed date) refs
-
 -- ---- satellites
 
 -- the row of a satellite that is valid for a parent at a date: the last of its rows that is not later. Satellite rows,
@@ -77,17 +49,6 @@ first_attrs (row ∷ rows) = Some row.attrs
 -- a feed's windows have one row for each reference list
 abbrev pub HasOneRowEach : ℕ → List Window → Type 0
 HasOneRowEach feed windows = (extract : Extract) → Contains (history feed windows) extract → IsOnePerList extract.rows
-
--- the satellite of a feed without a sub says of each reference list, by its hash key, and at each date the attributes
--- that it had in the newest extract, up to the date, that holds it, where no other list that the windows deliver has its
--- hash key
-abbrev pub SatTells : Type 0
-SatTells =
-    (mapping : Mapping) (hashes : Hashes) (feed : ℕ) (sealed : List Window) (rows : List SatRow)
-    → table_after mapping hashes (reverse sealed) (Sat feed) ≡ Sats rows
-    → IsInLoadOrder sealed → HasOneRowEach feed sealed → IsApart hashes (delivered_refs feed sealed)
-    → (refs : List Key) → ((other : List Key) → Contains (delivered_refs feed sealed) other → hashes.hash other ≡ hashes.hash refs → other ≡ refs)
-    → (date : ℕ) → option_map (λ row. row.attrs) (valid_at rows (hashes.hash refs) date) ≡ first_attrs (last_rows (up_to date (history feed (reverse sealed))) refs)
 
 -- ---- multi-active satellites
 
@@ -109,17 +70,6 @@ described_row refs row = record { refs = refs; sub = row.sub; attrs = row.attrs 
 abbrev pub HasOneRowPerSub : ℕ → List Window → Type 0
 HasOneRowPerSub feed windows = (extract : Extract) → Contains (history feed windows) extract → IsOnePerSub extract.rows
 
--- the multi-active satellite of a feed says of each reference list, by its hash key, and at each date all rows that it
--- had in the newest extract, up to the date, that holds it, where no other list that the windows deliver has its hash key
-abbrev pub MultiTells : Type 0
-MultiTells =
-    (mapping : Mapping) (hashes : Hashes) (feed : ℕ) (sealed : List Window) (rows : List MultiRow)
-    → table_after mapping hashes (reverse sealed) (Multi feed) ≡ Multis rows
-    → IsInLoadOrder sealed → HasOneRowPerSub feed sealed → IsApart hashes (delivered_refs feed sealed)
-    → (refs : List Key) → ((other : List Key) → Contains (delivered_refs feed sealed) other → hashes.hash other ≡ hashes.hash refs → other ≡ refs)
-    → (date : ℕ) (row : NRow)
-    → Contains (map (described_row refs) (all_valid_at rows (hashes.hash refs) date)) row ↔ Contains (last_rows (up_to date (history feed (reverse sealed))) refs) row
-
 -- ---- a feed of keys alone
 
 -- the row of a key alone
@@ -135,14 +85,3 @@ pub record HasKeysAlone (feed : ℕ) (windows : List Window) : Type 0 where
 -- the rows of the keys of a hub table that a status table says are present at a date, in order
 abbrev pub present_keys : List HubRow → List StatusRow → ℕ → List NRow
 present_keys hubs statuses date = sorted_by row_cmp (map (λ row. key_row row.key) (filter (λ row. present_at statuses row.digest date) hubs))
-
--- the content of such a feed of a hub is read back from the hub's table and the feed's status table, where no two keys
--- of the hub have one hash key, the missing key among them; other feeds may deliver keys to the hub, too
-abbrev pub KeysTell : Type 0
-KeysTell =
-    (mapping : Mapping) (hashes : Hashes) (hub feed : ℕ) (definition : FeedDef) (sealed : List Window) (hubs : List HubRow) (statuses : List StatusRow)
-    → slice_get mapping.feeds feed ≡ Some definition → definition.parent ≡ Hub hub
-    → table_after mapping hashes (reverse sealed) (HubTable hub) ≡ Hubs hubs
-    → table_after mapping hashes (reverse sealed) (Status feed) ≡ Statuses statuses
-    → IsInLoadOrder sealed → HasKeysAlone feed sealed → collision_in mapping hashes sealed (Hub hub) ≡ None
-    → (date : ℕ) → present_keys hubs statuses date ≡ content feed sealed date

@@ -1,15 +1,15 @@
 -- Satellite batches, of plain satellites and of multi-active ones (Linstedt and Olschimke 2015, chapter 4, on
 -- satellites, and chapter 5, on multi-active satellites).
-use Rattle.std.specs.Prelude.{ℕ, Bool, not, List, [], ◌∷◌, Option, Some, None, if◌then◌else◌, filter}
+use Rattle.std.specs.declared.cmp.Ordering.{Ordering}
 use Rattle.std.specs.Cmp.Lexicographic.{pointwise, slice_cmp}
 use Rattle.std.specs.Ordering.{ordering_then}
-use Rattle.std.specs.declared.cmp.Ordering.{Ordering}
+use Rattle.std.specs.Prelude.{◌≡◌, Contains, ℕ, Bool, not, List, [], ◌∷◌, Option, Some, None, if◌then◌else◌, filter}
 use Rattle.dv_text.specs.declared.rows.Key.{Key}
 use Rattle.dv_text.specs.declared.rows.NRow.{NRow}
 use Rattle.dv_text.specs.Keys.{Hashes, refs_eq, row_eq}
 use Rattle.dv_text.specs.Orders.{text_cmp}
-use Rattle.dv_records.specs.declared.raw_rows.SatRow.{SatRow}
 use Rattle.dv_records.specs.declared.raw_rows.MultiRow.{MultiRow}
+use Rattle.dv_records.specs.declared.raw_rows.SatRow.{SatRow}
 use Rattle.dv_records.specs.Batches.{batch_of, digest_cmp, IsBatchOf}
 use Rattle.dv_records.specs.History.{Extract, delivers}
 
@@ -27,6 +27,16 @@ last_rows (newest ∷ older) refs = if delivers newest.rows refs then rows_of ne
 -- their hash differences.
 abbrev pub is_changed : List Extract → Extract → List Key → Bool
 is_changed older newest refs = not (pointwise row_eq (last_rows older refs) (rows_of newest.rows refs))
+
+-- ---- rows as staging leaves them
+
+-- one row for each reference list where the feed has no sub
+abbrev pub IsOnePerList : List NRow → Type 0
+IsOnePerList rows = (a b : NRow) → Contains rows a → Contains rows b → a.refs ≡ b.refs → a ≡ b
+
+-- one row for each reference list and sub
+abbrev pub IsOnePerSub : List NRow → Type 0
+IsOnePerSub rows = (a b : NRow) → Contains rows a → Contains rows b → a.refs ≡ b.refs → a.sub ≡ b.sub → a ≡ b
 
 -- ---- plain satellites
 

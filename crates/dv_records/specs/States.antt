@@ -1,14 +1,14 @@
 -- The state of the warehouse: its sealed windows in order, the open one, and the dates of its snapshots; and what makes it valid.
-use Rattle.std.specs.Prelude.{ℕ, ◌==◌, Bool, true, false, ◌&&◌, ◌||◌, not, nat_le, nat_lt, is_none, List, [], ◌∷◌, ◌++◌, Option, Some, None, map, length, sum_by, slice_get}
+use Rattle.std.specs.Cmp.Lexicographic.{pointwise}
 use Rattle.std.specs.List.{list_all, list_any, filter_map, last_or}
 use Rattle.std.specs.Option.{option_map_or, option_to_list}
-use Rattle.std.specs.Cmp.Lexicographic.{pointwise}
+use Rattle.std.specs.Prelude.{ℕ, ◌==◌, Bool, true, false, ◌&&◌, ◌||◌, not, nat_le, nat_lt, is_none, List, [], ◌∷◌, ◌++◌, Option, Some, None, map, length, sum_by, slice_get}
 use Rattle.dv_text.specs.declared.rows.Key.{Key}
 use Rattle.dv_text.specs.declared.rows.NRow.{NRow}
 use Rattle.dv_text.specs.declared.rows.Staged.{Staged}
 use Rattle.dv_text.specs.declared.rows.Window.{Window}
 use Rattle.dv_text.specs.declared.rows.WindowHead.{WindowHead}
-use Rattle.dv_text.specs.Keys.{Hashes, is_missing, refs_eq, row_eq, texts_eq}
+use Rattle.dv_text.specs.Keys.{Hashes, is_missing, row_eq, texts_eq}
 use Rattle.dv_text.specs.Normal.{norm_field, norm_key}
 use Rattle.dv_text.specs.Orders.{row_cmp}
 use Rattle.dv_text.specs.Sorting.{sorted_by}
@@ -17,7 +17,10 @@ use Rattle.dv_catalog.specs.declared.entries.Parent.{Parent}
 use Rattle.dv_catalog.specs.declared.entries.Parent.TheVariants.{Hub, Link}
 use Rattle.dv_catalog.specs.Entries.{Mapping}
 use Rattle.dv_catalog.specs.Feeds.{parent_hubs, parts_of}
+use Rattle.dv_catalog.specs.Readings.{part_ways}
+use Rattle.dv_catalog.specs.Records.{are_rivals}
 use Rattle.dv_records.specs.Collisions.{collision}
+use Rattle.dv_records.specs.Limits.{most_field_bytes, most_records, most_snapshot_weight, most_snapshots, most_weight, most_window_records, most_windows}
 use Rattle.dv_records.specs.Snapshots.{snapshot}
 use Rattle.dv_records.specs.Weights.{vault_weight}
 
@@ -42,29 +45,6 @@ last_load sealed = last_or None (map (λ window. window.load) sealed)
 abbrev pub head_of : Window → WindowHead
 head_of window = record { load = window.load; feeds = map (λ staged. staged.feed) window.extracts }
 
--- ---- limits
-
-abbrev pub most_text : ℕ
-most_text = 4096
-
-abbrev pub most_rows : ℕ
-most_rows = 200000
-
-abbrev pub most_window_rows : ℕ
-most_window_rows = 400000
-
-abbrev pub most_windows : ℕ
-most_windows = 10000
-
-abbrev pub most_weight : ℕ
-most_weight = 1073741824
-
-abbrev pub most_snapshots : ℕ
-most_snapshots = 1000
-
-abbrev pub most_snapshot_weight : ℕ
-most_snapshot_weight = 268435456
-
 -- ---- the rows of an extract
 
 -- each number is less than all behind it
@@ -74,11 +54,11 @@ ascends (n ∷ later) = list_all (nat_lt n) later && ascends later
 
 -- the text is its own normal form as a key part, and not too long
 abbrev pub is_key_part : List ℕ → Bool
-is_key_part part = texts_eq (norm_key part ∷ []) (part ∷ []) && nat_le (length part) most_text
+is_key_part part = texts_eq (norm_key part ∷ []) (part ∷ []) && nat_le (length part) most_field_bytes
 
 -- the text is its own normal form as a field, and not too long
 abbrev pub is_field : List ℕ → Bool
-is_field text = texts_eq (norm_field text ∷ []) (text ∷ []) && nat_le (length text) most_text
+is_field text = texts_eq (norm_field text ∷ []) (text ∷ []) && nat_le (length text) most_field_bytes
 
 -- a key has as many parts as its hub says, each in normal form
 abbrev pub fits_hub : Mapping → ℕ → Key → Bool
@@ -108,11 +88,11 @@ is_row_of mapping feed row =
 
 -- two rows of one parent and sub are one
 abbrev pub is_one_row : NRow → NRow → Bool
-is_one_row a b = not (refs_eq a.refs b.refs && texts_eq a.sub b.sub) || texts_eq a.attrs b.attrs
+is_one_row a b = not (are_rivals a b)
 
 -- two rows with the same driving keys have the same references
-abbrev pub is_one_partner : List ℕ → NRow → NRow → Bool
-is_one_partner driver a b = not (refs_eq (driver_keys driver a.refs) (driver_keys driver b.refs)) || refs_eq a.refs b.refs
+abbrev pub is_one_partner : FeedDef → NRow → NRow → Bool
+is_one_partner feed a b = not (part_ways feed a b)
 
 -- a test holds of each two rows
 abbrev pub holds_of_each_two : (NRow → NRow → Bool) → List NRow → Bool
@@ -123,8 +103,8 @@ abbrev pub are_rows_of : Mapping → FeedDef → List NRow → Bool
 are_rows_of mapping feed rows =
     pointwise row_eq (sorted_by row_cmp rows) rows && list_all (is_row_of mapping feed) rows
     && holds_of_each_two is_one_row rows
-    && ((length feed.driver == 0) || holds_of_each_two (is_one_partner feed.driver) rows)
-    && nat_le (length rows) most_rows
+    && ((length feed.driver == 0) || holds_of_each_two (is_one_partner feed) rows)
+    && nat_le (length rows) most_records
 
 abbrev pub is_staged : Mapping → Staged → Bool
 is_staged mapping staged = option_map_or (λ feed. are_rows_of mapping feed staged.rows) (slice_get mapping.feeds staged.feed) false
@@ -134,7 +114,7 @@ abbrev pub is_window : Mapping → Window → Bool
 is_window mapping window =
     nat_lt 0 (length window.extracts) && ascends (map (λ staged. staged.feed) window.extracts)
     && list_all (is_staged mapping) window.extracts
-    && nat_le (sum_by (λ staged. length staged.rows) window.extracts) most_window_rows
+    && nat_le (sum_by (λ staged. length staged.rows) window.extracts) most_window_records
 
 -- ---- the state
 

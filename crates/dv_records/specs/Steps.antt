@@ -1,8 +1,8 @@
 -- The steps of the machine: what each answer says of the state before and after. What a fault or want of memory leaves is left open within these bounds.
-use Rattle.std.specs.Prelude.{◌≡◌, ◌≢◌, ◌⊎◌, ℕ, ◌==◌, Bool, true, ◌||◌, nat_le, nat_lt, List, [], ◌∷◌, ◌++◌, Option, Some, None, Ok, length, position, if◌then◌else◌}
 use Rattle.std.specs.List.{list_any}
 use Rattle.std.specs.Option.{option_map}
 use Rattle.std.specs.Ordering.{nat_cmp}
+use Rattle.std.specs.Prelude.{◌≡◌, ◌≢◌, ◌⊎◌, ℕ, ◌==◌, Bool, true, ◌||◌, nat_le, nat_lt, List, [], ◌∷◌, ◌++◌, Option, Some, None, Ok, length, position, if◌then◌else◌}
 use Rattle.dv_text.specs.declared.rows.Window.{Window}
 use Rattle.dv_text.specs.Keys.{Hashes}
 use Rattle.dv_text.specs.Sorting.{sorted_by}
@@ -13,21 +13,22 @@ use Rattle.dv_catalog.specs.FirstOf.{first_of}
 use Rattle.dv_catalog.specs.MappingFiles.{read_mapping}
 use Rattle.dv_catalog.specs.Windows.{window_of}
 use Rattle.dv_records.specs.declared.answers.InitAnswer.{InitAnswer}
-use Rattle.dv_records.specs.declared.answers.InitAnswer.TheVariants as init
 use Rattle.dv_records.specs.declared.answers.LoadAnswer.{LoadAnswer}
-use Rattle.dv_records.specs.declared.answers.LoadAnswer.TheVariants as load
-use Rattle.dv_records.specs.declared.answers.Outcome.TheVariants as outcomes
 use Rattle.dv_records.specs.declared.answers.ResumeAnswer.{ResumeAnswer}
-use Rattle.dv_records.specs.declared.answers.ResumeAnswer.TheVariants as resume
 use Rattle.dv_records.specs.declared.answers.SnapAnswer.{SnapAnswer}
-use Rattle.dv_records.specs.declared.answers.SnapAnswer.TheVariants as snap
 use Rattle.dv_records.specs.declared.stores.Store.{Store}
+use Rattle.dv_records.specs.Limits.{most_path_rows, most_snapshots, most_snapshot_weight}
 use Rattle.dv_records.specs.Loads.{loaded}
 use Rattle.dv_records.specs.Marts.{contents, is_larger}
 use Rattle.dv_records.specs.Outcomes.{outcome}
 use Rattle.dv_records.specs.Snapshots.{snapshot}
-use Rattle.dv_records.specs.States.{State, last_load, most_snapshots, most_snapshot_weight, snapshots_weight}
+use Rattle.dv_records.specs.States.{State, last_load, snapshots_weight}
 use Rattle.dv_records.specs.Stores.{with_mapping}
+use Rattle.dv_records.specs.declared.answers.InitAnswer.TheVariants as init
+use Rattle.dv_records.specs.declared.answers.LoadAnswer.TheVariants as load
+use Rattle.dv_records.specs.declared.answers.Outcome.TheVariants as outcomes
+use Rattle.dv_records.specs.declared.answers.ResumeAnswer.TheVariants as resume
+use Rattle.dv_records.specs.declared.answers.SnapAnswer.TheVariants as snap
 
 -- ---- a load
 
@@ -69,10 +70,6 @@ ResumeStep mapping hashes state resume.KeeperFault state' = ResumeBroke state st
 ResumeStep mapping hashes state resume.Memory state' = ResumeBroke state state'
 
 -- ---- a snapshot
-
--- the most rows of a path mart
-abbrev pub most_path_rows : ℕ
-most_path_rows = 1000000
 
 -- some first steps of a path, or all of them, give more rows than a path mart may have
 abbrev pub is_too_large : Mapping → List Window → ℕ → PathDef → Bool

@@ -1,5 +1,5 @@
 -- The vault: the raw tables, each the concatenation of its batches.
-use Rattle.std.specs.Prelude.{ℕ, nat_le, List, [], ◌∷◌, ◌++◌, Option, Some, None, filter, map, reverse, take, drop}
+use Rattle.std.specs.Prelude.{◌≡◌, ℕ, nat_le, Contains, List, [], ◌∷◌, ◌++◌, Option, Some, None, filter, map, reverse, take, drop}
 use Rattle.dv_text.specs.declared.rows.Window.{Window}
 use Rattle.dv_text.specs.Keys.{Hashes}
 use Rattle.dv_catalog.specs.declared.tables.TableId.{TableId}
@@ -16,6 +16,7 @@ use Rattle.dv_records.specs.History.{Extract, extract_of, history}
 use Rattle.dv_records.specs.Hubs.{hub_batch, link_batch}
 use Rattle.dv_records.specs.Satellites.{multi_batch, sat_batch}
 use Rattle.dv_records.specs.Statuses.{status_batch}
+use Rattle.dv_records.specs.Stores.{no_rows, rows_in}
 
 -- the batch of an extract, if there is one; no rows where there is none
 abbrev pub batch_at : {R : Type 0} → (List Extract → Extract → List R) → List Extract → Option Extract → List R
@@ -51,6 +52,11 @@ table_entry mapping hashes windows table = record { table = table; rows = table_
 -- the vault of the sealed windows: all raw tables, in table order
 abbrev pub vault : Mapping → Hashes → List Window → List TableRows
 vault mapping hashes sealed = map (table_entry mapping hashes (reverse sealed)) (tables mapping)
+
+-- what the vault has of a table: of one of the mapping's, its rows after the windows, and of any other none
+pub record HoldsTable (mapping : Mapping) (hashes : Hashes) (sealed : List Window) (table : TableId) : Type 0 where
+  pub rows : Contains (tables mapping) table → rows_in table (vault mapping hashes sealed) ≡ table_after mapping hashes (reverse sealed) table
+  pub none : (Contains (tables mapping) table → ⊥) → rows_in table (vault mapping hashes sealed) ≡ no_rows table
 
 -- the vault while a window is loaded: the first k tables in table order have its batch, and the others don't yet
 abbrev pub partial : Mapping → Hashes → List Window → Window → ℕ → List TableRows

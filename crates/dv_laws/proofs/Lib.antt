@@ -1,0 +1,10 @@
+pub mod Ascending
+pub mod EffectTies
+pub mod HeaderSteps
+pub mod HubReconstruct
+pub mod MultiReadBack
+pub mod MultiReconstruct
+pub mod PeriodTies
+pub mod RunTies
+pub mod TableLaws
+pub mod WindowSteps

@@ -1,0 +1,151 @@
+-- The rows of a period mart are the periods in which the content delivers a list.
+use Rattle.std.specs.declared.cmp.Ordering.TheVariants.{Equal}
+use Rattle.std.specs.Cmp.{IsTotalOrder, nat_cmp_total, on_total, then_total}
+use Rattle.std.specs.FinMap.{nat_cmp-IsAntisymmetric}
+use Rattle.std.specs.List.{flat_map}
+use Rattle.std.specs.List.Sorted.{IsStrictlySortedBy}
+use Rattle.std.specs.Prelude.{Contains, nat_le}
+use Rattle.std.proofs.Common.{◌≡◌, ◌↔◌, ℕ, ◌≤◌, inl, inr, Bool, true, false, List, [], ◌∷◌, refl, sym, ◌∙◌, ap, subst, filter, reverse, arith}
+use Rattle.std.proofs.lemmas.Bool.{le-leb, leb-true}
+use Rattle.dv_text.specs.declared.rows.Key.{Key}
+use Rattle.dv_text.specs.declared.rows.Window.{Window}
+use Rattle.dv_text.specs.Exact.{both_tied}
+use Rattle.dv_text.proofs.Deciding.{refs_exact, refs_total}
+use Rattle.dv_text.proofs.Members.{Contains-cons_here, filtered_members, flat_map_member, Contains-flat_map, map_member, Contains-map}
+use Rattle.dv_text.proofs.SortedLists.{ascending-sorted_by, member_after_sort, member_before_sort, same_ascending}
+use Rattle.dv_records.specs.declared.mart_rows.PeriodRow.{PeriodRow}
+use Rattle.dv_records.specs.History.{Extract, all_refs, content, delivers, history, newest_rows, up_to, IsInLoadOrder}
+use Rattle.dv_records.specs.Marts.{period_cmp, period_mart, periods_of}
+use Rattle.dv_records.specs.Runs.{Span, runs}
+use Rattle.dv_records.proofs.Deciding.{Contains-all_refs}
+use Rattle.dv_records.proofs.Reversing.{IsNewestFirst, history-newest_first}
+use Rattle.dv_laws.specs.Ties.{IsPeriod}
+use Rattle.dv_laws.proofs.RunTies.{ends_once, ends_or_not, is_run, never_both, present, runs_there}
+
+-- ---- periods of tests that say the same up to a date
+
+period-same : (p q : ℕ → Bool) (date b e : ℕ) → ((t : ℕ) → t ≤ date → p t ≡ q t) → IsPeriod p date b e → IsPeriod q date b e
+period-same p q date b e same (inl x) =
+    let within = x.1.not_later in
+    inl (x.0, record { not_later = within; before = λ t is. sym (same t (omega arith)) ∙ x.1.before t is; during = λ t le up. sym (same t up) ∙ x.1.during t le up })
+period-same p q date b e same (inr x) =
+    let within = x.not_later in
+    let in_order = x.ordered in
+    inr (record {
+      not_later = within;
+      ordered = in_order;
+      before = λ t is. sym (same t (omega arith)) ∙ x.before t is;
+      during = λ t le lt. sym (same t (omega arith)) ∙ x.during t le lt;
+      after = sym (same e within) ∙ x.after;
+    })
+
+-- ---- the order of periods
+
+period_total : IsTotalOrder period_cmp
+period_total = then_total (on_total (λ (row : PeriodRow). row.refs) refs_total) (on_total (λ (row : PeriodRow). row.begin) nat_cmp_total)
+
+-- ---- the extracts up to a date
+
+newest_first-filter : {X : Type 0} (load : X → ℕ) (p : X → Bool) (xs : List X) → IsNewestFirst load xs → IsNewestFirst load (filter p xs)
+newest_first-filter load p [] order = tt
+newest_first-filter {X} load p (x ∷ xs) order = by (p x) refl (newest_first-filter load p xs order.1)
+  where
+    by : (b : Bool) → p x ≡ b → IsNewestFirst load (filter p xs) → IsNewestFirst load (filter p (x ∷ xs))
+    by true e rest = rw e (λ y has. order.0 y ((filtered_members p xs y).0 has).0, rest)
+    by false e rest = rw e rest
+
+up_to_twice : (t date : ℕ) (all : List Extract) → t ≤ date → up_to t (up_to date all) ≡ up_to t all
+up_to_twice t date [] le = refl
+up_to_twice t date (x ∷ all) le = by (nat_le x.load date) refl (nat_le x.load t) refl (up_to_twice t date all le)
+  where
+    by : (b : Bool) → nat_le x.load date ≡ b → (c : Bool) → nat_le x.load t ≡ c → up_to t (up_to date all) ≡ up_to t all → up_to t (up_to date (x ∷ all)) ≡ up_to t (x ∷ all)
+    by true e true f rest = rw (e, f, rest)
+    by true e false f rest = rw (e, f) rest
+    by false e false f rest = rw (e, f) rest
+    by false e true f rest = let le_t = leb-true x.load t f in let yes = le-leb x.load date (omega arith) in absurd (never_both (nat_le x.load date) yes e)
+
+module _ (feed : ℕ) (sealed : List Window) (date : ℕ) (order : IsInLoadOrder sealed) where
+  abbrev extracts : List Extract
+  extracts = up_to date (history feed (reverse sealed))
+
+  in_order : IsNewestFirst (λ (x : Extract). x.load) extracts
+  in_order = newest_first-filter (λ (x : Extract). x.load) (λ (x : Extract). nat_le x.load date) (history feed (reverse sealed)) (history-newest_first feed sealed order)
+
+  reached : (x : Extract) → Contains extracts x → x.load ≤ date
+  reached x has = leb-true x.load date ((filtered_members (λ (x : Extract). nat_le x.load date) (history feed (reverse sealed)) x).0 has).1
+
+  -- they deliver at each date up to it what the content delivers, and afterwards what they deliver at it
+  as_content : (refs : List Key) (t : ℕ) → t ≤ date → present extracts refs t ≡ delivers (content feed sealed t) refs
+  as_content refs t le = ap (λ all. delivers (newest_rows all) refs) (up_to_twice t date (history feed (reverse sealed)) le)
+
+  -- each row is a run of its list, and so a period
+  run_of : (row : PeriodRow) → Contains (flat_map (periods_of extracts) (flat_map (λ (x : Extract). all_refs x.rows) extracts)) row
+      → IsPeriod (present extracts row.refs) date row.begin row.end
+  run_of row has =
+      let (refs, member, within) = flat_map_member (periods_of extracts) (flat_map (λ (x : Extract). all_refs x.rows) extracts) row has in
+      let (span, there, made) = map_member (λ (span : Span). record { refs = refs; begin = span.begin; end = span.end }) (runs extracts refs) row within in
+      subst (λ (r : PeriodRow). IsPeriod (present extracts r.refs) date r.begin r.end) made
+      (runs_there refs date extracts in_order reached span there)
+
+  pub row_period : (row : PeriodRow) → Contains (period_mart sealed feed date) row → IsPeriod (λ t. delivers (content feed sealed t) row.refs) date row.begin row.end
+  row_period row has =
+      period-same (present extracts row.refs) (λ t. delivers (content feed sealed t) row.refs) date row.begin row.end (as_content row.refs)
+      (run_of row (member_before_sort period_cmp (flat_map (periods_of extracts) (flat_map (λ (x : Extract). all_refs x.rows) extracts)) row has))
+
+  -- runs of one list that begin at one date are one
+  one_end : (p : ℕ → Bool) (b e f : ℕ) → IsPeriod p date b e → IsPeriod p date b f → e ≡ f
+  one_end p b e f (inl x) (inl y) = x.0 ∙ sym y.0
+  one_end p b e f (inl x) (inr y) = absurd (ends_or_not p date b f x.1 y)
+  one_end p b e f (inr x) (inl y) = absurd (ends_or_not p date b e y.1 x)
+  one_end p b e f (inr x) (inr y) = omega (arith, ends_once p date b e f x y, ends_once p date b f e y x)
+
+  -- a list that is in a run is one of the extracts' lists
+  began : (p : ℕ → Bool) (b e : ℕ) → IsPeriod p date b e → p b ≡ true
+  began p b e (inl x) = x.1.during b (omega arith) x.1.not_later
+  began p b e (inr x) = x.during b (omega arith) x.ordered
+
+  listed : (all : List Extract) (refs : List Key) → delivers (newest_rows all) refs ≡ true → Contains (flat_map (λ (x : Extract). all_refs x.rows) all) refs
+  listed [] refs e = absurd (never_both false e refl)
+  listed (newest ∷ older) refs e =
+      Contains-flat_map (λ (x : Extract). all_refs x.rows) (newest ∷ older) newest refs (Contains-cons_here newest older) (Contains-all_refs newest.rows refs e)
+
+  fewer : (all : List Extract) (p : Extract → Bool) (refs : List Key) → Contains (flat_map (λ (x : Extract). all_refs x.rows) (filter p all)) refs → Contains (flat_map (λ (x : Extract). all_refs x.rows) all) refs
+  fewer all p refs has =
+      let (x, member, within) = flat_map_member (λ (x : Extract). all_refs x.rows) (filter p all) refs has in
+      Contains-flat_map (λ (x : Extract). all_refs x.rows) all x refs ((filtered_members p all x).0 member).0 within
+
+  pub period_row : (row : PeriodRow) → IsPeriod (λ t. delivers (content feed sealed t) row.refs) date row.begin row.end → Contains (period_mart sealed feed date) row
+  period_row row is =
+      let a_run = period-same (λ t. delivers (content feed sealed t) row.refs) (present extracts row.refs) date row.begin row.end (λ t le. sym (as_content row.refs t le)) is in
+      let span = is_run row.refs date extracts in_order reached row.begin row.end a_run in
+      let in_list : Contains (flat_map (λ (x : Extract). all_refs x.rows) extracts) row.refs =
+      fewer extracts (λ (x : Extract). nat_le x.load row.begin) row.refs (listed (up_to row.begin extracts) row.refs (began (present extracts row.refs) row.begin row.end a_run)) in
+      let made : Contains (periods_of extracts row.refs) row =
+      Contains-map (λ (span : Span). record { refs = row.refs; begin = span.begin; end = span.end }) (runs extracts row.refs) (record { begin = row.begin; end = row.end }) span in
+      let all : Contains (flat_map (periods_of extracts) (flat_map (λ (x : Extract). all_refs x.rows) extracts)) row =
+      Contains-flat_map (periods_of extracts) (flat_map (λ (x : Extract). all_refs x.rows) extracts) row.refs row in_list made in
+      member_after_sort period_cmp (flat_map (periods_of extracts) (flat_map (λ (x : Extract). all_refs x.rows) extracts)) row (λ other has tie. one_row a_run other (run_of other has) tie) all
+    where
+      one_row : IsPeriod (present extracts row.refs) date row.begin row.end → (other : PeriodRow) → IsPeriod (present extracts other.refs) date other.begin other.end → period_cmp other row ≡ Equal → other ≡ row
+      one_row mine other theirs tie =
+          let ties = both_tied _ _ tie in
+          let refs : other.refs ≡ row.refs = refs_exact other.refs row.refs ties.0 in
+          let begin : other.begin ≡ row.begin = nat_cmp-IsAntisymmetric other.begin row.begin ties.1 in
+          let moved : IsPeriod (present extracts row.refs) date row.begin other.end =
+          subst (λ b. IsPeriod (present extracts row.refs) date b other.end) begin (subst (λ r. IsPeriod (present extracts r) date other.begin other.end) refs theirs) in
+          let end : other.end ≡ row.end = one_end (present extracts row.refs) row.begin other.end row.end moved mine in
+          λ i. record { refs = refs i; begin = begin i; end = end i }
+
+pub periods_tied : (feed : ℕ) (sealed : List Window) (date : ℕ) (row : PeriodRow) → IsInLoadOrder sealed → Contains (period_mart sealed feed date) row ↔ IsPeriod (λ t. delivers (content feed sealed t) row.refs) date row.begin row.end
+periods_tied feed sealed date row order = (row_period feed sealed date order row, period_row feed sealed date order row)
+
+-- ---- the same contents
+
+pub periods_decided : (feed date : ℕ) (a b : List Window) → IsInLoadOrder a → IsInLoadOrder b → ((t : ℕ) → t ≤ date → content feed a t ≡ content feed b t) → period_mart a feed date ≡ period_mart b feed date
+periods_decided feed date a b a_order b_order same =
+    same_ascending period_cmp period_total (period_mart a feed date) (period_mart b feed date) (ascends a) (ascends b)
+    (λ row has. period_row feed b date b_order row (period-same (λ t. delivers (content feed a t) row.refs) (λ t. delivers (content feed b t) row.refs) date row.begin row.end (λ t le. ap (λ rows. delivers rows row.refs) (same t le)) (row_period feed a date a_order row has)))
+    (λ row has. period_row feed a date a_order row (period-same (λ t. delivers (content feed b t) row.refs) (λ t. delivers (content feed a t) row.refs) date row.begin row.end (λ t le. ap (λ rows. delivers rows row.refs) (sym (same t le))) (row_period feed b date b_order row has)))
+  where
+    ascends : (windows : List Window) → IsStrictlySortedBy period_cmp (period_mart windows feed date)
+    ascends windows = ascending-sorted_by period_cmp period_total (flat_map (periods_of (up_to date (history feed (reverse windows)))) (flat_map (λ (x : Extract). all_refs x.rows) (up_to date (history feed (reverse windows)))))

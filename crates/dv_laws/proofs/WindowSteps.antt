@@ -1,0 +1,111 @@
+-- What a window more changes of the contents, the marts and the snapshots, and what it leaves.
+use Rattle.std.specs.List.{flat_map, range_with_len}
+use Rattle.std.specs.Prelude.{All, Contains, nat_le, length, slice_get}
+use Rattle.std.proofs.Common.{◌≡◌, ℕ, ◌<◌, List, [], ◌∷◌, ◌++◌, Option, Some, None, refl, ap, append-nil, reverse, map, filter}
+use Rattle.std.proofs.lemmas.Bool.{lt-leb}
+use Rattle.std.proofs.lemmas.List.{reverse-append}
+use Rattle.std.proofs.lemmas.List.Elements.{All-contains, filter-append}
+use Rattle.dv_text.specs.declared.rows.Window.{Window}
+use Rattle.dv_text.specs.Keys.{Hashes}
+use Rattle.dv_text.specs.Sorting.{sorted_by}
+use Rattle.dv_text.proofs.Members.{Contains-cons_here, Contains-cons_there, reverse_member}
+use Rattle.dv_catalog.specs.declared.entries.Parent.TheVariants.{Hub}
+use Rattle.dv_catalog.specs.Entries.{Mapping}
+use Rattle.dv_records.specs.declared.snapshots.SnapId.TheVariants.{Pit, Bridge}
+use Rattle.dv_records.specs.declared.stores.Rows.TheVariants.{Pits, Bridges}
+use Rattle.dv_records.specs.Deliveries.{offered_refs}
+use Rattle.dv_records.specs.History.{Extract, content, delivers, extract_of, history, newest_rows, up_to}
+use Rattle.dv_records.specs.Marts.{hub_feeds, hub_rows, path_rows_by, periods}
+use Rattle.dv_records.specs.Snapshots.{bridge, bridge_cmp, bridge_row, pit, pit_cmp, sat_load, snap_head, snap_tables}
+use Rattle.dv_records.proofs.Reversing.{extract-load}
+use Rattle.dv_laws.specs.Laws.{SameAt, SameMarts, SameOfFeed}
+
+-- ---- before the first window
+
+none_up_to : (feed date : ℕ) (windows : List Window) → ((window : Window) → Contains windows window → date < window.load) → up_to date (history feed windows) ≡ []
+none_up_to feed date [] later = refl
+none_up_to feed date (window ∷ windows) later =
+    by (none_up_to feed date windows (λ w has. later w (Contains-cons_there window windows w has))) (extract_of feed window) refl
+  where
+    by : up_to date (history feed windows) ≡ [] → (o : Option Extract) → extract_of feed window ≡ o → up_to date (history feed (window ∷ windows)) ≡ []
+    by rest None e = rw e rest
+    by rest (Some extract) e =
+        let is_later : date < extract.load = rw (extract-load feed window extract e) (later window (Contains-cons_here window windows)) in
+        rw (e, lt-leb extract.load date is_later) rest
+
+pub empty_before : (feed : ℕ) (sealed : List Window) (date : ℕ) → All (λ window. date < window.load) sealed → content feed sealed date ≡ []
+empty_before feed sealed date later =
+    ap newest_rows (none_up_to feed date (reverse sealed) (λ window has. All-contains (λ (w : Window). date < w.load) sealed window later ((reverse_member sealed window).0 has)))
+
+-- ---- a window without a feed
+
+history-absent : (feed : ℕ) (sealed : List Window) (next : Window) → extract_of feed next ≡ None → history feed (reverse (sealed ++ next ∷ [])) ≡ history feed (reverse sealed)
+history-absent feed sealed next none = rw (reverse-append sealed (next ∷ []), none)
+
+pub absent_leaves : (mapping : Mapping) (hashes : Hashes) (feed : ℕ) (sealed : List Window) (next : Window) → extract_of feed next ≡ None → SameOfFeed mapping hashes feed sealed (sealed ++ next ∷ [])
+absent_leaves mapping hashes feed sealed next none = record {
+  contents = λ date. ap (λ extracts. newest_rows (up_to date extracts)) (history-absent feed sealed next none);
+  periods = λ date. ap (λ extracts. periods (up_to date extracts)) (history-absent feed sealed next none);
+  sat = rw (reverse-append sealed (next ∷ []), none, append-nil);
+  multi = rw (reverse-append sealed (next ∷ []), none, append-nil);
+  status = rw (reverse-append sealed (next ∷ []), none, append-nil);
+  effect = rw (reverse-append sealed (next ∷ []), none, append-nil);
+}
+
+-- ---- the same contents
+
+-- marts are decided by the contents
+pub contents_decide : (mapping : Mapping) (date : ℕ) (a b : List Window) → ((feed : ℕ) → content feed a date ≡ content feed b date) → SameMarts mapping date a b
+contents_decide mapping date a b same = record {
+  feeds = same;
+  hubs = λ hub i. hub_rows mapping (λ feed. same feed i) hub;
+  paths = λ path i. path_rows_by mapping (λ feed. same feed i) (slice_get mapping.paths path);
+}
+
+-- ---- a later window
+
+up_to-later : (feed : ℕ) (sealed : List Window) (next : Window) (date : ℕ) → date < next.load → up_to date (history feed (reverse (sealed ++ next ∷ []))) ≡ up_to date (history feed (reverse sealed))
+up_to-later feed sealed next date later = rw (reverse-append sealed (next ∷ [])) (by (extract_of feed next) refl)
+  where
+    by : (o : Option Extract) → extract_of feed next ≡ o → up_to date (history feed (next ∷ reverse sealed)) ≡ up_to date (history feed (reverse sealed))
+    by None e = rw e
+    by (Some extract) e =
+        let is_later : date < extract.load = rw (extract-load feed next extract e) later in
+        rw (e, lt-leb extract.load date is_later)
+
+windows-later : (sealed : List Window) (next : Window) (date : ℕ) → date < next.load → filter (λ window. nat_le window.load date) (sealed ++ next ∷ []) ≡ filter (λ window. nat_le window.load date) sealed
+windows-later sealed next date later = rw (filter-append, lt-leb next.load date later) (append-nil _)
+
+module _ (mapping : Mapping) (hashes : Hashes) (sealed : List Window) (next : Window) (date : ℕ) (later : date < next.load) where
+  extracts_same : (feed : ℕ) → up_to date (history feed (reverse (sealed ++ next ∷ []))) ≡ up_to date (history feed (reverse sealed))
+  extracts_same feed = up_to-later feed sealed next date later
+
+  marts_same : SameMarts mapping date (sealed ++ next ∷ []) sealed
+  marts_same = contents_decide mapping date (sealed ++ next ∷ []) sealed (λ feed. ap newest_rows (extracts_same feed))
+
+  pits_same : (hub : ℕ) → pit mapping hashes (sealed ++ next ∷ []) hub date ≡ pit mapping hashes sealed hub date
+  pits_same hub i =
+      sorted_by pit_cmp
+      (map
+      (λ refs. record {
+        key = hashes.hash refs;
+        cells = map (λ feed. record { load = sat_load feed.1 (extracts_same feed.0 i) refs; present = delivers (newest_rows (extracts_same feed.0 i)) refs }) (hub_feeds mapping hub);
+      })
+      (flat_map (offered_refs mapping (Hub hub)) (windows-later sealed next date later i)))
+
+  bridges_same : (path : ℕ) → bridge mapping hashes (sealed ++ next ∷ []) path date ≡ bridge mapping hashes sealed path date
+  bridges_same path = ap (λ rows. sorted_by bridge_cmp (map (bridge_row hashes) rows)) (marts_same.paths path)
+
+  tables_same : snap_tables mapping hashes (sealed ++ next ∷ []) date ≡ snap_tables mapping hashes sealed date
+  tables_same i =
+      map (λ hub. record { id = Pit hub; rows = Pits (pits_same hub i) }) (range_with_len 0 (length mapping.hubs))
+      ++ map (λ path. record { id = Bridge path; rows = Bridges (bridges_same path i) }) (range_with_len 0 (length mapping.paths))
+
+  pub later_leaves : SameAt mapping hashes date sealed (sealed ++ next ∷ [])
+  later_leaves = record {
+    feeds = marts_same.feeds;
+    hubs = marts_same.hubs;
+    paths = marts_same.paths;
+    periods = λ feed. ap periods (extracts_same feed);
+    snapshots = λ i. record { head = snap_head date (tables_same i); tables = tables_same i };
+  }

@@ -1,0 +1,9 @@
+use Rattle.dv_laws.proofs.EffectTies.{effect_tied}
+use Rattle.dv_records.proofs.HubTables.{hub_tied}
+use Rattle.dv_records.proofs.LinkTables.{link_tied}
+use Rattle.dv_records.proofs.SatelliteTies.{multi_tied, sat_tied}
+use Rattle.dv_records.proofs.StatusTies.{status_tied}
+use Rattle.dv_laws.proofs.batches.batches_tied.Goals as goal
+
+pub returns : goal.returns
+returns c = record { hub = λ mapping hashes hub. hub_tied mapping hub hashes; link = λ mapping hashes link. link_tied mapping link hashes; sat = sat_tied; multi = multi_tied; status = status_tied; effect = effect_tied }

@@ -1,0 +1,14 @@
+//! Laws of the definitions and of the tables, each the clause of a function; nothing stands on them.
+#![tactic(auto)]
+
+mod batches;
+mod collisions;
+mod contents;
+mod tables;
+mod vaults;
+
+pub use batches::{batches_ascend, batches_tied, header_closes};
+pub use collisions::collisions_tied;
+pub use contents::{contents_decide, contents_stay, periods_tied};
+pub use tables::{tables_hold, tables_tell, vault_tells};
+pub use vaults::{vault_grows, vault_holds};

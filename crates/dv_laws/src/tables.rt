@@ -1,0 +1,29 @@
+ghost use Rattle.dv_laws.specs.Laws.{HubHolds, LinkHolds};
+ghost use Rattle.dv_laws.specs.Reconstruction.{DeliveredTells, FeedTells, KeysTell, MultiFeedTells, MultiTells, SatTells, StatusTells, VaultTells};
+
+/// A hub's table holds the keys that windows bring: each row is of such a key, and each such key has a row.
+/// A link's table so holds the reference lists.
+pub fn tables_hold()
+    ensures hub { HubHolds }
+    ensures link { LinkHolds }
+{}
+
+/// The tables of a feed tell, at each date, of a reference list by its hash key, where no other list that the
+/// windows deliver has it: the status table whether the content delivers the list, the satellite which
+/// attributes, and the multi-active satellite which rows, it had in the newest extract that holds it. And of
+/// a hub's feed of keys alone the hub's table and the status table tell the whole content.
+pub fn tables_tell()
+    ensures status { StatusTells }
+    ensures delivered { DeliveredTells }
+    ensures sat { SatTells }
+    ensures multi { MultiTells }
+    ensures keys { KeysTell }
+{}
+
+/// The tables of the vault tell everything that the windows delivered: the content of each feed at each date
+/// is read back from them, of a hub's feed and of a link's, without a sub and with one.
+pub fn vault_tells()
+    ensures plain { FeedTells }
+    ensures multi { MultiFeedTells }
+    ensures any { VaultTells }
+{}

@@ -1,0 +1,193 @@
+-- Rows in the order of their load dates, and of their batch within one date: what is true of the tables of satellites and of
+-- status tables.
+use Rattle.std.proofs.Common.{◌≡◌, ℕ, ◌==◌, ◌≤◌, ◌<◌, inl, inr, Bool, true, false, List, [], ◌∷◌, ◌++◌, Option, Some, None, refl, sym, ◌∙◌, ap, subst, arith, append-nil, nat_le, slice_get, length, ◌-◌, reverse, ◌&&◌}
+use Rattle.std.specs.Prelude.{Contains, find, if◌then◌else◌}
+use Rattle.std.specs.declared.cmp.Ordering.{Ordering}
+use Rattle.std.specs.declared.cmp.Ordering.TheVariants.{Less}
+use Rattle.std.specs.Cmp.{ranked}
+use Rattle.std.specs.List.{All, AllByRecursion, filter_map, list_all, list_any}
+use Rattle.std.specs.List.Sorted.{IsStrictlySortedBy}
+use Rattle.std.specs.Ordering.{nat_cmp, ordering_then}
+use Rattle.std.proofs.lemmas.Bool.{and_from, and_parts, eq-eqb, eqb-true, false≢true, le-leb, leb-true}
+use Rattle.std.proofs.lemmas.List.Elements.{All-contains_itself, All-weaker, Contains-append_cases}
+use Rattle.dv_text.proofs.Members.{Contains-cons_cases, Contains-cons_here, Contains-cons_there, Contains-nil, filter_map_member, member_of_all, reverse_member}
+use Rattle.dv_text.proofs.Options.{got_member, none_behind}
+use Rattle.dv_text.proofs.Orderings.{equal_first, le_from_cmp, less_first}
+use Rattle.dv_text.proofs.Passing.{all_pass, find_same, passes_at, some_passes, some_passes_at}
+use Rattle.dv_text.proofs.SortedLists.{ascending-append, ascending-same, member_before_sort}
+use Rattle.dv_records.specs.Batches.{appended, batch_of}
+use Rattle.dv_records.specs.History.{AreNewestFirst, Extract}
+use Rattle.dv_index.specs.Places.{Place, are_in_load_order}
+use Rattle.dv_records.proofs.Reversing.{AllBefore, IsNewestFirst}
+
+-- ---- rows whose load dates do not fall
+
+module _ {X : Type 0} (place : X → Place) where
+  up_to_end : (row : X) (rows : List X) (last : X) → are_in_load_order place (row ∷ rows) ≡ true → slice_get (row ∷ rows) (length rows) ≡ Some last → (x : X) → Contains (row ∷ rows) x → (place x).load ≤ (place last).load
+  up_to_end row [] last order is x has =
+      let both_are : Some row ≡ Some last = is in
+      let here : row ≡ last = cc in
+      elim (Contains-cons_cases row [] x has) [
+        | inl same ↦ subst (λ (w : X). (place x).load ≤ (place w).load) (sym same ∙ here) (omega arith)
+        | inr none ↦ Contains-nil x none
+      ]
+  up_to_end row (next ∷ rows) last order is x has =
+      let parts = and_parts _ _ order in
+      elim (Contains-cons_cases row (next ∷ rows) x has) [
+        | inl same ↦ subst (λ (w : X). (place w).load ≤ (place last).load) same (leb-true _ _ (passes_at (λ other. nat_le (place row).load (place other).load) (next ∷ rows) last parts.0 (got_member (next ∷ rows) (length rows) last is)))
+        | inr rest ↦ up_to_end next rows last parts.1 is x rest
+      ]
+
+  -- no row is later than the last one
+  pub up_to_last : (rows : List X) (last : X) → are_in_load_order place rows ≡ true → slice_get rows (length rows - 1) ≡ Some last → (x : X) → Contains rows x → (place x).load ≤ (place last).load
+  up_to_last [] last order is x has = Contains-nil x has
+  up_to_last (row ∷ rows) last order is x has = let before : length (row ∷ rows) - 1 ≡ length rows = omega arith in up_to_end row rows last order (rw before at is) x has
+
+-- ---- rows by load date, then by the order of a batch
+
+abbrev pub dated : {X : Type 0} → (X → ℕ) → (X → X → Ordering) → X → X → Ordering
+dated load cmp a b = ordering_then (nat_cmp (load a) (load b)) (cmp a b)
+
+-- their load dates do not fall
+module _ {X : Type 0} (place : X → Place) (cmp : X → X → Ordering) where
+  none_earlier : (row : X) (rows : List X) → AllByRecursion (λ other. dated (λ row. (place row).load) cmp row other ≡ Less) rows → list_all (λ other. nat_le (place row).load (place other).load) rows ≡ true
+  none_earlier row rows all = all_pass _ rows (λ other has. le-leb (place row).load (place other).load (le_from_cmp (place row).load (place other).load (cmp row other) (member_of_all _ rows other all has)))
+
+  pub in_load_order : (rows : List X) → IsStrictlySortedBy (dated (λ row. (place row).load) cmp) rows → are_in_load_order place rows ≡ true
+  unfolding IsStrictlySortedBy
+  in_load_order [] up = refl
+  in_load_order (row ∷ rows) up = and_from _ _ (none_earlier row rows up.0) (in_load_order rows up.1)
+
+strictly : (a b : ℕ) → a ≤ b → (a ≡ b → ⊥) → a < b
+strictly a b le differs = omega (arith, differs)
+
+with_true : (a b : Bool) → b ≡ true → (a && b) ≡ a
+with_true true b e = e
+with_true false b e = refl
+
+module _ {X : Type 0} (load : X → ℕ) (cmp : X → X → Ordering) where
+  -- no row is later than a date
+  pub all_up_to : (rows : List X) (date : ℕ) (row : X) → list_all (λ row. nat_le (load row) date) rows ≡ true → Contains rows row → load row ≤ date
+  all_up_to rows date row e has = leb-true (load row) date (passes_at (λ row. nat_le (load row) date) rows row e has)
+
+  -- no row is later than the last one
+  last_is_latest : (rows : List X) (last : X) → IsStrictlySortedBy (dated load cmp) rows → slice_get rows (length rows - 1) ≡ Some last → (row : X) → Contains rows row → load row ≤ load last
+  last_is_latest rows last up = let place : X → Place = λ row. record { parent = []; load = load row } in up_to_last place rows last (in_load_order place cmp rows up)
+
+  pub up_to_last_load : (rows : List X) (last : X) → IsStrictlySortedBy (dated load cmp) rows → slice_get rows (length rows - 1) ≡ Some last → list_all (λ row. nat_le (load row) (load last)) rows ≡ true
+  up_to_last_load rows last up e = all_pass (λ row. nat_le (load row) (load last)) rows (λ row has. le-leb (load row) (load last) (last_is_latest rows last up e row has))
+
+  -- where no row is later than a date, a row has it where the last one has
+  pub last_load : (rows : List X) (last : X) (date : ℕ) → IsStrictlySortedBy (dated load cmp) rows → list_all (λ row. nat_le (load row) date) rows ≡ true → slice_get rows (length rows - 1) ≡ Some last → (load last == date) ≡ list_any (λ row. load row == date) rows
+  last_load rows last date up early e = by (load last == date) (list_any (λ row. load row == date) rows) refl refl
+    where
+      by : (is has : Bool) → (load last == date) ≡ is → list_any (λ row. load row == date) rows ≡ has → (load last == date) ≡ list_any (λ row. load row == date) rows
+      by true true i h = i ∙ sym h
+      by false false i h = i ∙ sym h
+      by true false i h = absurd (false≢true (sym h ∙ some_passes_at (λ row. load row == date) rows last (got_member rows (length rows - 1) last e) i))
+      by false true i h =
+          let (row, member, same) = some_passes (λ row. load row == date) rows h in
+          let at : load row ≡ date = eqb-true (load row) date same in
+          let below : load row ≤ load last = last_is_latest rows last up e row member in
+          let above : load last ≤ date = all_up_to rows date last early (got_member rows (length rows - 1) last e) in
+          absurd (false≢true (sym i ∙ eq-eqb (load last) date (omega (arith, at, below, above))))
+
+  -- there is a last one unless there is none
+  pub none_last : (rows : List X) → slice_get rows (length rows - 1) ≡ None → rows ≡ []
+  none_last [] e = refl
+  none_last (first ∷ rows) e = let behind = none_behind (first ∷ rows) (length (first ∷ rows) - 1) e in absurd (omega (arith, behind))
+
+  -- a test of rows that are up to the last one's date is a test of rows
+  pub found_up_to_last : (p : X → Bool) (rows : List X) (last : X) → IsStrictlySortedBy (dated load cmp) rows → slice_get rows (length rows - 1) ≡ Some last → find (λ row. p row && nat_le (load row) (load last)) (reverse rows) ≡ find p (reverse rows)
+  found_up_to_last p rows last up e =
+      find_same (λ row. p row && nat_le (load row) (load last)) p (reverse rows)
+      (λ row has. with_true (p row) (nat_le (load row) (load last)) (le-leb (load row) (load last) (last_is_latest rows last up e row ((reverse_member rows row).0 has))))
+
+  -- ---- rows that are put behind others
+
+  -- rows of one load date in the order of a batch
+  pub ascends : (date : ℕ) (rows : List X) → ((row : X) → Contains rows row → load row ≡ date) → IsStrictlySortedBy cmp rows → IsStrictlySortedBy (dated load cmp) rows
+  ascends date rows stamped up =
+      ascending-same cmp (dated load cmp) rows (λ a b a_in b_in. sym (equal_first (load a) (load b) (cmp a b) (stamped a a_in ∙ sym (stamped b b_in)))) up
+
+  -- behind rows that are earlier
+  pub follows : (date : ℕ) (rows more : List X) → IsStrictlySortedBy (dated load cmp) rows → list_all (λ row. nat_le (load row) date) rows ≡ true → list_any (λ row. load row == date) rows ≡ false
+      → ((row : X) → Contains more row → load row ≡ date) → IsStrictlySortedBy cmp more → IsStrictlySortedBy (dated load cmp) (rows ++ more)
+  follows date rows more up early none stamped vp =
+      ascending-append (dated load cmp) rows more up (ascends date more stamped vp) (λ x y x_in y_in.
+      let new : load y ≡ date = stamped y y_in in
+      let reach : load x ≤ date = all_up_to rows date x early x_in in
+      less_first (load x) (load y) (cmp x y) (rw new (earlier x x_in reach (load x == date) refl)))
+    where
+      earlier : (x : X) → Contains rows x → load x ≤ date → (b : Bool) → (load x == date) ≡ b → load x < date
+      earlier x member reach true t = absurd (false≢true (sym none ∙ some_passes_at (λ row. load row == date) rows x member t))
+      earlier x member reach false f = strictly (load x) date reach (λ same. false≢true (sym f ∙ eq-eqb (load x) date same))
+
+-- ---- what an extract adds
+
+-- rows of one load date in the order of a batch; nothing where a row has the load date already
+module _ {X : Type 0} (load : X → ℕ) (cmp : X → X → Ordering) (date : ℕ) (rows made : List X) (stamped : (row : X) → Contains made row → load row ≡ date) where
+  abbrev delta : List X
+  delta = if list_any (λ row. load row == date) rows then [] else made
+
+  has_its_load : (row : X) → Contains delta row → load row ≡ date
+  has_its_load row has = by (list_any (λ row. load row == date) rows) refl
+    where
+      by : (b : Bool) → list_any (λ row. load row == date) rows ≡ b → load row ≡ date
+      by true e = Contains-nil row (rw e at has)
+      by false e = stamped row (rw e at has)
+
+  -- all rows have the load date
+  pub delta_stamped : All (λ row. load row ≡ date) delta
+  delta_stamped = All-weaker (Contains delta) (λ row. load row ≡ date) (λ row has. has_its_load row has) delta (All-contains_itself delta)
+
+  -- and stand behind those that are there
+  pub delta_follows : IsStrictlySortedBy cmp made → IsStrictlySortedBy (dated load cmp) rows → list_all (λ row. nat_le (load row) date) rows ≡ true → IsStrictlySortedBy (dated load cmp) (rows ++ delta)
+  delta_follows ordered up early = by (list_any (λ row. load row == date) rows) refl
+    where
+      by : (b : Bool) → list_any (λ row. load row == date) rows ≡ b → IsStrictlySortedBy (dated load cmp) (rows ++ delta)
+      by true e = rw (e, append-nil) up
+      by false e = rw e (follows load cmp date rows made up early e stamped ordered)
+
+-- the rows of a batch have the load date that each of them is given
+pub batch_stamped : {T X : Type 0} (load : X → ℕ) (cmp : X → X → Ordering) (change : T → Option X) (date : ℕ) → ((t : T) (x : X) → change t ≡ Some x → load x ≡ date) → (things : List T) (row : X) → Contains (batch_of cmp change things) row → load row ≡ date
+batch_stamped load cmp change date stamped things row has =
+    let (thing, member, gives) = filter_map_member change things row (member_before_sort cmp (filter_map change things) row has) in stamped thing row gives
+
+-- ---- tables of extracts
+
+all_before : (date : ℕ) (extracts : List Extract) → AllByRecursion (λ (extract : Extract). nat_cmp extract.load date ≡ Less) extracts → AllBefore (λ (extract : Extract). extract.load) date extracts
+all_before date [] all extract has = Contains-nil extract has
+all_before date (first ∷ rest) all extract has =
+    elim (Contains-cons_cases first rest extract has) [
+      | inl same ↦ subst (λ (e : Extract). e.load < date) same (ranked first.load date Less (sym all.0))
+      | inr member ↦ all_before date rest all.1 extract member
+    ]
+
+pub newest_first : (extracts : List Extract) → AreNewestFirst extracts → IsNewestFirst (λ (extract : Extract). extract.load) extracts
+unfolding IsStrictlySortedBy
+newest_first [] order = tt
+newest_first (newest ∷ older) order = (all_before newest.load older order.0, newest_first older order.1)
+
+-- where the rows of a batch have their extract's load date
+module _ {X : Type 0} (load : X → ℕ) (batch : List Extract → Extract → List X) (stamped : (older : List Extract) (newest : Extract) (row : X) → Contains (batch older newest) row → load row ≡ newest.load) where
+  -- a row of the table has that of one of the extracts
+  table_before : (date : ℕ) (extracts : List Extract) → AllBefore (λ (extract : Extract). extract.load) date extracts → (row : X) → Contains (appended batch extracts) row → load row < date
+  table_before date [] before row has = Contains-nil row has
+  table_before date (newest ∷ older) before row has =
+      elim (Contains-append_cases (appended batch older) (batch older newest) row has) [
+        | inl early ↦ table_before date older (λ extract member. before extract (Contains-cons_there newest older extract member)) row early
+        | inr late ↦ subst (λ at. at < date) (sym (stamped older newest row late)) (before newest (Contains-cons_here newest older))
+      ]
+
+  -- so no row of the table of older extracts has the load date of the newest one
+  pub none_loaded : (older : List Extract) (newest : Extract) → AreNewestFirst (newest ∷ older) → list_any (λ row. load row == newest.load) (appended batch older) ≡ false
+  none_loaded older newest order = by (list_any (λ row. load row == newest.load) (appended batch older)) refl
+    where
+      by : (b : Bool) → list_any (λ row. load row == newest.load) (appended batch older) ≡ b → list_any (λ row. load row == newest.load) (appended batch older) ≡ false
+      by false e = e
+      by true e =
+          let (row, member, same) = some_passes (λ row. load row == newest.load) (appended batch older) e in
+          let at : load row ≡ newest.load = eqb-true (load row) newest.load same in
+          let early = table_before newest.load older (newest_first (newest ∷ older) order).0 row member in
+          absurd (omega (arith, at, early))

@@ -1,5 +1,0 @@
-use Rattle.dv_records.proofs.VaultRows.{vault_holds as the_law}
-use Rattle.dv_records.proofs.laws.vault_holds.Goals as goal
-
-pub returns : goal.returns
-returns c = the_law
