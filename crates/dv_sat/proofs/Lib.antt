@@ -1,4 +1,2 @@
-pub mod Dated
 pub mod SatDeltaBatch
 pub mod SatFollowing
-pub mod StableSorts

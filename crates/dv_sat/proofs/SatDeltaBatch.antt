@@ -1,52 +1,34 @@
 -- Over the satellite of older extracts, what the newest one adds row by row is its batch.
 use Rattle.std.proofs.Common.{◌≡◌, ◌⊎◌, inl, inr, ℕ, ◌==◌, ◌<◌, Bool, true, false, List, [], ◌∷◌, Option, Some, None, refl, sym, ◌∙◌, ap, subst, arith, reverse}
 use Rattle.std.specs.Prelude.{Contains, find, nat_le, not, ◌&&◌}
-use Rattle.std.specs.Cmp.{IsTotalOrder, on_total, ranked, then_total, tied_itself}
-use Rattle.std.specs.Cmp.Lexicographic.{lists_total, nat_list_cmp_total, pointwise}
-use Rattle.std.specs.declared.cmp.Ordering.TheVariants.{Less, Equal}
-use Rattle.std.specs.List.{AllByRecursion, filter_map}
+use Rattle.std.specs.Cmp.Lexicographic.{pointwise}
+use Rattle.std.specs.declared.cmp.Ordering.TheVariants.{Less}
+use Rattle.std.specs.List.{filter_map}
 use Rattle.std.specs.List.Sorted.{IsStrictlySortedBy}
 use Rattle.std.specs.Option.{option_map}
-use Rattle.std.specs.Ordering.{nat_cmp}
 use Rattle.std.specs.Str.{bytes_eq}
-use Rattle.std.proofs.lemmas.Bool.{eqb-true}
 use Rattle.std.proofs.lemmas.List.Elements.{Contains-append_cases, Contains-append_left, Contains-append_right}
 use Rattle.std.proofs.lemmas.List.Kept.{IsStrictlySortedBy-filter}
 use Rattle.dv_text.specs.declared.rows.Key.{Key}
 use Rattle.dv_text.specs.declared.rows.NRow.{NRow}
 use Rattle.dv_text.specs.Keys.{Hashes, refs_eq, row_eq, texts_eq}
-use Rattle.dv_text.specs.Orders.{key_cmp, row_cmp}
+use Rattle.dv_text.specs.Orders.{row_cmp}
 use Rattle.dv_text.specs.Sorting.{sorted_by}
-use Rattle.dv_text.proofs.Members.{Contains-cons_cases, Contains-cons_here, Contains-cons_there, filter_map_member, filtered_members}
+use Rattle.dv_text.proofs.Members.{Contains-cons_cases, Contains-cons_here, Contains-cons_there, Contains-map, Contains-nil, filter_map_member, filtered_members}
+use Rattle.dv_text.proofs.Deciding.{refs_eq-Decides, row_total, texts_eq-Decides}
+use Rattle.dv_text.proofs.Orderings.{irreflexive}
+use Rattle.dv_text.proofs.Passing.{some_passes}
 use Rattle.dv_text.proofs.SortedLists.{member_before_sort}
 use Rattle.dv_records.specs.declared.raw_rows.SatRow.{SatRow}
 use Rattle.dv_records.specs.Batches.{appended}
 use Rattle.dv_records.specs.Collisions.{IsApart}
 use Rattle.dv_records.specs.History.{Extract, all_refs, delivers, lists_of, up_to, AreNewestFirst}
 use Rattle.dv_records.specs.Reconstruction.{first_attrs, valid_at}
-use Rattle.dv_records.specs.Satellites.{is_changed, last_rows, rows_of, sat_batch, sat_cmp, sat_row}
-use Rattle.dv_records.specs.Ties.{IsOnePerList}
-use Rattle.dv_records.proofs.Deciding.{refs_eq-Decides, texts_eq-Decides}
-use Rattle.dv_records.proofs.Memberships.{any_member, Contains-map, Contains-nil}
-use Rattle.dv_records.proofs.Reversing.{IsNewestFirst}
+use Rattle.dv_records.specs.Satellites.{is_changed, last_rows, rows_of, sat_batch, sat_cmp, sat_row, IsOnePerList}
+use Rattle.dv_records.proofs.DatedRows.{newest_first, none_loaded}
 use Rattle.dv_records.proofs.SatReconstruct.{tells}
-use Rattle.dv_records.proofs.StatusReconstruct.{all_up_to}
+use Rattle.dv_records.proofs.LastChange.{all_up_to}
 use Rattle.dv_sat.specs.SatRows.{has_attrs, has_load, sat_change, sat_delta, IsPlain}
-
--- ---- load dates
-
-all_before : (date : ℕ) (extracts : List Extract) → AllByRecursion (λ (extract : Extract). nat_cmp extract.load date ≡ Less) extracts → (extract : Extract) → Contains extracts extract → extract.load < date
-all_before date [] all extract has = Contains-nil extract has
-all_before date (first ∷ rest) all extract has =
-    elim (Contains-cons_cases first rest extract has) [
-      | inl same ↦ subst (λ (e : Extract). e.load < date) same (ranked first.load date Less (sym all.0))
-      | inr member ↦ all_before date rest all.1 extract member
-    ]
-
-newest_first : (extracts : List Extract) → AreNewestFirst extracts → IsNewestFirst (λ (extract : Extract). extract.load) extracts
-unfolding IsStrictlySortedBy
-newest_first [] order = tt
-newest_first (newest ∷ older) order = (all_before newest.load older order.0, newest_first older order.1)
 
 module _ (hashes : Hashes) (source : List ℕ) where
   -- a row of a batch has its extract's load date
@@ -62,27 +44,7 @@ module _ (hashes : Hashes) (source : List ℕ) where
           ap (λ (r : SatRow). r.load) (sym same)
       by made gives false e = let no : None ≡ Some row = rw e at gives in cc
 
-  -- so a row of the table has that of one of its extracts
-  table_before : (date : ℕ) (extracts : List Extract) → ((extract : Extract) → Contains extracts extract → extract.load < date) → (row : SatRow) → Contains (appended (sat_batch hashes source) extracts) row → row.load < date
-  table_before date [] before row has = Contains-nil row has
-  table_before date (newest ∷ older) before row has =
-      elim (Contains-append_cases (appended (sat_batch hashes source) older) (sat_batch hashes source older newest) row has) [
-        | inl early ↦ table_before date older (λ extract member. before extract (Contains-cons_there newest older extract member)) row early
-        | inr batch ↦ subst (λ load. load < date) (sym (row_load older newest row batch)) (before newest (Contains-cons_here newest older))
-      ]
-
 -- ---- the one row of a list
-
-key_total : IsTotalOrder key_cmp
-key_total = on_total (λ (key : Key). key.parts) (lists_total nat_list_cmp_total)
-
-row_total : IsTotalOrder row_cmp
-row_total =
-    then_total (on_total (λ (row : NRow). row.refs) (lists_total key_total))
-    (then_total (on_total (λ (row : NRow). row.sub) (lists_total nat_list_cmp_total)) (on_total (λ (row : NRow). row.attrs) (lists_total nat_list_cmp_total)))
-
-not_less : (row : NRow) → row_cmp row row ≡ Less → ⊥
-not_less row e = let no : Less ≡ Equal = sym e ∙ tied_itself row_total row in cc
 
 one_of : (x : NRow) (xs : List NRow) → IsStrictlySortedBy row_cmp xs → ((y : NRow) → Contains xs y → y ≡ x) → Contains xs x → xs ≡ x ∷ []
 unfolding IsStrictlySortedBy
@@ -91,7 +53,7 @@ one_of x (y ∷ []) up all has = ap (λ z. z ∷ []) (all y (Contains-cons_here 
 one_of x (y ∷ z ∷ xs) up all has =
     let same : y ≡ z = all y (Contains-cons_here y (z ∷ xs)) ∙ sym (all z (Contains-cons_there y (z ∷ xs) z (Contains-cons_here z xs))) in
     let less : row_cmp y y ≡ Less = subst (λ w. row_cmp y w ≡ Less) (sym same) up.0.0 in
-    absurd (not_less y less)
+    absurd (irreflexive row_total y less)
 
 only_row : (rows : List NRow) → IsPlain rows → (row : NRow) → Contains rows row → rows_of rows row.refs ≡ row ∷ []
 only_row rows plain row has =
@@ -116,7 +78,7 @@ last_one (newest ∷ older) plain refs = by (delivers newest.rows refs) refl (la
     by false e (inl none) = inl (rw e none)
     by false e (inr last) = inr (record { row = last.row; one = rw e last.one; refs_same = last.refs_same; no_sub = last.no_sub })
     by true e rest =
-        let (row, member, same) = any_member (λ (row : NRow). refs_eq row.refs refs) newest.rows e in
+        let (row, member, same) = some_passes (λ (row : NRow). refs_eq row.refs refs) newest.rows e in
         let is : row.refs ≡ refs = (refs_eq-Decides row.refs refs).0 same in
         let rows_plain : IsPlain newest.rows = plain newest (Contains-cons_here newest older) in
         let all : rows_of newest.rows refs ≡ row ∷ [] = subst (λ r. rows_of newest.rows r ≡ row ∷ []) is (only_row newest.rows rows_plain row member) in
@@ -141,15 +103,7 @@ module _ (hashes : Hashes) (source : List ℕ) (older : List Extract) (newest : 
 
   -- no row of the table has the new load date
   no_load : has_load rows newest.load ≡ false
-  no_load = by (has_load rows newest.load) refl
-    where
-      by : (b : Bool) → has_load rows newest.load ≡ b → has_load rows newest.load ≡ false
-      by false e = e
-      by true e =
-          let (row, member, same) = any_member (λ (row : SatRow). row.load == newest.load) rows e in
-          let load = eqb-true row.load newest.load same in
-          let early = table_before hashes source newest.load older (newest_first (newest ∷ older) order).0 row member in
-          absurd (omega arith)
+  no_load = none_loaded (λ (row : SatRow). row.load) (sat_batch hashes source) (row_load hashes source) older newest order
 
   in_newest : (row : NRow) → Contains newest.rows row → Contains (lists_of (newest ∷ older)) row.refs
   in_newest row has = Contains-append_left (all_refs newest.rows) (lists_of older) row.refs (Contains-map (λ (row : NRow). row.refs) newest.rows row has)

@@ -1,18 +1,21 @@
 -- The row that an extract's row adds to a satellite has the load date.
 use Rattle.std.proofs.Common.{◌≡◌, ℕ, Bool, true, false, List, Option, Some, None, refl, sym, ap}
+use Rattle.std.specs.Prelude.{Contains}
 use Rattle.std.specs.Cmp.{IsTotalOrder, on_total}
 use Rattle.std.specs.Cmp.Lexicographic.{nat_list_cmp_total}
 use Rattle.dv_text.specs.declared.rows.NRow.{NRow}
 use Rattle.dv_text.specs.Keys.{Hashes}
 use Rattle.dv_records.specs.declared.raw_rows.SatRow.{SatRow}
+use Rattle.dv_records.specs.Batches.{batch_of}
 use Rattle.dv_records.specs.Reconstruction.{valid_at}
 use Rattle.dv_records.specs.Satellites.{sat_cmp}
+use Rattle.dv_records.proofs.DatedRows.{batch_stamped}
 use Rattle.dv_sat.specs.SatRows.{has_attrs, sat_change}
 
 pub sat_total : IsTotalOrder sat_cmp
 sat_total = on_total (λ (row : SatRow). row.parent) nat_list_cmp_total
 
-pub change_stamped : (hashes : Hashes) (source : List ℕ) (rows : List SatRow) (load : ℕ) (row : NRow) (made : SatRow) → sat_change hashes source rows load row ≡ Some made → made.load ≡ load
+change_stamped : (hashes : Hashes) (source : List ℕ) (rows : List SatRow) (load : ℕ) (row : NRow) (made : SatRow) → sat_change hashes source rows load row ≡ Some made → made.load ≡ load
 change_stamped hashes source rows load row made e = by (has_attrs (valid_at rows (hashes.hash row.refs) load) row.attrs) refl
   where
     by : (b : Bool) → has_attrs (valid_at rows (hashes.hash row.refs) load) row.attrs ≡ b → made.load ≡ load
@@ -22,3 +25,7 @@ change_stamped hashes source rows load row made e = by (has_attrs (valid_at rows
         let is : Some new ≡ Some made = rw f at e in
         let same : new ≡ made = cc in
         sym (ap (λ (r : SatRow). r.load) same)
+
+-- and so have those of an extract's rows
+pub made_stamped : (hashes : Hashes) (source : List ℕ) (rows : List SatRow) (load : ℕ) (things : List NRow) (row : SatRow) → Contains (batch_of sat_cmp (sat_change hashes source rows load) things) row → row.load ≡ load
+made_stamped hashes source rows load = batch_stamped (λ (row : SatRow). row.load) sat_cmp (sat_change hashes source rows load) load (change_stamped hashes source rows load)

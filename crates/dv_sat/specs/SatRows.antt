@@ -13,8 +13,7 @@ use Rattle.dv_records.specs.Batches.{appended, batch_of}
 use Rattle.dv_records.specs.Collisions.{IsApart}
 use Rattle.dv_records.specs.History.{Extract, lists_of, AreNewestFirst}
 use Rattle.dv_records.specs.Reconstruction.{valid_at}
-use Rattle.dv_records.specs.Satellites.{sat_batch, sat_cmp}
-use Rattle.dv_records.specs.Ties.{IsOnePerList}
+use Rattle.dv_records.specs.Satellites.{sat_batch, sat_cmp, IsOnePerList}
 
 -- the order of a satellite: by load date, then by parent
 abbrev pub sat_order : SatRow → SatRow → Ordering

@@ -8,6 +8,3 @@ mod sorting;
 
 pub use laws::sat_delta_is_batch;
 pub use sat_tables::SatTable;
-
-#[cfg(test)]
-mod tests;

@@ -16,6 +16,7 @@ use Rattle.std.proofs.lemmas.List.Sorted.{searchable_from_sorted}
 use Rattle.std.proofs.lemmas.Map.Keys.{Less-from_sorted}
 use Rattle.std.proofs.lemmas.Slice.Eq.{bytes_eq-Decides}
 use Rattle.dv_text.specs.Sorting.{sorted_by}
+use Rattle.dv_text.proofs.Passing.{found_member, same_answer, some_passes, some_passes_at}
 use Rattle.dv_text.proofs.SortedLists.{member_after_sort, member_before_sort}
 use Rattle.dv_records.specs.declared.raw_rows.StatusRow.{StatusRow}
 use Rattle.dv_records.specs.declared.raw_rows.Code.{Code}
@@ -24,13 +25,12 @@ use Rattle.dv_records.specs.Batches.{digest_cmp}
 use Rattle.dv_records.specs.StatusPlaces.{status_place}
 use Rattle.dv_index.specs.Places.{latest_at, latest_of_each}
 use Rattle.dv_records.specs.Reconstruction.{is_appearance, says_present}
-use Rattle.dv_records.proofs.Memberships.{any_from_member, any_member, found_member}
 use Rattle.dv_track.specs.Tracks.{is_among, parents_of, present_parents}
 
 pub is_among-Decides : (digests : List (List ℕ)) (digest : List ℕ) → Decides (is_among digests digest) (Contains digests digest)
 is_among-Decides digests digest = (
-  λ e. let (other, member, same) = any_member (λ other. bytes_eq other digest) digests e in subst (Contains digests) ((bytes_eq-Decides other digest).0 same) member,
-  λ member. any_from_member (λ other. bytes_eq other digest) digests digest member ((bytes_eq-Decides digest digest).1 refl),
+  λ e. let (other, member, same) = some_passes (λ other. bytes_eq other digest) digests e in subst (Contains digests) ((bytes_eq-Decides other digest).0 same) member,
+  λ member. some_passes_at (λ other. bytes_eq other digest) digests digest member ((bytes_eq-Decides digest digest).1 refl),
 )
 
 module _ {X : Type 0} {R : X → X → Ordering} (o : IsTotalOrder R) where
@@ -52,12 +52,6 @@ module _ {X : Type 0} {R : X → X → Ordering} (o : IsTotalOrder R) where
           | inr behind ↦ let more = parts.1 k x behind under in cc
         ],
   )
-
-pub same_answer : (a b : Bool) → (a ≡ true → b ≡ true) → (b ≡ true → a ≡ true) → a ≡ b
-same_answer true true f g = refl
-same_answer false false f g = refl
-same_answer true false f g = sym (f refl)
-same_answer false true f g = g refl
 
 -- it does not matter whether they are sorted
 pub among_sorted : (digests : List (List ℕ)) (digest : List ℕ) → is_among (sorted_by digest_cmp digests) digest ≡ is_among digests digest

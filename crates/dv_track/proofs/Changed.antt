@@ -3,7 +3,7 @@ use Rattle.std.proofs.Common.{◌≡◌, ℕ, inl, inr, Bool, true, false, List,
 use Rattle.std.specs.Prelude.{Contains}
 use Rattle.std.specs.Cmp.Lexicographic.{nat_list_cmp_total}
 use Rattle.std.specs.List.{filter_map}
-use Rattle.std.proofs.lemmas.Bool.{false≢true}
+use Rattle.std.proofs.lemmas.Bool.{false≢true, not-true}
 use Rattle.std.proofs.lemmas.List.Elements.{Contains-append_cases, Contains-append_left, Contains-append_right}
 use Rattle.std.proofs.lemmas.List.Kept.{IsStrictlySortedBy-filter}
 use Rattle.dv_text.specs.Sorting.{sorted_by}
@@ -16,7 +16,7 @@ use Rattle.dv_records.specs.Statuses.{code_between}
 use Rattle.dv_track.specs.Presences.{change_between, changed, missing_in}
 use Rattle.dv_track.specs.Tracks.{is_among, parents_of, present_parents, status_change, status_changes}
 use Rattle.dv_track.proofs.Amongst.{among_sorted, is_among-Decides}
-use Rattle.dv_track.proofs.Presence.{among_present, exact, negated, present_members, present_parent}
+use Rattle.dv_track.proofs.Presence.{among_present, exact, present_members, present_parent}
 
 -- items without a value may be left out
 filter_map_kept : {X Y : Type 0} (h : X → Option Y) (p : X → Bool) → ((x : X) → p x ≡ false → h x ≡ None) → (xs : List X) → filter_map h (filter p xs) ≡ filter_map h xs
@@ -72,14 +72,14 @@ module _ (source : List ℕ) (rows : List StatusRow) (load : ℕ) (now : List (L
         | inl vanished ↦
             let (member, missing) = (filtered_members (λ digest. not (is_among sorted digest)) was digest).0 vanished in
             let present = (present_members rows load digest).0 member in
-            let absent : is_among now digest ≡ false = sym (among_sorted now digest) ∙ negated (is_among sorted digest) missing in
+            let absent : is_among now digest ≡ false = sym (among_sorted now digest) ∙ not-true (is_among sorted digest) missing in
             (filtered_members differs (sorted_by digest_cmp all) digest).1
             (known digest (Contains-append_left (parents_of rows) now digest (present_parent rows digest load present)), rw (present, absent) refl)
         | inr appeared ↦
             let (member, missing) = (filtered_members (λ digest. not (is_among was digest)) sorted digest).0 appeared in
             let before : Contains now digest = member_before_sort digest_cmp now digest member in
             let here : is_among now digest ≡ true = (is_among-Decides now digest).1 before in
-            let not_present : present_at rows digest load ≡ false = sym (among_present rows load digest) ∙ negated (is_among was digest) missing in
+            let not_present : present_at rows digest load ≡ false = sym (among_present rows load digest) ∙ not-true (is_among was digest) missing in
             (filtered_members differs (sorted_by digest_cmp all) digest).1
             (known digest (Contains-append_right (parents_of rows) now digest before), rw (not_present, here) refl)
       ]

@@ -1,51 +1,33 @@
 -- Over the table of older extracts, what the newest one adds row by row is its batch.
 use Rattle.std.proofs.Common.{◌≡◌, ℕ, ◌==◌, ◌<◌, inl, inr, Bool, true, false, List, [], ◌∷◌, ◌++◌, Option, Some, refl, sym, ◌∙◌, ap, subst, arith}
 use Rattle.std.specs.Prelude.{Contains}
-use Rattle.std.specs.Cmp.{ranked}
 use Rattle.std.specs.Cmp.Lexicographic.{nat_list_cmp_total}
-use Rattle.std.specs.declared.cmp.Ordering.TheVariants.{Less}
 use Rattle.std.specs.FinMap.{nat_cmp-IsAntisymmetric, slice_cmp-IsAntisymmetric}
-use Rattle.std.specs.List.{AllByRecursion, filter_map}
-use Rattle.std.specs.List.Sorted.{IsStrictlySortedBy}
-use Rattle.std.specs.Ordering.{nat_cmp}
+use Rattle.std.specs.List.{filter_map}
 use Rattle.std.specs.Str.{bytes_eq}
-use Rattle.std.proofs.lemmas.Bool.{eqb-true}
 use Rattle.std.proofs.lemmas.List.Elements.{Contains-append_cases, Contains-append_left, Contains-append_right}
 use Rattle.std.proofs.lemmas.Slice.Eq.{bytes_eq-Decides}
 use Rattle.dv_text.specs.declared.rows.Key.{Key}
 use Rattle.dv_text.specs.Keys.{Hashes}
 use Rattle.dv_text.specs.Sorting.{sorted_by}
-use Rattle.dv_text.proofs.Members.{Contains-cons_cases, filter_map_member, member_of_filter_map, IsStrictlySortedBy-filter_map}
+use Rattle.dv_text.proofs.Members.{Contains-map, Contains-nil, IsStrictlySortedBy-filter_map, filter_map_member, map_member, member_of_filter_map}
 use Rattle.dv_text.proofs.SortedLists.{ascending-sorted_by, member_after_sort, member_before_sort}
 use Rattle.dv_records.specs.declared.raw_rows.StatusRow.{StatusRow}
 use Rattle.dv_records.specs.Batches.{appended, digest_cmp}
 use Rattle.dv_records.specs.Collisions.{IsApart}
 use Rattle.dv_records.specs.History.{Extract, all_refs, delivers, lists_of, newest_rows, AreNewestFirst}
 use Rattle.dv_records.specs.Reconstruction.{present_at}
-use Rattle.dv_records.specs.Statuses.{code_between, code_of, status_batch, status_cmp, status_row, IsStatusBatch}
-use Rattle.dv_records.proofs.BatchTies.{given}
+use Rattle.dv_records.specs.Statuses.{code_of, status_batch, status_cmp, status_row, IsStatusBatch}
+use Rattle.dv_records.proofs.DatedRows.{newest_first, none_loaded}
 use Rattle.dv_records.proofs.Deciding.{Contains-all_refs, delivers-from_Contains}
-use Rattle.dv_records.proofs.Memberships.{any_from_member, any_member, Contains-map, Contains-nil, map_member}
-use Rattle.dv_records.proofs.Reversing.{IsNewestFirst, made_of}
-use Rattle.dv_records.proofs.StatusReconstruct.{all_up_to, both_lists, tells}
+use Rattle.dv_records.proofs.StatusReconstruct.{both_lists, tells}
+use Rattle.dv_records.proofs.LastChange.{all_up_to}
 use Rattle.dv_records.proofs.StatusTies.{status_parent, status_stands, status_tied}
 use Rattle.dv_track.specs.Tracks.{has_load, hashes_in, is_among, parents_of, status_change, status_delta}
+use Rattle.dv_track.proofs.Following.{change_parent}
 use Rattle.dv_track.proofs.Presence.{present_parent}
-
--- ---- load dates
-
-all_before : (date : ℕ) (extracts : List Extract) → AllByRecursion (λ (extract : Extract). nat_cmp extract.load date ≡ Less) extracts → (extract : Extract) → Contains extracts extract → extract.load < date
-all_before date [] all extract has = Contains-nil extract has
-all_before date (first ∷ rest) all extract has =
-    elim (Contains-cons_cases first rest extract has) [
-      | inl same ↦ subst (λ (e : Extract). e.load < date) same (ranked first.load date Less (sym all.0))
-      | inr member ↦ all_before date rest all.1 extract member
-    ]
-
-newest_first : (extracts : List Extract) → AreNewestFirst extracts → IsNewestFirst (λ (extract : Extract). extract.load) extracts
-unfolding IsStrictlySortedBy
-newest_first [] order = tt
-newest_first (newest ∷ older) order = (all_before newest.load older order.0, newest_first older order.1)
+use Rattle.dv_text.proofs.Passing.{some_passes, some_passes_at}
+use Rattle.dv_text.proofs.Options.{made_of}
 
 -- ---- rows of a table of extracts
 
@@ -68,18 +50,12 @@ module _ (hashes : Hashes) (source : List ℕ) where
             (refs, both_lists newest older refs member, status_parent hashes source older newest refs row gives)
       ]
 
-  -- and has the load date of one of them
-  table_before : (date : ℕ) (extracts : List Extract) → ((extract : Extract) → Contains extracts extract → extract.load < date) → (row : StatusRow) → Contains (appended (status_batch hashes source) extracts) row → row.load < date
-  table_before date [] before row has = Contains-nil row has
-  table_before date (newest ∷ older) before row has =
-      elim (Contains-append_cases (appended (status_batch hashes source) older) (status_batch hashes source older newest) row has) [
-        | inl early ↦ table_before date older (λ extract member. before extract (Contains-append_right (newest ∷ []) older extract member)) row early
-        | inr batch ↦
-            let (refs, member, gives) = of_batch older newest row batch in
-            let (code, found, made) = made_of _ (code_of older newest refs) row gives in
-            let load : newest.load ≡ row.load = ap (λ (r : StatusRow). r.load) made in
-            subst (λ load. load < date) load (before newest (Contains-append_left (newest ∷ []) older newest (0, omega arith, refl)))
-      ]
+  -- and has its extract's load date
+  batch_load : (older : List Extract) (newest : Extract) (row : StatusRow) → Contains (status_batch hashes source older newest) row → row.load ≡ newest.load
+  batch_load older newest row has =
+      let (refs, member, gives) = of_batch older newest row has in
+      let (code, found, made) = made_of _ (code_of older newest refs) row gives in
+      sym (ap (λ (r : StatusRow). r.load) made)
 
 -- ---- the newest extract
 
@@ -98,15 +74,7 @@ module _ (hashes : Hashes) (source : List ℕ) (older : List Extract) (newest : 
 
   -- no row of the table has the new load date
   no_load : has_load rows newest.load ≡ false
-  no_load = by (has_load rows newest.load) refl
-    where
-      by : (b : Bool) → has_load rows newest.load ≡ b → has_load rows newest.load ≡ false
-      by false e = e
-      by true e =
-          let (row, member, same) = any_member (λ (row : StatusRow). row.load == newest.load) rows e in
-          let load = eqb-true row.load newest.load same in
-          let early = table_before hashes source newest.load older (newest_first (newest ∷ older) order).0 row member in
-          absurd (omega arith)
+  no_load = none_loaded (λ (row : StatusRow). row.load) (status_batch hashes source) (batch_load hashes source) older newest order
 
   -- at the new load date the table says what the last extract before delivered
   was : (refs : List Key) → Contains (lists_of (newest ∷ older)) refs → present_at rows (hashes.hash refs) newest.load ≡ delivers (newest_rows older) refs
@@ -127,10 +95,10 @@ module _ (hashes : Hashes) (source : List ℕ) (older : List Extract) (newest : 
       by true true i t = refl
       by false false i t = refl
       by false true i t =
-          let hashed = any_from_member (λ other. bytes_eq other (hashes.hash refs)) (hashes_in hashes refs_now) (hashes.hash refs) (Contains-map hashes.hash refs_now refs (Contains-all_refs newest.rows refs t)) ((bytes_eq-Decides (hashes.hash refs) (hashes.hash refs)).1 refl) in
+          let hashed = some_passes_at (λ other. bytes_eq other (hashes.hash refs)) (hashes_in hashes refs_now) (hashes.hash refs) (Contains-map hashes.hash refs_now refs (Contains-all_refs newest.rows refs t)) ((bytes_eq-Decides (hashes.hash refs) (hashes.hash refs)).1 refl) in
           sym i ∙ hashed
       by true false i t =
-          let (other, among, equal) = any_member (λ other. bytes_eq other (hashes.hash refs)) (hashes_in hashes refs_now) i in
+          let (other, among, equal) = some_passes (λ other. bytes_eq other (hashes.hash refs)) (hashes_in hashes refs_now) i in
           let (list, member, is) = map_member hashes.hash refs_now other among in
           let same : list ≡ refs = apart list refs (Contains-append_left (all_refs newest.rows) (lists_of older) list member) here (is ∙ (bytes_eq-Decides other (hashes.hash refs)).0 equal) in
           sym (delivers-from_Contains newest.rows refs (subst (Contains refs_now) same member)) ∙ t
@@ -160,12 +128,9 @@ module _ (hashes : Hashes) (source : List ℕ) (older : List Extract) (newest : 
         | inr member ↦ Contains-append_right (parents_of rows) (hashes_in hashes refs_now) (hashes.hash refs) (Contains-map hashes.hash refs_now refs member)
       ]
 
-  change_parent : (digest : List ℕ) (row : StatusRow) → change digest ≡ Some row → row.parent ≡ digest
-  change_parent digest row e = given _ (λ (row : StatusRow). row.parent) digest (λ code. refl) (code_between (present_at rows digest newest.load) (is_among (hashes_in hashes refs_now) digest)) row e
-
   is_batch : IsStatusBatch hashes source older newest (filter_map change (sorted_by digest_cmp digests))
   is_batch = record {
-    ascending = IsStrictlySortedBy-filter_map digest_cmp change (λ (row : StatusRow). row.parent) change_parent (sorted_by digest_cmp digests) (ascending-sorted_by digest_cmp nat_list_cmp_total digests);
+    ascending = IsStrictlySortedBy-filter_map digest_cmp change (λ (row : StatusRow). row.parent) (change_parent hashes source rows newest.load refs_now) (sorted_by digest_cmp digests) (ascending-sorted_by digest_cmp nat_list_cmp_total digests);
     only = λ row has.
         let (digest, member, gives) = filter_map_member change (sorted_by digest_cmp digests) row has in
         let (refs, here, is) = digest_list digest (member_before_sort digest_cmp digests digest member) in

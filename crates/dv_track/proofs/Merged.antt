@@ -6,37 +6,25 @@ use Rattle.std.specs.declared.cmp.Ordering.{Ordering}
 use Rattle.std.specs.declared.cmp.Ordering.TheVariants.{Less, Equal, Greater}
 use Rattle.std.specs.List.Sorted.{IsPartitionPoint, IsStrictlySortedBy}
 use Rattle.std.specs.Ordering.{is_lt, ordering_reverse}
-use Rattle.std.proofs.lemmas.Bool.{cases_lt, false≢true}
+use Rattle.std.proofs.lemmas.Bool.{cases_lt, false_from_ne_true, false≢true, not-true}
 use Rattle.std.proofs.lemmas.List.Elements.{Contains-append_cases, Contains-append_left, Contains-append_right}
 use Rattle.std.proofs.lemmas.List.Kept.{IsStrictlySortedBy-filter}
 use Rattle.std.proofs.lemmas.Map.Keys.{Less-from_sorted}
 use Rattle.dv_text.specs.Sorting.{sorted_by}
-use Rattle.dv_text.proofs.Members.{Contains-cons_cases, Contains-cons_here, Contains-cons_there, filtered_members}
-use Rattle.dv_text.proofs.SortedLists.{ascending-sorted_by, member_after_sort, member_before_sort, same_ascending}
+use Rattle.dv_text.proofs.Members.{Contains-cons_cases, Contains-cons_here, Contains-cons_there, Contains-nil, filtered_members, member_of_all}
+use Rattle.dv_text.proofs.Orderings.{irreflexive, is_less, turned}
+use Rattle.dv_text.proofs.SortedLists.{ascending-append, ascending-sorted_by, member_after_sort, member_before_sort, same_ascending}
 use Rattle.dv_records.specs.Batches.{digest_cmp}
-use Rattle.dv_records.proofs.Memberships.{Contains-nil}
 use Rattle.dv_track.specs.Presences.{before, behind, if_there, missing_in}
 use Rattle.dv_track.specs.Tracks.{is_among}
 use Rattle.dv_track.proofs.Amongst.{is_among-Decides}
-use Rattle.dv_track.proofs.Following.{ascending-append, member_of_all}
-use Rattle.dv_track.proofs.Presence.{exact, negated, unless_true}
-
-is_less : (r : Ordering) → is_lt r ≡ true → r ≡ Less
-is_less Less e = refl
-is_less Equal e = cc
-is_less Greater e = cc
+use Rattle.dv_track.proofs.Presence.{exact}
 
 less_is : (r : Ordering) → r ≡ Less → is_lt r ≡ true
 less_is r e = rw e refl
 
-turned : (a b : List ℕ) → digest_cmp a b ≡ Greater → digest_cmp b a ≡ Less
-turned a b e = nat_list_cmp_total.antisymm b a ∙ ap ordering_reverse e
-
 apart : (a b : List ℕ) → digest_cmp a b ≡ Less → a ≡ b → ⊥
-apart a b less same =
-    let back : digest_cmp a b ≡ Greater = subst (λ c. digest_cmp c b ≡ Greater) (sym same) (subst (λ c. digest_cmp b c ≡ Greater) same (nat_list_cmp_total.antisymm b a ∙ ap ordering_reverse less)) in
-    let no : Less ≡ Greater = sym less ∙ back in
-    cc
+apart a b less same = irreflexive nat_list_cmp_total b (subst (λ c. digest_cmp c b ≡ Less) same less)
 
 -- those before a digest and those behind it, among ascending ones
 before_less : (digest : List ℕ) (digests : List (List ℕ)) (z : List ℕ) → Contains (before digest digests) z → digest_cmp z digest ≡ Less
@@ -55,7 +43,7 @@ module _ (passes : List ℕ → Bool) where
   of_made : (present touched : List (List ℕ)) (z : List ℕ) → Contains (sorted present touched) z → (Contains present z × (is_among touched z ≡ false)) ⊎ (Contains touched z × (passes z ≡ true))
   of_made present touched z has =
       elim (Contains-append_cases (missing_in touched present) (filter passes touched) z (member_before_sort digest_cmp (made present touched) z has)) [
-        | inl kept ↦ let (member, missing) = (filtered_members (λ digest. not (is_among touched digest)) present z).0 kept in inl (member, negated (is_among touched z) missing)
+        | inl kept ↦ let (member, missing) = (filtered_members (λ digest. not (is_among touched digest)) present z).0 kept in inl (member, not-true (is_among touched z) missing)
         | inr new ↦ inr ((filtered_members passes touched z).0 new)
       ]
 
@@ -121,7 +109,7 @@ module _ (passes : List ℕ → Bool) where
         ])
 
     not_touched : (z : List ℕ) → (digest ≡ z → ⊥) → (Contains touched z → ⊥) → is_among (digest ∷ touched) z ≡ false
-    not_touched z other fails = unless_true (is_among (digest ∷ touched) z) (λ e.
+    not_touched z other fails = false_from_ne_true (is_among (digest ∷ touched) z) (λ e.
         elim (Contains-cons_cases digest touched z ((is_among-Decides (digest ∷ touched) z).0 e)) [ inl same ↦ other same | inr member ↦ fails member ])
 
     untouched : (z : List ℕ) → is_among (digest ∷ touched) z ≡ false → Contains (digest ∷ touched) z → ⊥
@@ -148,8 +136,8 @@ module _ (passes : List ℕ → Bool) where
         place member f Less e = Contains-append_left (before digest present) (here ++ rest) z ((filtered_members (λ other. is_lt (digest_cmp other digest)) present z).1 (member, less_is (digest_cmp z digest) e))
         place member f Equal e = absurd (untouched z f (subst (Contains (digest ∷ touched)) (sym (exact z digest e)) (Contains-cons_here digest touched)))
         place member f Greater e =
-            let later = (filtered_members (λ other. is_lt (digest_cmp digest other)) present z).1 (member, less_is (digest_cmp digest z) (turned z digest e)) in
-            let none : is_among touched z ≡ false = unless_true (is_among touched z) (λ among. untouched z f (Contains-cons_there digest touched z ((is_among-Decides touched z).0 among))) in
+            let later = (filtered_members (λ other. is_lt (digest_cmp digest other)) present z).1 (member, less_is (digest_cmp digest z) (turned nat_list_cmp_total z digest e)) in
+            let none : is_among touched z ≡ false = false_from_ne_true (is_among touched z) (λ among. untouched z f (Contains-cons_there digest touched z ((is_among-Decides touched z).0 among))) in
             Contains-append_right (before digest present) (here ++ rest) z (Contains-append_right here rest z (kept_in (behind digest present) touched z later none))
 
     back : (z : List ℕ) → Contains (before digest present ++ (here ++ rest)) z → Contains (sorted present (digest ∷ touched)) z
@@ -248,4 +236,4 @@ module _ (digests : List (List ℕ)) (digest : List ℕ) where
     missed_behind =
         drop_passing (λ other. is_lt (digest_cmp digest other)) digests i
         (λ k d less under_k. not_less (get_or digests k d) digest (parts.0 k d (omega arith) less))
-        (λ k d le under_k. less_is (digest_cmp digest (get_or digests k d)) (turned (get_or digests k d) digest (parts.1 k d le under_k)))
+        (λ k d le under_k. less_is (digest_cmp digest (get_or digests k d)) (turned nat_list_cmp_total (get_or digests k d) digest (parts.1 k d le under_k)))

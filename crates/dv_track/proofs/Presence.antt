@@ -6,42 +6,24 @@ use Rattle.std.specs.FinMap.{nat_cmp-IsAntisymmetric, slice_cmp-IsAntisymmetric}
 use Rattle.std.specs.declared.cmp.Ordering.TheVariants.{Equal}
 use Rattle.std.specs.List.Sorted.{IsStrictlySortedBy}
 use Rattle.std.specs.Str.{bytes_eq}
-use Rattle.std.proofs.lemmas.Bool.{and_parts, false≢true, le-leb}
+use Rattle.std.proofs.lemmas.Bool.{and_parts, false_from_ne_true, false≢true, le-leb, not-true}
 use Rattle.std.proofs.lemmas.List.{reverse-append}
 use Rattle.std.proofs.lemmas.List.Elements.{Contains-append_cases, Contains-append_left, Contains-append_right}
 use Rattle.std.proofs.lemmas.List.Folds.{find-append, list_all-append}
 use Rattle.std.proofs.lemmas.List.Kept.{IsStrictlySortedBy-filter}
 use Rattle.std.proofs.lemmas.Slice.Eq.{bytes_eq-Decides}
 use Rattle.dv_text.specs.Sorting.{sorted_by}
-use Rattle.dv_text.proofs.Members.{Contains-cons_here, Contains-cons_there, filtered_members}
+use Rattle.dv_text.proofs.Members.{Contains-cons_here, Contains-cons_there, Contains-map, filtered_members, reverse_member}
 use Rattle.dv_text.proofs.SortedLists.{ascending-sorted_by, member_after_sort, member_before_sort, same_ascending}
+use Rattle.dv_text.proofs.Passing.{find_none, find_same, found_member, same_answer, some_passes_at}
 use Rattle.dv_records.specs.declared.raw_rows.StatusRow.{StatusRow}
 use Rattle.dv_records.specs.Batches.{digest_cmp}
 use Rattle.dv_records.specs.Reconstruction.{present_at, says_present}
-use Rattle.dv_records.proofs.Memberships.{any_from_member, Contains-map, found_member}
-use Rattle.dv_records.proofs.Reversing.{reverse_member}
 use Rattle.dv_track.specs.Presences.{missing_in, updated, ArePresent}
 use Rattle.dv_track.specs.Tracks.{are_up_to, is_among, parents_of, present_parents}
-use Rattle.dv_track.proofs.Amongst.{among_sorted, is_among-Decides, same_answer}
-use Rattle.dv_track.proofs.Following.{all_of}
-
--- ---- a search
-
-find_same : {X : Type 0} (p q : X → Bool) (xs : List X) → ((x : X) → Contains xs x → p x ≡ q x) → find p xs ≡ find q xs
-find_same p q [] same = refl
-find_same p q (x ∷ xs) same = rw (same x (Contains-cons_here x xs), find_same p q xs (λ y has. same y (Contains-cons_there x xs y has))) refl
-
-find_none : {X : Type 0} (p : X → Bool) (xs : List X) → ((x : X) → Contains xs x → p x ≡ false) → find p xs ≡ None
-find_none p [] fails = refl
-find_none p (x ∷ xs) fails = rw (fails x (Contains-cons_here x xs)) (find_none p xs (λ y has. fails y (Contains-cons_there x xs y has)))
-
-pub unless_true : (b : Bool) → (b ≡ true → ⊥) → b ≡ false
-unless_true true fails = absurd (fails refl)
-unless_true false fails = refl
-
-pub negated : (b : Bool) → not b ≡ true → b ≡ false
-negated false e = refl
-negated true e = cc
+use Rattle.dv_track.proofs.Amongst.{among_sorted, is_among-Decides}
+use Rattle.dv_records.specs.Statuses.{status_cmp}
+use Rattle.dv_records.proofs.DatedRows.{all_up_to}
 
 -- ---- who is present
 
@@ -89,7 +71,7 @@ same_late rows parent a b early_a early_b =
     ap says_present
     (find_same (λ (row : StatusRow). bytes_eq row.parent parent && nat_le row.load a) (λ (row : StatusRow). bytes_eq row.parent parent && nat_le row.load b) (reverse rows) (λ row has.
     let member = (reverse_member rows row).0 has in
-    rw (le-leb row.load a (all_of rows a row early_a member), le-leb row.load b (all_of rows b row early_b member)) refl))
+    rw (le-leb row.load a (all_up_to (λ (row : StatusRow). row.load) status_cmp rows a row early_a member), le-leb row.load b (all_up_to (λ (row : StatusRow). row.load) status_cmp rows b row early_b member)) refl))
 
 pub made_present : (rows : List StatusRow) (last : ℕ) → are_up_to rows last ≡ true → ArePresent rows (present_parents rows last)
 made_present rows last up date early = ap (λ test. filter test (sorted_by digest_cmp (parents_of rows))) (λ i parent. same_late rows parent last date up early i)
@@ -105,8 +87,8 @@ same_untouched rows more parent date untouched = ap says_present (ap (find p) (r
 
     of_another : (row : StatusRow) → Contains more row → bytes_eq row.parent parent ≡ false
     of_another row has =
-        unless_true (bytes_eq row.parent parent) (λ same.
-        false≢true (sym untouched ∙ any_from_member (λ other. bytes_eq other parent) (parents_of more) row.parent (Contains-map (λ (row : StatusRow). row.parent) more row has) same))
+        false_from_ne_true (bytes_eq row.parent parent) (λ same.
+        false≢true (sym untouched ∙ some_passes_at (λ other. bytes_eq other parent) (parents_of more) row.parent (Contains-map (λ (row : StatusRow). row.parent) more row has) same))
 
     none : find p (reverse more) ≡ None
     none = find_none p (reverse more) (λ row has. rw (of_another row ((reverse_member more row).0 has)) refl)
@@ -135,7 +117,7 @@ module _ (rows more : List StatusRow) (present : List (List ℕ)) (last : ℕ) (
         (elim (Contains-append_cases (missing_in touched present) (filter (λ parent. present_at all parent last) touched) parent (member_before_sort digest_cmp items parent has)) [
           | inl kept ↦
               let (member, missing) = (filtered_members (λ digest. not (is_among touched digest)) present parent).0 kept in
-              untouched date parent (negated (is_among touched parent) missing) ∙ (present_members rows date parent).0 (subst (λ list. Contains list parent) before member)
+              untouched date parent (not-true (is_among touched parent) missing) ∙ (present_members rows date parent).0 (subst (λ list. Contains list parent) before member)
           | inr new ↦
               let (member, said) = (filtered_members (λ parent. present_at all parent last) touched parent).0 new in
               same_late all parent date last early up ∙ said

@@ -11,6 +11,3 @@ mod status_tables;
 
 pub use laws::status_delta_is_batch;
 pub use status_tables::StatusTable;
-
-#[cfg(test)]
-mod tests;

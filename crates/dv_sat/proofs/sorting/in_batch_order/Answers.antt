@@ -1,8 +1,8 @@
-use Rattle.std.proofs.Common.{◌∙◌, rules}
+use Rattle.std.proofs.Common.{◌∙◌, refl, rules}
 use Rattle.std.specs.Ordering.{is_eq, is_lt}
 use Rattle.std.proofs.lemmas.Fn.{always_returns_same, dedup_same}
 use Rattle.std.proofs.lemmas.List.Sorted.{ranks_by}
-use Rattle.dv_sat.proofs.StableSorts.{stable_sort_dedup}
+use Rattle.dv_text.proofs.StableSorts.{firsts-sort_dedup}
 use Rattle.dv_sat.proofs.sorting.in_batch_order.Goals as goal
 
 pub returns : goal.returns
@@ -12,4 +12,4 @@ returns g c =
     let sorted = c.in_ok-sort_by.ensures.sorted (λ x y. is_lt (cmp x y)) (ranks_by total (λ x. x)) (always_returns_same _ _ _ (λ a r f' called. search rules)) in
     let stable = c.in_ok-sort_by.ensures.stable (λ x y. is_lt (cmp x y)) (ranks_by total (λ x. x)) (always_returns_same _ _ _ (λ a r f' called. search rules)) in
     let kept = dedup_same _ (λ x y. is_eq (cmp x y)) _ (λ x y b f' x' y' called. search rules) _ _ c.dedup_by.ensures.filtered in
-    c.from_vec.ensures ∙ kept ∙ stable_sort_dedup cmp total c.args.rows.items _ sorted stable
+    c.from_vec.ensures ∙ kept ∙ firsts-sort_dedup total (λ x y. refl) c.args.rows.items _ sorted stable

@@ -1,6 +1,8 @@
 use Rattle.std.proofs.Common.{◌∙◌, sym}
-use Rattle.dv_track.proofs.LastRow.{at_last}
+use Rattle.dv_records.specs.declared.raw_rows.StatusRow.{StatusRow}
+use Rattle.dv_records.specs.Statuses.{status_cmp}
+use Rattle.dv_records.proofs.DatedRows.{last_load}
 use Rattle.dv_track.proofs.loads.has_load.Goals as goal
 
 pub returns-in-Some : goal.returns-in-Some
-returns-in-Some c = c.eq.ensures ∙ sym (at_last c.args.rows.now c.args.load c.in-Some.row.now c.requires.order c.requires.not_later (sym c.in-Some.ensures.value))
+returns-in-Some c = c.eq.ensures ∙ last_load (λ (row : StatusRow). row.load) status_cmp c.args.rows.now c.in-Some.row.now c.args.load c.requires.order c.requires.not_later (sym c.in-Some.ensures.value)

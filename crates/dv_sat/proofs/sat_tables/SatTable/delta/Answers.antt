@@ -1,27 +1,31 @@
 use Rattle.std.proofs.Common.{◌∙◌}
+use Rattle.std.specs.List.{filter_map}
+use Rattle.dv_text.proofs.SortedLists.{ascending-sorted_by}
+use Rattle.dv_records.specs.Batches.{batch_of}
 use Rattle.dv_text.specs.Keys.{hashes_of}
 use Rattle.dv_catalog.specs.Feeds.{source}
 use Rattle.dv_records.specs.declared.raw_rows.SatRow.{SatRow}
 use Rattle.dv_records.specs.Satellites.{sat_cmp}
 use Rattle.dv_sat.specs.SatRows.{sat_change}
-use Rattle.dv_sat.proofs.Dated.{delta_follows, delta_stamped}
+use Rattle.dv_records.proofs.DatedRows.{delta_follows, delta_stamped}
 use Rattle.dv_sat.proofs.SatDeltaBatch.{delta_is_batch}
-use Rattle.dv_sat.proofs.SatFollowing.{change_stamped, sat_total}
+use Rattle.dv_sat.proofs.SatFollowing.{made_stamped, sat_total}
 use Rattle.dv_sat.proofs.sat_tables.SatTable.delta.Goals as goal
 
 pub returns-clause-stamped : goal.returns-clause-stamped
 returns-clause-stamped g c =
-    let hashes = hashes_of g.H.KeyDigest.digest_of g.H.KeyDigest.size in
-    let record_source = source c.args.catalog.now c.args.staged.now.feed in
+    let change = sat_change (hashes_of g.H.KeyDigest.digest_of g.H.KeyDigest.size) (source c.args.catalog.now c.args.staged.now.feed) c.args.self.now.rows c.args.load in
     rw c.in_ok-rows.ensures.value
-    (delta_stamped (λ (row : SatRow). row.load) sat_cmp sat_total (sat_change hashes record_source c.args.self.now.rows c.args.load) c.args.load (change_stamped hashes record_source c.args.self.now.rows c.args.load) c.args.self.now.rows c.args.staged.now.rows)
+    (delta_stamped (λ (row : SatRow). row.load) sat_cmp c.args.load c.args.self.now.rows (batch_of sat_cmp change c.args.staged.now.rows)
+    (made_stamped (hashes_of g.H.KeyDigest.digest_of g.H.KeyDigest.size) (source c.args.catalog.now c.args.staged.now.feed) c.args.self.now.rows c.args.load c.args.staged.now.rows))
 
 pub returns-clause-follows : goal.returns-clause-follows
 returns-clause-follows g c =
-    let hashes = hashes_of g.H.KeyDigest.digest_of g.H.KeyDigest.size in
-    let record_source = source c.args.catalog.now c.args.staged.now.feed in
+    let change = sat_change (hashes_of g.H.KeyDigest.digest_of g.H.KeyDigest.size) (source c.args.catalog.now c.args.staged.now.feed) c.args.self.now.rows c.args.load in
     rw c.in_ok-rows.ensures.value
-    (delta_follows (λ (row : SatRow). row.load) sat_cmp sat_total (sat_change hashes record_source c.args.self.now.rows c.args.load) c.args.load (change_stamped hashes record_source c.args.self.now.rows c.args.load) c.args.self.now.rows c.args.staged.now.rows c.in_ok-rows.ensures.order c.requires.not_later)
+    (delta_follows (λ (row : SatRow). row.load) sat_cmp c.args.load c.args.self.now.rows (batch_of sat_cmp change c.args.staged.now.rows)
+    (made_stamped (hashes_of g.H.KeyDigest.digest_of g.H.KeyDigest.size) (source c.args.catalog.now c.args.staged.now.feed) c.args.self.now.rows c.args.load c.args.staged.now.rows)
+    (ascending-sorted_by sat_cmp sat_total (filter_map change c.args.staged.now.rows)) c.in_ok-rows.ensures.order c.requires.not_later)
 
 pub returns-clause-batch : goal.returns-clause-batch
 returns-clause-batch g c =

@@ -2,12 +2,14 @@ use Rattle.std.proofs.Common.{◌≡◌, ◌++◌, ◌∙◌, refl, ap, arith, l
 use Rattle.std.proofs.lemmas.List.{length-map}
 use Rattle.dv_records.specs.declared.raw_rows.StatusRow.{StatusRow}
 use Rattle.dv_track.specs.Tracks.{parents_of}
-use Rattle.dv_track.proofs.LoadOrder.{in_load_order}
+use Rattle.dv_records.specs.StatusPlaces.{status_place}
+use Rattle.dv_records.specs.Statuses.{status_cmp}
+use Rattle.dv_records.proofs.DatedRows.{in_load_order}
 use Rattle.dv_track.proofs.Presence.{kept_ascend, updated_present}
 use Rattle.dv_track.proofs.status_tables.StatusTable.append.Goals as goal
 
 pub apply-requires-clause-order : goal.apply-requires-clause-order
-apply-requires-clause-order c = in_load_order (c.self.inside.indexed.rows ++ c.args.rows) (rw (← c.self.view_is) at c.requires.order)
+apply-requires-clause-order c = in_load_order status_place status_cmp (c.self.inside.indexed.rows ++ c.args.rows) (rw (← c.self.view_is) at c.requires.order)
 
 pub update-requires-clause-order : goal.update-requires-clause-order
 update-requires-clause-order c =

@@ -1,10 +1,12 @@
 use Rattle.std.proofs.Common.{◌∙◌}
-use Rattle.dv_track.proofs.LoadOrder.{in_load_order}
+use Rattle.dv_records.specs.StatusPlaces.{status_place}
+use Rattle.dv_records.specs.Statuses.{status_cmp}
+use Rattle.dv_records.proofs.DatedRows.{in_load_order}
 use Rattle.dv_track.proofs.Presence.{made_present}
 use Rattle.dv_track.proofs.status_tables.StatusTable.from_rows.Goals as goal
 
 pub from_rows-requires : goal.from_rows-requires
-from_rows-requires c = in_load_order c.args.rows c.requires
+from_rows-requires c = in_load_order status_place status_cmp c.args.rows c.requires
 
 pub invariant_of-result : goal.invariant_of-result
 invariant_of-result c =

@@ -1,7 +1,0 @@
-use Rattle.std.proofs.Common.{◌≡◌}
-use Rattle.std.specs.Prelude.{filter}
-use Rattle.dv_deliveries.specs.NewLists.{is_new}
-use Rattle.dv_deliveries.proofs.additions.kept.Given as goal
-
-abbrev pub invariant-loop-hashed : goal.invariant-loop-hashed
-invariant-loop-hashed g l = l.made ≡ filter (is_new (g.T.HoldsLists.held l.table)) l.yielded

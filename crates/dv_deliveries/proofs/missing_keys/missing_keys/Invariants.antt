@@ -1,6 +1,0 @@
-use Rattle.std.proofs.Common.{◌≡◌, map, take}
-use Rattle.dv_deliveries.specs.Items.{missing_key}
-use Rattle.dv_deliveries.proofs.missing_keys.missing_keys.Given as goal
-
-abbrev pub invariant-loop-hub : goal.invariant-loop-hub
-invariant-loop-hub l = l.keys ≡ map (missing_key l.catalog) (take l.hub-index l.hubs)

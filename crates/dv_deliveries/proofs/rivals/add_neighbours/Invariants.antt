@@ -1,6 +1,0 @@
-use Rattle.std.proofs.Common.{◌≡◌, ◌∷◌, ◌++◌, drop}
-use Rattle.dv_deliveries.specs.Rivalries.{all_neighbours}
-use Rattle.dv_deliveries.proofs.rivals.add_neighbours.Given as goal
-
-abbrev pub invariant-loop-next : goal.invariant-loop-next
-invariant-loop-next l = l.rivals.items ++ all_neighbours (l.last ∷ drop l.next-index l.rest) ≡ l.initial.rivals.items ++ all_neighbours l.lists

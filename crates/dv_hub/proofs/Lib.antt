@@ -1,3 +1,0 @@
-pub mod DeltaCases
-pub mod HubItems
-pub mod WindowDeltas

@@ -1,4 +1,0 @@
-pub mod HubDeltas
-pub mod HubLaws
-pub mod HubRows
-pub mod NewRows

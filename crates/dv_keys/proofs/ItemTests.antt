@@ -1,0 +1,81 @@
+-- Deliveries that pass the tests are such as new lists are told from.
+use Rattle.std.proofs.Common.{◌≡◌, ◌==◌, ◌&&◌, inl, inr, Bool, true, List, [], ◌∷◌, refl, sym, ◌∙◌, ap, length, nat_lt, eqb-true, ltb-true}
+use Rattle.std.specs.Prelude.{Contains, not}
+use Rattle.std.specs.List.{list_all}
+use Rattle.std.proofs.lemmas.Bool.{and_parts, false≢true, not-true}
+use Rattle.dv_text.specs.Keys.{refs_eq}
+use Rattle.dv_text.proofs.Members.{Contains-cons_cases, Contains-nil}
+use Rattle.dv_catalog.specs.declared.entries.Parent.{Parent}
+use Rattle.dv_catalog.specs.declared.entries.Parent.TheVariants.{Hub, Link}
+use Rattle.dv_catalog.specs.declared.tables.TableId.{TableId}
+use Rattle.dv_catalog.specs.declared.tables.TableId.TheVariants.{Hub as HubTable, Link as LinkTable, Sat, Multi, Status, Effect}
+use Rattle.dv_catalog.specs.Entries.{Mapping}
+use Rattle.dv_catalog.specs.Feeds.{parent_hubs}
+use Rattle.dv_catalog.specs.Mappings.{is_declared}
+use Rattle.dv_records.specs.declared.deliveries.Delivery.{Delivery}
+use Rattle.dv_records.specs.Deliveries.{table_of}
+use Rattle.dv_keys.specs.Items.{AreItems, IsItem, are_keys_of}
+use Rattle.dv_keys.specs.ItemTests.{are_apart, are_items, is_alone, is_item, is_table_of}
+use Rattle.dv_text.proofs.Deciding.{refs_eq-Decides}
+use Rattle.dv_text.proofs.Passing.{passes_at}
+
+table_is : (parent : Parent) (table : TableId) → is_table_of parent table ≡ true → table ≡ table_of parent
+table_is (Hub hub) (HubTable other) e = ap HubTable (sym (eqb-true hub other e))
+table_is (Link link) (LinkTable other) e = ap LinkTable (sym (eqb-true link other e))
+table_is (Hub hub) (LinkTable other) e = cc
+table_is (Link link) (HubTable other) e = cc
+table_is (Hub hub) (Sat feed) e = cc
+table_is (Hub hub) (Multi feed) e = cc
+table_is (Hub hub) (Status feed) e = cc
+table_is (Hub hub) (Effect feed) e = cc
+table_is (Link link) (Sat feed) e = cc
+table_is (Link link) (Multi feed) e = cc
+table_is (Link link) (Status feed) e = cc
+table_is (Link link) (Effect feed) e = cc
+
+item_is : (mapping : Mapping) (parent : Parent) (item : Delivery) → is_item mapping parent (parent_hubs mapping parent) item ≡ true → IsItem mapping parent item
+item_is mapping parent item e =
+    let first = and_parts (is_table_of parent item.table && nat_lt item.feed (length mapping.feeds)) (are_keys_of mapping (parent_hubs mapping parent) item.refs) e in
+    let second = and_parts (is_table_of parent item.table) (nat_lt item.feed (length mapping.feeds)) first.0 in
+    record { table = table_is parent item.table second.0; feed = ltb-true item.feed (length mapping.feeds) second.1; keys = first.1 }
+
+alone : (item : Delivery) (others : List Delivery) → is_alone item others ≡ true → (other : Delivery) → Contains others other → other.refs ≡ item.refs → ⊥
+alone item others e other has same =
+    let apart = not-true (refs_eq other.refs item.refs) (passes_at (λ (o : Delivery). not (refs_eq o.refs item.refs)) others other e has) in
+    false≢true (sym apart ∙ (refs_eq-Decides other.refs item.refs).1 same)
+
+apart_is : (items : List Delivery) → are_apart items ≡ true → (a b : Delivery) → Contains items a → Contains items b → a.refs ≡ b.refs → a ≡ b
+apart_is [] e a b a_in b_in same = Contains-nil a a_in
+apart_is (x ∷ items) e a b a_in b_in same =
+    let parts = and_parts (is_alone x items) (are_apart items) e in
+    elim (Contains-cons_cases x items a a_in) [
+      | inl a_is ↦
+          elim (Contains-cons_cases x items b b_in) [
+            | inl b_is ↦ sym a_is ∙ b_is
+            | inr b_more ↦ absurd (alone x items parts.0 b b_more (sym same ∙ ap (λ (d : Delivery). d.refs) (sym a_is)))
+          ]
+      | inr a_more ↦
+          elim (Contains-cons_cases x items b b_in) [
+            | inl b_is ↦ absurd (alone x items parts.0 a a_more (same ∙ ap (λ (d : Delivery). d.refs) (sym b_is)))
+            | inr b_more ↦ apart_is items parts.1 a b a_more b_more same
+          ]
+    ]
+
+-- what is tested is such
+pub record IsPassed (mapping : Mapping) (parent : Parent) (items : List Delivery) : Type 0 where
+  pub declared : is_declared mapping parent ≡ true
+  pub each : (item : Delivery) → Contains items item → IsItem mapping parent item
+  pub apart : (a b : Delivery) → Contains items a → Contains items b → a.refs ≡ b.refs → a ≡ b
+
+pub passed : (mapping : Mapping) (parent : Parent) (items : List Delivery) → are_items mapping parent items ≡ true → IsPassed mapping parent items
+passed mapping parent items e =
+    let first = and_parts (is_declared mapping parent && list_all (is_item mapping parent (parent_hubs mapping parent)) items) (are_apart items) e in
+    let second = and_parts (is_declared mapping parent) (list_all (is_item mapping parent (parent_hubs mapping parent)) items) first.0 in
+    record {
+      declared = second.0;
+      each = λ item has. item_is mapping parent item (passes_at (is_item mapping parent (parent_hubs mapping parent)) items item second.1 has);
+      apart = apart_is items first.1;
+    }
+
+pub items_are : (mapping : Mapping) (parent : Parent) (items : List Delivery) → are_items mapping parent items ≡ true → AreItems mapping items
+items_are mapping parent items e = let is = passed mapping parent items e in record { parent = parent; declared = is.declared; each = is.each; apart = is.apart }

@@ -1,0 +1,16 @@
+pub mod Batches
+pub mod Brought
+pub mod Clashes
+pub mod Hashables
+pub mod Held
+pub mod HubItems
+pub mod HubWindows
+pub mod ItemTests
+pub mod KeyDeltas
+pub mod Keys
+pub mod LinkItems
+pub mod LinkWindows
+pub mod NewCases
+pub mod Placed
+pub mod ToldLists
+pub mod WindowLists

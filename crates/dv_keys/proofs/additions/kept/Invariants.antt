@@ -1,0 +1,7 @@
+use Rattle.std.proofs.Common.{◌≡◌}
+use Rattle.std.specs.Prelude.{filter}
+use Rattle.dv_keys.specs.NewLists.{is_new}
+use Rattle.dv_keys.proofs.additions.kept.Given as goal
+
+abbrev pub invariant-loop-hashed : goal.invariant-loop-hashed
+invariant-loop-hashed g l = l.made ≡ filter (is_new (g.T.HoldsLists.held l.table)) l.yielded

@@ -1,0 +1,7 @@
+use Rattle.std.proofs.Common.{◌≡◌, map}
+use Rattle.dv_text.specs.Keys.{hashes_of}
+use Rattle.dv_keys.specs.NewRows.{link_row}
+use Rattle.dv_keys.proofs.link_rows.link_rows.Given as goal
+
+abbrev pub invariant-loop-hashed : goal.invariant-loop-hashed
+invariant-loop-hashed g l = l.rows ≡ map (link_row l.catalog (hashes_of g.H.KeyDigest.digest_of g.H.KeyDigest.size) l.load) l.yielded

@@ -1,0 +1,6 @@
+use Rattle.std.proofs.Common.{◌≡◌, map, take}
+use Rattle.dv_keys.specs.Items.{missing_key}
+use Rattle.dv_keys.proofs.missing_keys.missing_keys.Given as goal
+
+abbrev pub invariant-loop-hub : goal.invariant-loop-hub
+invariant-loop-hub l = l.keys ≡ map (missing_key l.catalog) (take l.hub-index l.hubs)

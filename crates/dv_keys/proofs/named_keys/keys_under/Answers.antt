@@ -1,0 +1,15 @@
+use Rattle.std.proofs.Common.{◌≡◌, inl, inr, [], ◌++◌, sym, ◌∙◌, ap, append-nil, map}
+use Rattle.std.specs.List.{zip}
+use Rattle.dv_keys.specs.LinkLists.{key_under}
+use Rattle.dv_keys.proofs.Keys.{zip_ended}
+use Rattle.dv_keys.proofs.named_keys.keys_under.Goals as goal
+
+pub returns : goal.returns
+returns g c =
+    let ended : zip c.loop-hub.hub-iterator.a.rest.now c.loop-hub.hub-iterator.b.rest.now ≡ [] = elim c.in-None.ensures.steps [
+      | inl (x, both) ↦ zip_ended _ _ (inl both.0)
+      | inr (x, both) ↦ zip_ended _ _ (inr both.0)
+    ] in
+    sym (append-nil c.loop-hub.refs)
+    ∙ ap (λ pairs. c.loop-hub.refs ++ map (λ (hub, digest). key_under c.args.catalog.now (g.N.HubNames.names c.args.names.now) hub digest) pairs) (sym ended)
+    ∙ c.loop-hub.invariant

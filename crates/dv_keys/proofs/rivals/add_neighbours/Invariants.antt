@@ -1,0 +1,6 @@
+use Rattle.std.proofs.Common.{◌≡◌, ◌∷◌, ◌++◌, drop}
+use Rattle.dv_keys.specs.Rivalries.{all_neighbours}
+use Rattle.dv_keys.proofs.rivals.add_neighbours.Given as goal
+
+abbrev pub invariant-loop-next : goal.invariant-loop-next
+invariant-loop-next l = l.rivals.items ++ all_neighbours (l.last ∷ drop l.next-index l.rest) ≡ l.initial.rivals.items ++ all_neighbours l.lists

@@ -1,0 +1,25 @@
+-- Reference lists with their hash keys and the feeds that deliver them, in order.
+use Rattle.std.specs.Prelude.{ℕ, List, ◌∷◌, map}
+use Rattle.std.specs.Ordering.{nat_cmp, ordering_then}
+use Rattle.std.specs.declared.cmp.Ordering.{Ordering}
+use Rattle.dv_text.specs.declared.rows.Key.{Key}
+use Rattle.dv_text.specs.Keys.{Hashes}
+use Rattle.dv_text.specs.Orders.{refs_cmp}
+use Rattle.dv_text.specs.Sorting.{sorted_by}
+use Rattle.dv_records.specs.declared.deliveries.Delivery.{Delivery}
+use Rattle.dv_records.specs.Batches.{digest_cmp}
+use Rattle.dv_keys.specs.declared.hashed_lists.HashedList.{HashedList}
+
+-- by hash key, then by list, then by feed
+abbrev pub hashed_cmp : HashedList → HashedList → Ordering
+hashed_cmp a b = ordering_then (digest_cmp a.digest b.digest) (ordering_then (refs_cmp a.refs b.refs) (nat_cmp a.feed b.feed))
+
+abbrev pub hashed_list : Hashes → List Key → ℕ → HashedList
+hashed_list hashes refs feed = record { digest = hashes.hash refs; refs = refs; feed = feed }
+
+abbrev pub hashed_item : Hashes → Delivery → HashedList
+hashed_item hashes item = hashed_list hashes item.refs item.feed
+
+-- the list of missing keys and those of deliveries, in order
+abbrev pub hashed_lists : Hashes → List Key → ℕ → List Delivery → List HashedList
+hashed_lists hashes missing feed items = sorted_by hashed_cmp (hashed_list hashes missing feed ∷ map (hashed_item hashes) items)

@@ -1,0 +1,30 @@
+-- Reference lists with their hash keys, and pairs of lists, that tie in their order are one.
+use Rattle.std.specs.Prelude.{◌≡◌, refl}
+use Rattle.std.specs.declared.cmp.Ordering.{Ordering}
+use Rattle.std.specs.declared.cmp.Ordering.TheVariants.{Less, Equal, Greater}
+use Rattle.std.specs.FinMap.{IsAntisymmetric, nat_cmp-IsAntisymmetric, slice_cmp-IsAntisymmetric}
+use Rattle.std.specs.Ordering.{ordering_then}
+use Rattle.dv_text.specs.Exact.{key_cmp-IsAntisymmetric}
+use Rattle.dv_keys.specs.HashedLists.{hashed_cmp}
+use Rattle.dv_keys.specs.Rivalries.{rivals_cmp}
+
+both_tied : (r s : Ordering) → ordering_then r s ≡ Equal → (r ≡ Equal) × (s ≡ Equal)
+both_tied Less s e = (e, cc)
+both_tied Equal s e = (refl, e)
+both_tied Greater s e = (e, cc)
+
+pub hashed_cmp-IsAntisymmetric : IsAntisymmetric hashed_cmp
+hashed_cmp-IsAntisymmetric x y e =
+    let first = both_tied _ _ e in
+    let second = both_tied _ _ first.1 in
+    let digest = slice_cmp-IsAntisymmetric nat_cmp-IsAntisymmetric x.digest y.digest first.0 in
+    let refs = slice_cmp-IsAntisymmetric key_cmp-IsAntisymmetric x.refs y.refs second.0 in
+    let feed = nat_cmp-IsAntisymmetric x.feed y.feed second.1 in
+    λ i. record { digest = digest i; refs = refs i; feed = feed i }
+
+pub rivals_cmp-IsAntisymmetric : IsAntisymmetric rivals_cmp
+rivals_cmp-IsAntisymmetric x y e =
+    let both = both_tied _ _ e in
+    let first = slice_cmp-IsAntisymmetric key_cmp-IsAntisymmetric x.first y.first both.0 in
+    let second = slice_cmp-IsAntisymmetric key_cmp-IsAntisymmetric x.second y.second both.1 in
+    λ i. record { first = first i; second = second i }

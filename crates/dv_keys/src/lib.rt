@@ -1,0 +1,28 @@
+//! The tables of hubs and links: their rows, their look-up by hash key, and the rows that a window adds, or the
+//! least pair of different reference lists with one hash key.
+#![tactic(auto)]
+
+mod additions;
+mod deltas;
+mod hashed_lists;
+mod holds_lists;
+mod hub_rows;
+mod hub_table;
+mod items;
+mod key_rows;
+mod laws;
+mod link_rows;
+mod link_table;
+mod missing_keys;
+mod named_keys;
+mod rivals;
+mod told_lists;
+
+pub use additions::new_lists;
+pub use hashed_lists::HashedList;
+pub use holds_lists::HoldsLists;
+pub use hub_table::HubTable;
+pub use items::are_items;
+pub use laws::{hub_delta_is_batch, link_delta_is_batch};
+pub use link_table::LinkTable;
+pub use missing_keys::{is_key_missing, is_missing, missing_key, part_count};

@@ -1,5 +1,0 @@
-pub mod DeltaCases
-pub mod Keys
-pub mod LinkItems
-pub mod ToldLists
-pub mod WindowDeltas

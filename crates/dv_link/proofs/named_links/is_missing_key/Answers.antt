@@ -1,9 +1,0 @@
-use Rattle.std.proofs.Common.{sym, ◌∙◌, ap, length}
-use Rattle.std.specs.Prelude.{slice_get}
-use Rattle.dv_catalog.specs.Feeds.{parts_of}
-use Rattle.dv_link.proofs.Keys.{missing_same}
-use Rattle.dv_link.proofs.named_links.is_missing_key.Goals as goal
-
-pub returns-then-parts-part_count : goal.returns-then-parts-part_count
-returns-then-parts-part_count c =
-    c.is_key_missing.ensures ∙ missing_same c.args.key.now.parts (parts_of (slice_get c.args.catalog.now.hubs c.args.hub)) (ap length (sym c.items-parts.ensures) ∙ c.if-parts-part_count.true ∙ c.part_count.ensures)

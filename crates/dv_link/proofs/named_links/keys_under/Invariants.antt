@@ -1,7 +1,0 @@
-use Rattle.std.proofs.Common.{◌≡◌, ◌++◌}
-use Rattle.dv_link.specs.LinkLists.{keys_under}
-use Rattle.dv_link.proofs.named_links.keys_under.Given as goal
-
-abbrev pub invariant-loop-hub : goal.invariant-loop-hub
-invariant-loop-hub g l =
-    l.refs ++ keys_under l.catalog (g.N.HubNames.names l.names) l.hub-iterator.a.rest.now l.hub-iterator.b.rest.now ≡ keys_under l.catalog (g.N.HubNames.names l.names) l.hubs l.digests

@@ -1,7 +1,0 @@
-use Rattle.std.proofs.Common.{◌≡◌}
-use Rattle.dv_text.specs.Keys.{hashes_of}
-use Rattle.dv_records.specs.Hubs.{each_hash}
-use Rattle.dv_link.proofs.new_rows.each_key_hash.Given as goal
-
-abbrev pub invariant-loop-key : goal.invariant-loop-key
-invariant-loop-key g l = l.made ≡ each_hash (hashes_of g.H.KeyDigest.digest_of g.H.KeyDigest.size) l.yielded

@@ -1,5 +1,0 @@
-pub mod LinkDeltas
-pub mod LinkLaws
-pub mod LinkLists
-pub mod LinkRows
-pub mod NewRows

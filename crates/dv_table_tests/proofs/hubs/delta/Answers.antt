@@ -1,0 +1,11 @@
+use Rattle.std.proofs.Common.{◌≡◌, true, nat_le, sym, subst, ◌∙◌}
+use Rattle.std.specs.List.{list_all}
+use Rattle.dv_keys.proofs.HubItems.{hub_items}
+use Rattle.dv_table_tests.proofs.hubs.delta.Goals as goal
+
+pub delta-requires-clause-dated : goal.delta-requires-clause-dated
+delta-requires-clause-dated g c κs within =
+    subst (λ l. list_all (λ row. nat_le row.load c.in_ok-load.load) l ≡ true) c.rows.ensures.value (sym c.are_up_to.ensures ∙ c.if-not-are_up_to.false)
+
+pub delta-requires-clause-items : goal.delta-requires-clause-items
+delta-requires-clause-items g c κs within = hub_items c.in_ok-catalog.catalog c.args.hub c.in_ok-items.items c.in_ok-items.ensures

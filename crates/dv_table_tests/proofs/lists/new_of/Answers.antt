@@ -1,0 +1,6 @@
+use Rattle.dv_catalog.specs.declared.entries.Parent.TheVariants.{Hub}
+use Rattle.dv_keys.proofs.ItemTests.{items_are}
+use Rattle.dv_table_tests.proofs.lists.new_of.Goals as goal
+
+pub new_lists-requires-clause-items : goal.new_lists-requires-clause-items
+new_lists-requires-clause-items g c κs within = items_are c.args.catalog.now (Hub 0) c.args.items.now c.requires

@@ -1,6 +1,0 @@
-use Rattle.std.specs.List.Sorted.{IsStrictlySortedBy}
-use Rattle.dv_track.proofs.tests.empty.Goals as goal
-
-pub from_rows-requires : goal.from_rows-requires
-unfolding IsStrictlySortedBy
-from_rows-requires c = rw c.new.ensures tt
