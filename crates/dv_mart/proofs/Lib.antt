@@ -1,5 +1,5 @@
 pub mod NoFeeds
 pub mod OfferedTables
-pub mod OfficeMarts
+pub mod VaultMarts
 pub mod PartColumns
 pub mod RowTexts

@@ -9,10 +9,10 @@ use Rattle.dv_catalog.specs.Built.{unbuilt}
 use Rattle.dv_catalog.specs.Entries.{Mapping}
 use Rattle.dv_catalog.specs.FirstOf.{first_of}
 use Rattle.dv_catalog.specs.Tables.{table_name, tables}
-use Rattle.dv_records.proofs.Memberships.{found_member}
-use Rattle.dv_window.proofs.Passing.{passes_at}
-use Rattle.dv_window.specs.Vaults.{is_kept}
-use Rattle.dv_window.proofs.BuiltTables.{tables_kept}
+use Rattle.dv_text.proofs.Passing.{found_member}
+use Rattle.dv_vault.proofs.Passing.{passes_at}
+use Rattle.dv_vault.specs.Vaults.{is_kept}
+use Rattle.dv_vault.proofs.BuiltTables.{tables_kept}
 use Rattle.dv_mart.specs.declared.whats.What.{What}
 use Rattle.dv_mart.specs.declared.whats.What.TheVariants.{Feed, Table}
 use Rattle.dv_mart.specs.OfferedMarts.{IsOffered}

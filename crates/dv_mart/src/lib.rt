@@ -19,6 +19,3 @@ pub use table_texts::{
     status_table_text,
 };
 pub use whats::What;
-
-#[cfg(test)]
-mod tests;

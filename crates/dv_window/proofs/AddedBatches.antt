@@ -1,5 +1,4 @@
--- What a window adds to each table of an office, told from the rows alone, is its batch in the state that the office
--- stands for.
+-- What a window adds to each table of a vault, told from the rows alone, is its batch after the sealed windows.
 use Rattle.std.proofs.Common.{◌≡◌, ℕ, suc, ◌+◌, ◌<◌, inl, inr, true, false, List, [], ◌∷◌, ◌++◌, Option, Some, None, refl, sym, ◌∙◌, ap, subst, arith, map, length, nat_lt, reverse}
 use Rattle.std.specs.Prelude.{Contains, slice_get}
 use Rattle.std.specs.List.{cons_option, list_all, range_with_len}
@@ -9,7 +8,7 @@ use Rattle.std.proofs.lemmas.List.Elements.{All-contains, Contains-append_cases,
 use Rattle.dv_text.specs.declared.rows.NRow.{NRow}
 use Rattle.dv_text.specs.declared.rows.Window.{Window}
 use Rattle.dv_text.specs.Keys.{Hashes}
-use Rattle.dv_text.proofs.Members.{Contains-cons_cases, Contains-cons_here, Contains-cons_there}
+use Rattle.dv_text.proofs.Members.{Contains-cons_cases, Contains-cons_here, Contains-cons_there, Contains-map, map_member, reverse_member, Contains-range}
 use Rattle.dv_catalog.specs.declared.entries.FeedDef.{FeedDef}
 use Rattle.dv_catalog.specs.declared.entries.Parent.{Parent}
 use Rattle.dv_catalog.specs.declared.entries.Parent.TheVariants.{Hub, Link}
@@ -30,27 +29,24 @@ use Rattle.dv_records.specs.Deliveries.{table_of}
 use Rattle.dv_records.specs.History.{AreNewestFirst, Extract, all_refs, extract_of, history, lists_of}
 use Rattle.dv_records.specs.Outcomes.{late_after}
 use Rattle.dv_records.specs.Satellites.{sat_batch}
-use Rattle.dv_records.specs.States.{State, are_windows_valid, ascends, is_window, last_load}
+use Rattle.dv_records.specs.States.{are_windows_valid, ascends, is_window, last_load}
 use Rattle.dv_records.specs.Statuses.{status_batch}
 use Rattle.dv_records.specs.Vault.{batch_at, feed_batch, table_batch, table_entry, vault}
 use Rattle.dv_records.proofs.CollisionTies.{none_collide}
 use Rattle.dv_records.proofs.FeedSteps.{appended-history}
-use Rattle.dv_records.proofs.Memberships.{Contains-map, map_member}
-use Rattle.dv_records.proofs.Reversing.{extract-load, reverse_member}
-use Rattle.dv_records.proofs.VaultRows.{in_range}
-use Rattle.dv_hub.proofs.WindowDeltas.{next_delta as hub_delta_is}
-use Rattle.dv_link.proofs.WindowDeltas.{next_delta as link_delta_is}
+use Rattle.dv_records.proofs.Reversing.{extract-load}
+use Rattle.dv_keys.proofs.HubWindows.{next_delta as hub_delta_is}
+use Rattle.dv_keys.proofs.LinkWindows.{next_delta as link_delta_is}
 use Rattle.dv_sat.specs.SatRows.{IsPlain, sat_delta}
 use Rattle.dv_sat.proofs.SatDeltaBatch.{delta_is_batch as sat_delta_is}
 use Rattle.dv_track.specs.Tracks.{status_delta}
 use Rattle.dv_track.proofs.DeltaBatch.{delta_is_batch as status_delta_is}
-use Rattle.dv_window.specs.Offices.{Held, StandsFor}
-use Rattle.dv_window.specs.Plans.{AreApart, all_added}
-use Rattle.dv_window.specs.Vaults.{added_to, extract_rows, is_kept}
+use Rattle.dv_vault.specs.Additions.{AreApart, all_added}
+use Rattle.dv_vault.specs.Vaults.{HasSealed, RawVault, added_to, extract_rows, is_kept}
 use Rattle.dv_window.proofs.Afterwards.{loads_ascend, map_and_one}
 use Rattle.dv_window.proofs.FeedLists.{feed_lists_apart, feed_newest_first, feed_plain}
-use Rattle.dv_window.proofs.Passing.{all_pass, both, in_none, passes_at}
-use Rattle.dv_window.proofs.VaultCollisions.{apart_is_free, parents_first, sealed_parts, sealed_told, turned_back, unturned, windows_stand}
+use Rattle.dv_vault.proofs.Passing.{all_pass, both, in_none, passes_at}
+use Rattle.dv_window.proofs.VaultCollisions.{apart_is_free, parents_first, sealed_parts, sealed_told, turned_back, unturned}
 
 -- the place of a feed among feeds, counted from one
 placed : (n i : ℕ) → (n + 1) + i ≡ n + suc i
@@ -104,13 +100,13 @@ module _ (mapping : Mapping) (hashes : Hashes) (sealed : List Window) (window : 
   declared_parent : (parent : Parent) → is_declared mapping parent ≡ true → Contains (parents mapping) parent
   declared_parent (Hub hub) e =
       Contains-append_left (map (λ n. Hub n) (range_with_len 0 (length mapping.hubs))) (map (λ n. Link n) (range_with_len 0 (length mapping.links))) (Hub hub)
-      (Contains-map (λ n. Hub n) (range_with_len 0 (length mapping.hubs)) hub (in_range (length mapping.hubs) hub (under hub (length mapping.hubs) e)))
+      (Contains-map (λ n. Hub n) (range_with_len 0 (length mapping.hubs)) hub (Contains-range (length mapping.hubs) hub (under hub (length mapping.hubs) e)))
     where
       under : (n count : ℕ) → nat_lt n count ≡ true → n < count
       under n count e = grind (arith, nat_tests, e)
   declared_parent (Link link) e =
       Contains-append_right (map (λ n. Hub n) (range_with_len 0 (length mapping.hubs))) (map (λ n. Link n) (range_with_len 0 (length mapping.links))) (Link link)
-      (Contains-map (λ n. Link n) (range_with_len 0 (length mapping.links)) link (in_range (length mapping.links) link (under link (length mapping.links) e)))
+      (Contains-map (λ n. Link n) (range_with_len 0 (length mapping.links)) link (Contains-range (length mapping.links) link (under link (length mapping.links) e)))
     where
       under : (n count : ℕ) → nat_lt n count ≡ true → n < count
       under n count e = grind (arith, nat_tests, e)
@@ -224,13 +220,13 @@ module _ (mapping : Mapping) (hashes : Hashes) (sealed : List Window) (window : 
   pub vault_added : list_all is_kept (tables mapping) ≡ true → map (added_to mapping hashes window) (vault mapping hashes sealed) ≡ map (λ table. table_batch mapping hashes table (reverse sealed) window) (tables mapping)
   vault_added kept = tables_added (tables mapping) kept (λ id has. has)
 
--- ---- an office
+-- ---- a vault
 
 -- where no table has a clash, what the window adds is its batches
-pub added_is_batch : (hashes : Hashes) (state : State) (held : Held) → StandsFor hashes state held → is_valid held.mapping ≡ true
-    → (window : Window) → is_window held.mapping window ≡ true → late_after (last_load state.sealed) window.load ≡ None
-    → list_all is_kept (tables held.mapping) ≡ true → AreApart hashes held window held.tables
-    → all_added hashes held window ≡ map (λ table. table_batch held.mapping hashes table (reverse state.sealed) window) (tables held.mapping)
-added_is_batch hashes state held stands valid window whole late kept apart =
-    ap (map (added_to held.mapping hashes window)) stands.tables_are
-    ∙ vault_added held.mapping hashes state.sealed window valid (windows_stand hashes state held stands) whole late (apart_is_free hashes state held stands valid window apart) kept
+pub added_is_batch : (hashes : Hashes) (sealed : List Window) (raw : RawVault) → HasSealed hashes sealed raw → is_valid raw.mapping ≡ true
+    → (window : Window) → is_window raw.mapping window ≡ true → late_after (last_load sealed) window.load ≡ None
+    → list_all is_kept (tables raw.mapping) ≡ true → AreApart hashes raw window
+    → all_added hashes raw window ≡ map (λ table. table_batch raw.mapping hashes table (reverse sealed) window) (tables raw.mapping)
+added_is_batch hashes sealed raw has valid window whole late kept apart =
+    ap (map (added_to raw.mapping hashes window)) has.tables_are
+    ∙ vault_added raw.mapping hashes sealed window valid has.valid whole late (apart_is_free hashes sealed raw has valid window apart) kept

@@ -19,7 +19,7 @@ use Rattle.dv_records.specs.Stores.{row_count, rows_then}
 use Rattle.dv_records.specs.Vault.{table_after, table_batch, table_entry, vault}
 use Rattle.dv_records.specs.Weights.{rows_weight, tables_weight, vault_weight}
 use Rattle.dv_records.proofs.VaultSteps.{vault-push, weight-push}
-use Rattle.dv_window.specs.Offices.{entries_with}
+use Rattle.dv_vault.specs.Vaults.{entries_with}
 
 -- ---- the tables
 

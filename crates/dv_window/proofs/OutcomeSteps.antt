@@ -1,4 +1,4 @@
--- What comes of a window in the state that an office stands for, told from what the office holds.
+-- What comes of a window in a state with no window open, told from the vault of the sealed windows.
 use Rattle.std.proofs.Common.{◌≡◌, ℕ, ◌==◌, Bool, true, false, List, [], ◌∷◌, ◌++◌, Option, Some, None, refl, sym, ◌∙◌, ap, append-nil, map, length, slice_get, suc, zero, arith, ◌-◌}
 use Rattle.std.specs.Prelude.{is_none, is_some, if◌then◌else◌}
 use Rattle.std.specs.List.{last_or}
@@ -18,7 +18,8 @@ use Rattle.dv_records.specs.declared.answers.Outcome.TheVariants as outcomes
 use Rattle.dv_records.specs.Outcomes.{collides, differs, differs_from, feed_twice, if_new, late, late_after, no_extracts, accepted, full_at, open_other, outcome, refusal, too_long, unknown_feed, vault_full, window_at}
 use Rattle.dv_records.specs.States.{State, all_windows, head_of, last_load}
 use Rattle.dv_records.specs.Weights.{vault_weight}
-use Rattle.dv_window.specs.Offices.{Held, StandsFor, last_head}
+use Rattle.dv_vault.specs.Vaults.{RawVault, last_head}
+use Rattle.dv_window.proofs.AtRest.{IsVaultAlone}
 use Rattle.dv_window.specs.Plans.{early_rule, head_at, late_by, window_read, IsNewWindow}
 
 -- ---- the first of many rules
@@ -83,69 +84,69 @@ still_some : {X Y : Type 0} (f : X → Y) (found : Option X) → is_some (option
 still_some f None = refl
 still_some f (Some x) = refl
 
-module _ (hashes : Hashes) (state : State) (held : Held) (stands : StandsFor hashes state held) (given : WindowIn) where
-  head_known : head_at given.load held.heads ≡ option_map head_of (window_at given.load state.sealed)
-  head_known = ap (head_at given.load) stands.heads_are ∙ heads_found given.load state.sealed
+module _ (hashes : Hashes) (state : State) (raw : RawVault) (alone : IsVaultAlone hashes state raw) (given : WindowIn) where
+  head_known : head_at given.load raw.heads ≡ option_map head_of (window_at given.load state.sealed)
+  head_known = ap (head_at given.load) alone.sealed_are.heads_are ∙ heads_found given.load state.sealed
 
-  sealed_known : is_some (head_at given.load held.heads) ≡ is_some (window_at given.load state.sealed)
+  sealed_known : is_some (head_at given.load raw.heads) ≡ is_some (window_at given.load state.sealed)
   sealed_known = ap is_some head_known ∙ still_some head_of (window_at given.load state.sealed)
 
-  last_known : last_head held.heads ≡ last_load state.sealed
-  last_known = ap last_head stands.heads_are ∙ sym (last_same state.sealed)
+  last_known : last_head raw.heads ≡ last_load state.sealed
+  last_known = ap last_head alone.sealed_are.heads_are ∙ sym (last_same state.sealed)
 
-  pub late_known : late_by held.heads given.load ≡ late state given
+  pub late_known : late_by raw.heads given.load ≡ late state given
   late_known =
-      ap (λ b. if b then None else late_after (last_head held.heads) given.load) sealed_known
+      ap (λ b. if b then None else late_after (last_head raw.heads) given.load) sealed_known
       ∙ ap (λ last. if is_some (window_at given.load state.sealed) then None else late_after last given.load) last_known
 
   -- what is asked behind the early rules
   abbrev late_rules : Option Rule
   late_rules =
       first_of (
-      differs state (window_of held.mapping given)
-      ∷ if_new state (window_of held.mapping given) (collides held.mapping hashes state (window_of held.mapping given))
-      ∷ if_new state (window_of held.mapping given) (vault_full held.mapping hashes state (window_of held.mapping given)) ∷ [])
+      differs state (window_of raw.mapping given)
+      ∷ if_new state (window_of raw.mapping given) (collides raw.mapping hashes state (window_of raw.mapping given))
+      ∷ if_new state (window_of raw.mapping given) (vault_full raw.mapping hashes state (window_of raw.mapping given)) ∷ [])
 
   -- a window breaks an early rule, or the rest decides
-  refusal_parts : refusal held.mapping hashes state given
-      ≡ option_or (no_extracts given) (option_or (unknown_feed held.mapping given) (option_or (feed_twice given) (option_or (late_by held.heads given.load)
-      (option_or (too_long given) (option_or (window_rule held.mapping given) late_rules)))))
+  refusal_parts : refusal raw.mapping hashes state given
+      ≡ option_or (no_extracts given) (option_or (unknown_feed raw.mapping given) (option_or (feed_twice given) (option_or (late_by raw.heads given.load)
+      (option_or (too_long given) (option_or (window_rule raw.mapping given) late_rules)))))
   refusal_parts =
-      ap (λ (late : Option Rule). option_or (no_extracts given) (option_or (unknown_feed held.mapping given) (option_or (feed_twice given) (option_or late
-      (option_or (open_other state.begun given) (option_or (too_long given) (option_or (window_rule held.mapping given) late_rules))))))) (sym late_known)
-      ∙ ap (λ (begun : Option Window). option_or (no_extracts given) (option_or (unknown_feed held.mapping given) (option_or (feed_twice given) (option_or (late_by held.heads given.load)
-      (option_or (open_other begun given) (option_or (too_long given) (option_or (window_rule held.mapping given) late_rules))))))) stands.none_open
+      ap (λ (late : Option Rule). option_or (no_extracts given) (option_or (unknown_feed raw.mapping given) (option_or (feed_twice given) (option_or late
+      (option_or (open_other state.begun given) (option_or (too_long given) (option_or (window_rule raw.mapping given) late_rules))))))) (sym late_known)
+      ∙ ap (λ (begun : Option Window). option_or (no_extracts given) (option_or (unknown_feed raw.mapping given) (option_or (feed_twice given) (option_or (late_by raw.heads given.load)
+      (option_or (open_other begun given) (option_or (too_long given) (option_or (window_rule raw.mapping given) late_rules))))))) alone.none_open
 
-  pub early_refused : (rule : Rule) → early_rule held given ≡ Some rule → outcome held.mapping hashes state given ≡ outcomes.Refused rule
+  pub early_refused : (rule : Rule) → early_rule raw given ≡ Some rule → outcome raw.mapping hashes state given ≡ outcomes.Refused rule
   early_refused rule e =
       ap (λ (refusal : Option Rule). option_map_or (λ rule. outcomes.Refused rule) refusal (accepted state given.load))
-      (refusal_parts ∙ first_decides (no_extracts given) (unknown_feed held.mapping given) (feed_twice given) (late_by held.heads given.load) (too_long given) (window_rule held.mapping given) late_rules rule e)
+      (refusal_parts ∙ first_decides (no_extracts given) (unknown_feed raw.mapping given) (feed_twice given) (late_by raw.heads given.load) (too_long given) (window_rule raw.mapping given) late_rules rule e)
 
-  rest_refused : early_rule held given ≡ None → refusal held.mapping hashes state given ≡ late_rules
-  rest_refused e = refusal_parts ∙ rest_decides (no_extracts given) (unknown_feed held.mapping given) (feed_twice given) (late_by held.heads given.load) (too_long given) (window_rule held.mapping given) late_rules e
+  rest_refused : early_rule raw given ≡ None → refusal raw.mapping hashes state given ≡ late_rules
+  rest_refused e = refusal_parts ∙ rest_decides (no_extracts given) (unknown_feed raw.mapping given) (feed_twice given) (late_by raw.heads given.load) (too_long given) (window_rule raw.mapping given) late_rules e
 
   -- no other window than the sealed ones
   none_besides : all_windows state ≡ state.sealed
-  none_besides = ap (λ begun. state.sealed ++ option_to_list begun) stands.none_open ∙ append-nil state.sealed
+  none_besides = ap (λ begun. state.sealed ++ option_to_list begun) alone.none_open ∙ append-nil state.sealed
 
   -- ---- a sealed load date
 
-  outcome_again : early_rule held given ≡ None → (sealed : Window) → window_at given.load state.sealed ≡ Some sealed
-      → outcome held.mapping hashes state given
-      ≡ option_map_or (λ rule. outcomes.Refused rule) (differs_from (Some sealed) (window_of held.mapping given)) outcomes.Repeated
+  outcome_again : early_rule raw given ≡ None → (sealed : Window) → window_at given.load state.sealed ≡ Some sealed
+      → outcome raw.mapping hashes state given
+      ≡ option_map_or (λ rule. outcomes.Refused rule) (differs_from (Some sealed) (window_of raw.mapping given)) outcomes.Repeated
   outcome_again e sealed at =
       ap (λ (refusal : Option Rule). option_map_or (λ rule. outcomes.Refused rule) refusal (accepted state given.load)) (rest_refused e)
       ∙ ap (λ (windows : List Window). go (window_at given.load windows) (is_some (window_at given.load state.sealed))) none_besides
       ∙ ap (λ (found : Option Window). go found (is_some found)) at
-      ∙ by (differs_from (Some sealed) (window_of held.mapping given))
+      ∙ by (differs_from (Some sealed) (window_of raw.mapping given))
     where
       go : Option Window → Bool → outcomes.the_data
       go found sealed =
           option_map_or (λ rule. outcomes.Refused rule)
           (first_of (
-          differs_from found (window_of held.mapping given)
-          ∷ (if is_none found then collides held.mapping hashes state (window_of held.mapping given) else None)
-          ∷ (if is_none found then vault_full held.mapping hashes state (window_of held.mapping given) else None) ∷ []))
+          differs_from found (window_of raw.mapping given)
+          ∷ (if is_none found then collides raw.mapping hashes state (window_of raw.mapping given) else None)
+          ∷ (if is_none found then vault_full raw.mapping hashes state (window_of raw.mapping given) else None) ∷ []))
           (if sealed then outcomes.Repeated else outcomes.Load)
 
       by : (differs : Option Rule) → option_map_or (λ rule. outcomes.Refused rule) (option_or differs None) outcomes.Repeated ≡ option_map_or (λ rule. outcomes.Refused rule) differs outcomes.Repeated
@@ -154,10 +155,10 @@ module _ (hashes : Hashes) (state : State) (held : Held) (stands : StandsFor has
 
   -- ---- a new load date
 
-  outcome_new : early_rule held given ≡ None → window_at given.load state.sealed ≡ None
-      → outcome held.mapping hashes state given
+  outcome_new : early_rule raw given ≡ None → window_at given.load state.sealed ≡ None
+      → outcome raw.mapping hashes state given
       ≡ option_map_or (λ rule. outcomes.Refused rule)
-      (option_or (collides held.mapping hashes state (window_of held.mapping given)) (option_or (vault_full held.mapping hashes state (window_of held.mapping given)) None))
+      (option_or (collides raw.mapping hashes state (window_of raw.mapping given)) (option_or (vault_full raw.mapping hashes state (window_of raw.mapping given)) None))
       outcomes.Load
   outcome_new e at =
       ap (λ (refusal : Option Rule). option_map_or (λ rule. outcomes.Refused rule) refusal (accepted state given.load)) (rest_refused e)
@@ -168,19 +169,19 @@ module _ (hashes : Hashes) (state : State) (held : Held) (stands : StandsFor has
       go found sealed =
           option_map_or (λ rule. outcomes.Refused rule)
           (first_of (
-          differs_from found (window_of held.mapping given)
-          ∷ (if is_none found then collides held.mapping hashes state (window_of held.mapping given) else None)
-          ∷ (if is_none found then vault_full held.mapping hashes state (window_of held.mapping given) else None) ∷ []))
+          differs_from found (window_of raw.mapping given)
+          ∷ (if is_none found then collides raw.mapping hashes state (window_of raw.mapping given) else None)
+          ∷ (if is_none found then vault_full raw.mapping hashes state (window_of raw.mapping given) else None) ∷ []))
           (if sealed then outcomes.Repeated else outcomes.Load)
 
-  pub none_at : head_at given.load held.heads ≡ None → window_at given.load state.sealed ≡ None
+  pub none_at : head_at given.load raw.heads ≡ None → window_at given.load state.sealed ≡ None
   none_at e = by (window_at given.load state.sealed) (sym head_known ∙ e)
     where
       by : (found : Option Window) → option_map head_of found ≡ None → found ≡ None
       by None h = refl
       by (Some w) h = cc
 
-  pub some_at : (head : WindowHead) → head_at given.load held.heads ≡ Some head → (sealed : Window) × (window_at given.load state.sealed ≡ Some sealed) × (head_of sealed ≡ head)
+  pub some_at : (head : WindowHead) → head_at given.load raw.heads ≡ Some head → (sealed : Window) × (window_at given.load state.sealed ≡ Some sealed) × (head_of sealed ≡ head)
   some_at head e = by (window_at given.load state.sealed) refl (sym head_known ∙ e)
     where
       same : (a b : WindowHead) → Some a ≡ Some b → a ≡ b
@@ -191,40 +192,40 @@ module _ (hashes : Hashes) (state : State) (held : Held) (stands : StandsFor has
       by (Some w) at h = (w, at, same (head_of w) head h)
 
   -- a collision, a vault that is too full, and neither
-  pub new_collides : IsNewWindow held given → (found : Found) → collision held.mapping hashes (state.sealed ++ window_of held.mapping given ∷ []) ≡ Some found
-      → outcome held.mapping hashes state given ≡ outcomes.Refused (Collision (table_name held.mapping found.table) found.pair.first found.pair.second)
+  pub new_collides : IsNewWindow raw given → (found : Found) → collision raw.mapping hashes (state.sealed ++ window_of raw.mapping given ∷ []) ≡ Some found
+      → outcome raw.mapping hashes state given ≡ outcomes.Refused (Collision (table_name raw.mapping found.table) found.pair.first found.pair.second)
   new_collides passes found is =
       outcome_new passes.early (none_at passes.is_new)
       ∙ ap (λ (c : Option Found). option_map_or (λ rule. outcomes.Refused rule)
-      (option_or (option_map (λ found. Collision (table_name held.mapping found.table) found.pair.first found.pair.second) c) (option_or (vault_full held.mapping hashes state (window_of held.mapping given)) None)) outcomes.Load) is
+      (option_or (option_map (λ found. Collision (table_name raw.mapping found.table) found.pair.first found.pair.second) c) (option_or (vault_full raw.mapping hashes state (window_of raw.mapping given)) None)) outcomes.Load) is
 
-  new_apart : IsNewWindow held given → collision held.mapping hashes (state.sealed ++ window_of held.mapping given ∷ []) ≡ None
-      → outcome held.mapping hashes state given
-      ≡ option_map_or (λ rule. outcomes.Refused rule) (option_or (vault_full held.mapping hashes state (window_of held.mapping given)) None) outcomes.Load
+  new_apart : IsNewWindow raw given → collision raw.mapping hashes (state.sealed ++ window_of raw.mapping given ∷ []) ≡ None
+      → outcome raw.mapping hashes state given
+      ≡ option_map_or (λ rule. outcomes.Refused rule) (option_or (vault_full raw.mapping hashes state (window_of raw.mapping given)) None) outcomes.Load
   new_apart passes is =
       outcome_new passes.early (none_at passes.is_new)
       ∙ ap (λ (c : Option Found). option_map_or (λ rule. outcomes.Refused rule)
-      (option_or (option_map (λ found. Collision (table_name held.mapping found.table) found.pair.first found.pair.second) c) (option_or (vault_full held.mapping hashes state (window_of held.mapping given)) None)) outcomes.Load) is
+      (option_or (option_map (λ found. Collision (table_name raw.mapping found.table) found.pair.first found.pair.second) c) (option_or (vault_full raw.mapping hashes state (window_of raw.mapping given)) None)) outcomes.Load) is
 
-  pub new_full : IsNewWindow held given → collision held.mapping hashes (state.sealed ++ window_of held.mapping given ∷ []) ≡ None
-      → (rule : Rule) → full_at (vault_weight held.mapping hashes (state.sealed ++ window_of held.mapping given ∷ [])) (length state.sealed) ≡ Some rule
-      → outcome held.mapping hashes state given ≡ outcomes.Refused rule
+  pub new_full : IsNewWindow raw given → collision raw.mapping hashes (state.sealed ++ window_of raw.mapping given ∷ []) ≡ None
+      → (rule : Rule) → full_at (vault_weight raw.mapping hashes (state.sealed ++ window_of raw.mapping given ∷ [])) (length state.sealed) ≡ Some rule
+      → outcome raw.mapping hashes state given ≡ outcomes.Refused rule
   new_full passes is rule full =
       new_apart passes is ∙ ap (λ (full : Option Rule). option_map_or (λ rule. outcomes.Refused rule) (option_or full None) outcomes.Load) full
 
-  pub new_loads : IsNewWindow held given → collision held.mapping hashes (state.sealed ++ window_of held.mapping given ∷ []) ≡ None
-      → full_at (vault_weight held.mapping hashes (state.sealed ++ window_of held.mapping given ∷ [])) (length state.sealed) ≡ None
-      → outcome held.mapping hashes state given ≡ outcomes.Load
+  pub new_loads : IsNewWindow raw given → collision raw.mapping hashes (state.sealed ++ window_of raw.mapping given ∷ []) ≡ None
+      → full_at (vault_weight raw.mapping hashes (state.sealed ++ window_of raw.mapping given ∷ [])) (length state.sealed) ≡ None
+      → outcome raw.mapping hashes state given ≡ outcomes.Load
   new_loads passes is full =
       new_apart passes is ∙ ap (λ (full : Option Rule). option_map_or (λ rule. outcomes.Refused rule) (option_or full None) outcomes.Load) full
 
   -- a sealed window again, read back as it was
-  pub again_says : (head : WindowHead) → head_at given.load held.heads ≡ Some head → early_rule held given ≡ None
-      → ((sealed : Window) → window_at given.load state.sealed ≡ Some sealed → head_of sealed ≡ head → window_read held head ≡ sealed)
-      → (differs : Option Rule) → differs_from (Some (window_read held head)) (window_of held.mapping given) ≡ differs
-      → outcome held.mapping hashes state given ≡ option_map_or (λ rule. outcomes.Refused rule) differs outcomes.Repeated
+  pub again_says : (head : WindowHead) → head_at given.load raw.heads ≡ Some head → early_rule raw given ≡ None
+      → ((sealed : Window) → window_at given.load state.sealed ≡ Some sealed → head_of sealed ≡ head → window_read raw head ≡ sealed)
+      → (differs : Option Rule) → differs_from (Some (window_read raw head)) (window_of raw.mapping given) ≡ differs
+      → outcome raw.mapping hashes state given ≡ option_map_or (λ rule. outcomes.Refused rule) differs outcomes.Repeated
   again_says head known early reads differs is =
       let (sealed, at, same) = some_at head known in
       outcome_again early sealed at
-      ∙ ap (λ (sealed : Window). option_map_or (λ rule. outcomes.Refused rule) (differs_from (Some sealed) (window_of held.mapping given)) outcomes.Repeated) (sym (reads sealed at same))
+      ∙ ap (λ (sealed : Window). option_map_or (λ rule. outcomes.Refused rule) (differs_from (Some sealed) (window_of raw.mapping given)) outcomes.Repeated) (sym (reads sealed at same))
       ∙ ap (λ (differs : Option Rule). option_map_or (λ rule. outcomes.Refused rule) differs outcomes.Repeated) is

@@ -10,7 +10,7 @@ use Rattle.dv_text.specs.declared.rows.Staged.{Staged}
 use Rattle.dv_text.specs.declared.rows.Window.{Window}
 use Rattle.dv_text.specs.declared.rows.WindowHead.{WindowHead}
 use Rattle.dv_text.specs.Keys.{Hashes}
-use Rattle.dv_text.proofs.Members.{Contains-cons_cases, Contains-cons_here, Contains-cons_there, member_of_filter_map}
+use Rattle.dv_text.proofs.Members.{Contains-cons_cases, Contains-cons_here, Contains-cons_there, member_of_filter_map, reverse_member}
 use Rattle.dv_catalog.specs.declared.entries.FeedDef.{FeedDef}
 use Rattle.dv_catalog.specs.Entries.{Mapping}
 use Rattle.dv_catalog.specs.Mappings.{is_valid}
@@ -18,18 +18,19 @@ use Rattle.dv_records.specs.declared.stores.TableRows.{TableRows}
 use Rattle.dv_records.specs.History.{Extract, content, extract_of, history, newest_rows, up_to}
 use Rattle.dv_records.specs.Outcomes.{window_at}
 use Rattle.dv_records.specs.ReadBack.{content_read}
-use Rattle.dv_records.specs.States.{State, are_rows_of, are_windows_valid, ascends, head_of, is_staged, is_window}
+use Rattle.dv_records.specs.States.{ascends, head_of, is_staged, is_window}
 use Rattle.dv_records.specs.Collisions.{collision}
 use Rattle.dv_records.specs.Weights.{vault_weight}
-use Rattle.dv_records.proofs.Memberships.{found_member}
+use Rattle.dv_text.proofs.Passing.{found_member}
 use Rattle.dv_records.proofs.ReadBack.{feed_tells}
-use Rattle.dv_records.proofs.Reversing.{IsNewestFirst, history-newest_first, reverse_member}
-use Rattle.dv_records.proofs.ValidWindows.{load_order, passes}
-use Rattle.dv_window.specs.Offices.{Held, StandsFor}
+use Rattle.dv_records.proofs.Reversing.{IsNewestFirst, history-newest_first}
+use Rattle.dv_records.proofs.ValidWindows.{load_order}
+use Rattle.dv_text.proofs.Passing.{passes_at}
+use Rattle.dv_vault.specs.Vaults.{HasSealed, RawVault}
 use Rattle.dv_window.specs.Plans.{window_read}
-use Rattle.dv_window.proofs.PlansStand.{sealed_valid}
-use Rattle.dv_window.proofs.Passing.{in_none}
-use Rattle.dv_window.proofs.ReadWindows.{window_parts}
+use Rattle.dv_window.proofs.VaultCollisions.{sealed_parts}
+use Rattle.dv_vault.proofs.Passing.{in_none}
+use Rattle.dv_vault.proofs.WindowFacts.{definition_of, window_parts}
 
 not_reached : (a b : ℕ) → a < b → nat_le b a ≡ false
 not_reached a b h = grind (arith, nat_tests, h)
@@ -83,53 +84,35 @@ made_again f (staged ∷ extracts) is =
     ap (λ (first : Staged). first ∷ map f (map (λ staged. staged.feed) extracts)) (is staged (Contains-cons_here staged extracts))
     ∙ ap (λ (rest : List Staged). staged ∷ rest) (made_again f extracts (λ other has. is other (Contains-cons_there staged extracts other has)))
 
-pub definition_of : (mapping : Mapping) (staged : Staged) → is_staged mapping staged ≡ true → (definition : FeedDef) × (slice_get mapping.feeds staged.feed ≡ Some definition)
-definition_of mapping staged e = by (slice_get mapping.feeds staged.feed) refl e
-  where
-    by : (found : Option FeedDef) → slice_get mapping.feeds staged.feed ≡ found → option_map_or (λ feed. are_rows_of mapping feed staged.rows) found false ≡ true → (definition : FeedDef) × (slice_get mapping.feeds staged.feed ≡ Some definition)
-    by None at h = let no : false ≡ true = h in cc
-    by (Some definition) at h = (definition, at)
-
-module _ (hashes : Hashes) (state : State) (held : Held) (stands : StandsFor hashes state held) (valid : is_valid held.mapping ≡ true)
-    (no_subs : (feed : ℕ) (definition : FeedDef) → slice_get held.mapping.feeds feed ≡ Some definition → definition.sub ≡ []) where
-  windows_valid : are_windows_valid held.mapping hashes state.sealed ≡ true
-  windows_valid = sealed_valid hashes state held stands (record { load = 0; extracts = [] })
-
+module _ (hashes : Hashes) (sealed : List Window) (raw : RawVault) (has_sealed : HasSealed hashes sealed raw) (valid : is_valid raw.mapping ≡ true)
+    (no_subs : (feed : ℕ) (definition : FeedDef) → slice_get raw.mapping.feeds feed ≡ Some definition → definition.sub ≡ []) where
   -- the content of a feed of a sealed window at its load date
-  content_at : (window : Window) → Contains state.sealed window → is_window held.mapping window ≡ true → (staged : Staged) → Contains window.extracts staged
-      → content staged.feed state.sealed window.load ≡ staged.rows
+  content_at : (window : Window) → Contains sealed window → is_window raw.mapping window ≡ true → (staged : Staged) → Contains window.extracts staged
+      → content staged.feed sealed window.load ≡ staged.rows
   content_at window there whole staged has =
-      let parts = window_parts held.mapping window whole in
+      let parts = window_parts raw.mapping window whole in
       let found = found_itself window.extracts staged parts.ascending has in
       let extract_is : extract_of staged.feed window ≡ Some (record { load = window.load; rows = staged.rows }) =
       ap (option_map (λ (staged : Staged). record { load = window.load; rows = staged.rows })) found in
-      let member = member_of_filter_map (extract_of staged.feed) (reverse state.sealed) window (record { load = window.load; rows = staged.rows }) ((reverse_member state.sealed window).1 there) extract_is in
-      at_extract (history staged.feed (reverse state.sealed)) (record { load = window.load; rows = staged.rows })
-      (history-newest_first staged.feed state.sealed (load_order held.mapping hashes state.sealed windows_valid)) member
+      let member = member_of_filter_map (extract_of staged.feed) (reverse sealed) window (record { load = window.load; rows = staged.rows }) ((reverse_member sealed window).1 there) extract_is in
+      at_extract (history staged.feed (reverse sealed)) (record { load = window.load; rows = staged.rows })
+      (history-newest_first staged.feed sealed (load_order raw.mapping hashes sealed has_sealed.valid)) member
 
-  read_at : (window : Window) → Contains state.sealed window → is_window held.mapping window ≡ true → (staged : Staged) → Contains window.extracts staged
-      → content_read held.mapping held.tables staged.feed window.load ≡ staged.rows
+  read_at : (window : Window) → Contains sealed window → is_window raw.mapping window ≡ true → (staged : Staged) → Contains window.extracts staged
+      → content_read raw.mapping raw.tables staged.feed window.load ≡ staged.rows
   read_at window there whole staged has =
-      let parts = window_parts held.mapping window whole in
-      let (definition, at) = definition_of held.mapping staged (passes (is_staged held.mapping) window.extracts parts.staged staged has) in
-      ap (λ (tables : List TableRows). content_read held.mapping tables staged.feed window.load) stands.tables_are
-      ∙ feed_tells held.mapping hashes state.sealed staged.feed definition valid windows_valid at (no_subs staged.feed definition at) window.load
+      let parts = window_parts raw.mapping window whole in
+      let (definition, at) = definition_of raw.mapping staged (passes_at (is_staged raw.mapping) window.extracts staged parts.staged has) in
+      ap (λ (tables : List TableRows). content_read raw.mapping tables staged.feed window.load) has_sealed.tables_are
+      ∙ feed_tells raw.mapping hashes sealed staged.feed definition valid has_sealed.valid at (no_subs staged.feed definition at) window.load
       ∙ content_at window there whole staged has
 
   -- a sealed window is what is read back for its head
-  pub read_again : (load : ℕ) (head : WindowHead) (window : Window) → window_at load state.sealed ≡ Some window → head_of window ≡ head → window_read held head ≡ window
+  pub read_again : (load : ℕ) (head : WindowHead) (window : Window) → window_at load sealed ≡ Some window → head_of window ≡ head → window_read raw head ≡ window
   read_again load head window at is =
-      let (there, test) = found_member (λ (window : Window). window.load == load) state.sealed window at in
-      let whole = windows_whole window there in
-      ap (window_read held) (sym is)
+      let (there, test) = found_member (λ (window : Window). window.load == load) sealed window at in
+      let whole = passes_at (is_window raw.mapping) sealed window (sealed_parts raw.mapping hashes sealed has_sealed.valid).whole there in
+      ap (window_read raw) (sym is)
       ∙ ap (λ (extracts : List Staged). record { load = window.load; extracts = extracts })
-      (made_again (λ feed. record { feed = feed; rows = content_read held.mapping held.tables feed window.load }) window.extracts
+      (made_again (λ feed. record { feed = feed; rows = content_read raw.mapping raw.tables feed window.load }) window.extracts
       (λ staged has. ap (λ (rows : List NRow). record { feed = staged.feed; rows = rows }) (read_at window there whole staged has)))
-    where
-      windows_whole : (window : Window) → Contains state.sealed window → is_window held.mapping window ≡ true
-      windows_whole window there =
-          let (e1, few) = and_parts _ (nat_le (length state.sealed) 10000) windows_valid in
-          let (e2, light) = and_parts _ (nat_le (vault_weight held.mapping hashes state.sealed) 1073741824) e1 in
-          let (e3, apart) = and_parts _ (is_none (collision held.mapping hashes state.sealed)) e2 in
-          let (ordered, windows) = and_parts (ascends (map (λ window. window.load) state.sealed)) (list_all (is_window held.mapping) state.sealed) e3 in
-          passes (is_window held.mapping) state.sealed windows window there

@@ -8,7 +8,7 @@ use Rattle.std.proofs.lemmas.List.{map-append, reverse-append, reverse-reverse}
 use Rattle.std.proofs.lemmas.List.Elements.{All-head, All-nil, All-cons, All-tail, Contains-append_cases, Contains-append_right}
 use Rattle.dv_text.specs.declared.rows.Window.{Window}
 use Rattle.dv_text.specs.Keys.{Hashes}
-use Rattle.dv_text.proofs.Members.{Contains-cons_cases, Contains-cons_here}
+use Rattle.dv_text.proofs.Members.{Contains-cons_cases, Contains-cons_here, map_member, reverse_member}
 use Rattle.dv_catalog.specs.declared.entries.FeedDef.{FeedDef}
 use Rattle.dv_catalog.specs.declared.entries.Parent.{Parent}
 use Rattle.dv_catalog.specs.declared.entries.Parent.TheVariants.{Hub, Link}
@@ -22,33 +22,24 @@ use Rattle.dv_records.specs.Collisions.{Collision, Pair, collision, collision_in
 use Rattle.dv_records.specs.Deliveries.{table_of}
 use Rattle.dv_records.specs.Deltas.{Hashed, HasNoClash, IsLeastClash}
 use Rattle.dv_records.specs.HubNames.{HubName}
-use Rattle.dv_records.specs.States.{State, all_windows, are_dates_valid, are_windows_valid, ascends, is_window}
+use Rattle.dv_records.specs.States.{are_windows_valid, ascends, is_window}
 use Rattle.dv_records.specs.Vault.{table_entry, vault}
 use Rattle.dv_records.specs.Weights.{vault_weight}
 use Rattle.dv_records.proofs.CollisionTies.{collision_free, none_collide}
-use Rattle.dv_records.proofs.Memberships.{map_member}
-use Rattle.dv_records.proofs.Reversing.{reverse_member}
 use Rattle.dv_records.proofs.ValidWindows.{hub_apart}
-use Rattle.dv_hub.proofs.WindowDeltas.{next_least as hub_least, next_none as hub_none}
-use Rattle.dv_link.specs.LinkDeltas.{TellLists}
-use Rattle.dv_link.proofs.WindowDeltas.{next_least as link_least, next_none as link_none}
-use Rattle.dv_window.specs.Offices.{Held, StandsFor}
-use Rattle.dv_window.specs.Plans.{AreApart, AreApartBy, IsFirstClash}
-use Rattle.dv_window.specs.Vaults.{hashed_in, hub_names}
-use Rattle.dv_window.proofs.NamedHubs.{hubs_named}
-use Rattle.dv_window.proofs.Passing.{all_pass, in_none, passes_at}
+use Rattle.dv_keys.proofs.HubWindows.{next_least as hub_least, next_none as hub_none}
+use Rattle.dv_keys.specs.LinkDeltas.{TellLists}
+use Rattle.dv_keys.proofs.LinkWindows.{next_least as link_least, next_none as link_none}
+use Rattle.dv_vault.specs.Additions.{AreApart, AreApartBy, IsFirstClash}
+use Rattle.dv_vault.specs.Vaults.{HasSealed, RawVault, hashed_in, hub_names}
+use Rattle.dv_vault.proofs.NamedHubs.{hubs_named}
+use Rattle.dv_vault.proofs.Passing.{all_pass, in_none, passes_at}
 
 -- windows with one more, the newest first and back again
 pub turned_back : (sealed : List Window) (window : Window) → reverse (window ∷ reverse sealed) ≡ sealed ++ window ∷ []
 turned_back sealed window =
     let turned : reverse (sealed ++ window ∷ []) ≡ window ∷ reverse sealed = reverse-append sealed (window ∷ []) in
     ap reverse (sym turned) ∙ reverse-reverse (sealed ++ window ∷ [])
-
--- what an office stands for has valid windows
-pub windows_stand : (hashes : Hashes) (state : State) (held : Held) → StandsFor hashes state held → are_windows_valid held.mapping hashes state.sealed ≡ true
-windows_stand hashes state held stands =
-    let (windows, dates) = and_parts (are_windows_valid held.mapping hashes (all_windows state)) (are_dates_valid held.mapping hashes state) stands.valid in
-    ap (are_windows_valid held.mapping hashes) (sym (ap (λ begun. state.sealed ++ option_to_list begun) stands.none_open ∙ append-nil state.sealed)) ∙ windows
 
 -- ---- the hubs and the links come first among the tables
 
@@ -236,19 +227,19 @@ module _ (mapping : Mapping) (hashes : Hashes) (sealed : List Window) (window : 
         first_is (parents mapping) (sealed_parts mapping hashes sealed windows_valid).free (map entry_at (feed_tables 0 mapping.feeds)) bare_rest clash.before clash.entry clash.behind (sym split_vault ∙ clash.split) clash.none_before pair clash.is
         ∙ ap (λ (table : TableId). Some (record { table = table; pair = pair })) clash.is_table
 
--- ---- an office
+-- ---- a vault
 
-module _ (hashes : Hashes) (state : State) (held : Held) (stands : StandsFor hashes state held) (valid : is_valid held.mapping ≡ true) (window : Window) where
+module _ (hashes : Hashes) (sealed : List Window) (raw : RawVault) (has : HasSealed hashes sealed raw) (valid : is_valid raw.mapping ≡ true) (window : Window) where
   -- where no table has a clash, the sealed windows and the new one don't collide
-  pub apart_is_free : AreApart hashes held window held.tables → collision held.mapping hashes (state.sealed ++ window ∷ []) ≡ None
+  pub apart_is_free : AreApart hashes raw window → collision raw.mapping hashes (sealed ++ window ∷ []) ≡ None
   apart_is_free apart =
-      (none_collide held.mapping hashes (state.sealed ++ window ∷ [])).1
-      (stay_free held.mapping hashes state.sealed window valid (windows_stand hashes state held stands)
-      (subst (λ (tables : List TableRows). AreApartBy held.mapping hashes (hub_names held.mapping tables) window tables) stands.tables_are apart))
+      (none_collide raw.mapping hashes (sealed ++ window ∷ [])).1
+      (stay_free raw.mapping hashes sealed window valid has.valid
+      (subst (λ (tables : List TableRows). AreApartBy raw.mapping hashes (hub_names raw.mapping tables) window tables) has.tables_are apart))
 
   -- and the first table with a clash is the first that collides, in the least pair there
-  pub clash_collides : (table : TableId) (pair : Pair) → IsFirstClash held.mapping hashes (hub_names held.mapping held.tables) window held.tables table pair
-      → collision held.mapping hashes (state.sealed ++ window ∷ []) ≡ Some (record { table = table; pair = pair })
+  pub clash_collides : (table : TableId) (pair : Pair) → IsFirstClash raw.mapping hashes (hub_names raw.mapping raw.tables) window raw.tables table pair
+      → collision raw.mapping hashes (sealed ++ window ∷ []) ≡ Some (record { table = table; pair = pair })
   clash_collides table pair clash =
-      first_clash held.mapping hashes state.sealed window valid (windows_stand hashes state held stands) table pair
-      (subst (λ (tables : List TableRows). IsFirstClash held.mapping hashes (hub_names held.mapping tables) window tables table pair) stands.tables_are clash)
+      first_clash raw.mapping hashes sealed window valid has.valid table pair
+      (subst (λ (tables : List TableRows). IsFirstClash raw.mapping hashes (hub_names raw.mapping tables) window tables table pair) has.tables_are clash)

@@ -1,9 +1,3 @@
-pub mod Keeping
-pub mod Lengths
-pub mod NamesApart
-pub mod Offered
 pub mod Offices
 pub mod Plans
-pub mod Staging
 pub mod Stopping
-pub mod Vaults

@@ -1,8 +1,6 @@
 -- An office: what it holds of the warehouse, and what its answers say of the state that it stands for.
-use Rattle.std.specs.Prelude.{◌≡◌, ℕ, ◌-◌, ◌==◌, nat_lt, Bool, true, List, [], ◌∷◌, Ok, Option, None, Some, length, map, slice_get}
-use Rattle.std.specs.List.{list_all}
-use Rattle.std.specs.Option.{option_map, option_map_or}
-use Rattle.dv_text.specs.declared.rows.WindowHead.{WindowHead}
+use Rattle.std.specs.Prelude.{◌≡◌, ℕ, Bool, true, false, List, [], Ok, Option, None, Some}
+use Rattle.dv_text.specs.declared.rows.Window.{Window}
 use Rattle.dv_text.specs.Keys.{Hashes}
 use Rattle.dv_text.specs.Told.{Told}
 use Rattle.dv_catalog.specs.declared.windows.WindowIn.{WindowIn}
@@ -12,54 +10,41 @@ use Rattle.dv_catalog.specs.Windows.{window_of}
 use Rattle.dv_records.specs.declared.answers.LoadAnswer.{LoadAnswer}
 use Rattle.dv_records.specs.declared.answers.LoadAnswer.TheVariants as load
 use Rattle.dv_records.specs.declared.answers.Outcome.TheVariants as outcomes
-use Rattle.dv_records.specs.declared.stores.Rows.{Rows}
 use Rattle.dv_records.specs.declared.stores.Store.{Store}
-use Rattle.dv_records.specs.declared.stores.TableRows.{TableRows}
 use Rattle.dv_records.specs.Loads.{loaded}
 use Rattle.dv_records.specs.Outcomes.{outcome}
 use Rattle.dv_records.specs.Standing.{HasTables, IsMappedBy}
-use Rattle.dv_records.specs.States.{State, head_of, is_valid_state}
+use Rattle.dv_records.specs.States.{State, is_valid_state}
 use Rattle.dv_records.specs.Steps.{sealed_with}
-use Rattle.dv_records.specs.Stores.{row_count, rows_then}
-use Rattle.dv_records.specs.Vault.{vault}
-use Rattle.dv_window.specs.Vaults.{are_up_to}
+use Rattle.dv_vault.specs.Vaults.{HasSealed, RawVault}
 
--- what an office holds: the mapping, the raw tables with their rows, and the heads of the sealed windows, in order
+-- what an office holds: the vault of the sealed windows, the open window, the dates of the snapshots, and whether its
+-- keeper may have more than it knows
 pub record Held : Type 0 where
-  pub mapping : Mapping
-  pub tables : List TableRows
-  pub heads : List WindowHead
+  pub vault : RawVault
+  pub begun : Option Window
+  pub dates : List ℕ
+  pub stale : Bool
 
--- the load date of the last head
-abbrev pub last_head : List WindowHead → Option ℕ
-last_head heads = option_map (λ head. head.load) (slice_get heads (length heads - 1))
-
--- no table has rows
-abbrev pub are_empty : List TableRows → Bool
-are_empty tables = list_all (λ entry. row_count entry.rows == 0) tables
-
--- no row is later than the last head; none where there is no head
-abbrev pub are_rows_kept : List WindowHead → List TableRows → Bool
-are_rows_kept heads tables = option_map_or (λ last. are_up_to last tables) (last_head heads) (are_empty tables)
-
--- the feeds of heads are in the mapping
-abbrev pub are_heads_of : Mapping → List WindowHead → Bool
-are_heads_of mapping heads = list_all (λ head. list_all (λ feed. nat_lt feed (length mapping.feeds)) head.feeds) heads
-
--- an office stands for a valid state with no window open and no snapshots
+-- an office stands for a state, which is valid
 pub record StandsFor (hashes : Hashes) (state : State) (held : Held) : Type 0 where
-  pub valid : is_valid_state held.mapping hashes state ≡ true
-  pub none_open : state.begun ≡ None
-  pub no_dates : state.dates ≡ []
-  pub tables_are : held.tables ≡ vault held.mapping hashes state.sealed
-  pub heads_are : held.heads ≡ map head_of state.sealed
+  pub valid : is_valid_state held.vault.mapping hashes state ≡ true
+  pub sealed_are : HasSealed hashes state.sealed held.vault
+  pub begun_is : held.begun ≡ state.begun
+  pub dates_are : held.dates ≡ state.dates
 
--- a store has what an office holds, and no window open
+-- no window is open, there are no snapshots, and the office isn't stale
+pub record IsAtRest (held : Held) : Type 0 where
+  pub none_open : held.begun ≡ None
+  pub no_dates : held.dates ≡ []
+  pub not_stale : held.stale ≡ false
+
+-- a store has what an office holds
 pub record Agrees (held : Held) (store : Store) : Type 0 where
-  pub mapped : IsMappedBy held.mapping store.mapping
-  pub windows : store.windows ≡ held.heads
-  pub none_open : store.stage ≡ None
-  pub tables_are : HasTables store held.tables
+  pub mapped : IsMappedBy held.vault.mapping store.mapping
+  pub windows : store.windows ≡ held.vault.heads
+  pub stage : store.stage ≡ held.begun
+  pub tables_are : HasTables store held.vault.tables
 
 -- a store has a mapping in which every form is built, and nothing else
 pub record IsNew (store : Store) : Type 0 where
@@ -83,7 +68,7 @@ AnswerSays mapping hashes state given load.Memory = Unit {0}
 -- what an office holds after the answer: with `Loaded` it stands for the state with the window sealed, and else it is as
 -- before
 abbrev pub OfficeAfter : Hashes → State → WindowIn → Held → LoadAnswer → Held → Type 0
-OfficeAfter hashes state given held (load.Loaded rows) held' = StandsFor hashes (sealed_with (window_of held.mapping given) state) held'
+OfficeAfter hashes state given held (load.Loaded rows) held' = StandsFor hashes (sealed_with (window_of held.vault.mapping given) state) held'
 OfficeAfter hashes state given held answer held' = held' ≡ held
 
 -- what the keeper's store has after the answer: with `Loaded` it agrees again, and it is as before where nothing was loaded
@@ -93,11 +78,3 @@ StoreAfter held' before load.Repeated after = after ≡ before
 StoreAfter held' before (load.Refused rule) after = after ≡ before
 StoreAfter held' before load.KeeperFault after = Unit {0}
 StoreAfter held' before load.Memory after = Unit {0}
-
--- ---- a keeper that takes a window
-
--- tables with the rows of batches behind theirs
-abbrev pub entries_with : List TableRows → List Rows → List TableRows
-entries_with [] batches = []
-entries_with (entry ∷ entries) [] = entry ∷ entries
-entries_with (entry ∷ entries) (rows ∷ batches) = record { table = entry.table; rows = rows_then entry.rows rows } ∷ entries_with entries batches

@@ -1,35 +1,33 @@
-ghost use Rattle.std.specs.Prelude.{◌≡◌, None};
-ghost use Rattle.dv_catalog.specs.Built.{unbuilt};
-ghost use Rattle.dv_window.specs.Offices as spec;
-ghost use Rattle.dv_window.specs.Vaults.{IsVaultOf, entries_of};
+ghost use Rattle.std.specs.Prelude.{◌≡◌, ◌<◌, IfOk, IsTrue, length};
+ghost use Rattle.dv_records.specs.ReadBack.{content_read};
+ghost use Rattle.dv_vault.specs.Vaults.{IsBuilt, are_heads_of, last_head};
 
-use crate::vaults::Vault;
 use dv_catalog::Catalog;
-use dv_text::{List, Stamp, WindowHead};
+use dv_text::{List, Memory, NRow, Stamp, Window, WindowHead};
+use dv_vault::Vault;
+use std::alloc::Global;
 use std::marker::Model;
 
-/// What loads windows: the mapping, the vault of the sealed windows, and their heads. Contracts see these.
+/// What loads windows: the vault of the sealed ones, the open one, the dates of the snapshots, and whether its
+/// keeper may have more than it knows. Contracts see these. So far no window stays open, and there are no
+/// snapshots.
 #[derive(Drop)]
 pub struct Office {
-    pub(crate) catalog: Catalog,
     pub(crate) vault: Vault,
-    pub(crate) heads: List<WindowHead>,
-    pub(crate) weight: u64,
+    pub(crate) begun: Option<Window>,
+    pub(crate) dates: List<Stamp>,
+    pub(crate) stale: bool,
 }
 
 impl Model for Office {
-    ghost use Rattle.std.specs.Prelude.{◌≡◌, IsTrue, None};
-    ghost use Rattle.dv_catalog.specs.Built.{unbuilt};
-    ghost use Rattle.dv_records.specs.Weights.{tables_weight};
-    ghost use Rattle.dv_window.specs.Offices.{Held, are_heads_of, are_rows_kept};
-    ghost use Rattle.dv_window.specs.Vaults.{IsVaultOf, entries_of};
+    ghost use Rattle.std.specs.Prelude.{◌≡◌, [], None, false};
+    ghost use Rattle.dv_window.specs.Offices.{Held};
 
     ghost Value = { Held };
 
-    ghost view = { λ o. record { mapping = o.catalog; tables = entries_of o.vault; heads = o.heads } };
+    ghost view = { λ o. record { vault = o.vault; begun = o.begun; dates = o.dates; stale = o.stale } };
 
-    ghost invariant = { λ o. IsVaultOf o.catalog (entries_of o.vault) × (unbuilt o.catalog ≡ None)
-        × IsTrue (are_rows_kept o.heads (entries_of o.vault)) × IsTrue (are_heads_of o.catalog o.heads) × (o.weight ≡ tables_weight (entries_of o.vault)) };
+    ghost invariant = { λ o. (o.begun ≡ None) × (o.dates ≡ []) × (o.stale ≡ false) };
 }
 
 /// The order in which the tasks of a window are worked through.
@@ -48,34 +46,42 @@ pub enum StartFault {
 }
 
 impl Office {
-    /// The mapping. Takes no memory.
+    /// The mapping, in which every form is built. Takes no memory.
     pub fn catalog(&self) -> &Catalog
-        ensures { result.now ≡ self.now.mapping }
+        ensures value { result.now ≡ self.now.vault.mapping }
+        ensures built { IsBuilt self.now.vault.mapping }
     {
-        &self.catalog
+        self.vault.catalog()
     }
 
     /// The vault of the sealed windows. Takes no memory.
     pub fn vault(&self) -> &Vault
-        ensures tables { entries_of result.now ≡ self.now.tables }
-        ensures order { IsVaultOf self.now.mapping self.now.tables }
-        ensures built { unbuilt self.now.mapping ≡ None }
+        ensures { result.now ≡ self.now.vault }
     {
         &self.vault
     }
 
     /// The heads of the sealed windows, in order. Takes no memory.
     pub fn heads(&self) -> &List<WindowHead>
-        ensures { result.now ≡ self.now.heads }
+        ensures value { result.now ≡ self.now.vault.heads }
+        ensures feeds { IsTrue (are_heads_of self.now.vault.mapping self.now.vault.heads) }
     {
-        &self.heads
+        self.vault.heads()
     }
 
     /// The load date of the last sealed window; none where none is sealed. Takes no memory.
     pub fn last(&self) -> Option<Stamp>
-        ensures { result ≡ spec.last_head self.now.heads }
+        ensures { result ≡ last_head self.now.vault.heads }
     {
-        let head = self.heads.items().last()?;
-        Some(head.load)
+        self.vault.last()
+    }
+
+    /// The rows of a feed in the last sealed window that has the feed and is not later than the date, read
+    /// back from the vault, by references, then attributes. Condition: the feed is in the mapping.
+    pub fn content(&self, alloc: Global, feed: u32, date: Stamp) -> Result<List<NRow>, Memory>
+        requires { feed < length self.now.vault.mapping.feeds }
+        ensures { IfOk result (λ rows. rows ≡ content_read self.now.vault.mapping self.now.vault.tables feed date) }
+    {
+        self.vault.content(alloc, feed, date)
     }
 }

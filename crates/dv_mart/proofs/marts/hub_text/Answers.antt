@@ -1,17 +1,21 @@
-use Rattle.std.proofs.Common.{◌∙◌}
+use Rattle.std.proofs.Common.{◌≡◌, ◌<◌, ◌∙◌, length, refl, subst, sym}
 use Rattle.std.proofs.lemmas.Result.{IfOk-weaker}
-use Rattle.dv_mart.proofs.OfficeMarts.{hub_said, hub_within, table_there}
+use Rattle.dv_catalog.specs.declared.tables.TableId.TheVariants.{Hub}
+use Rattle.dv_catalog.specs.Entries.{Mapping}
+use Rattle.dv_records.specs.declared.stores.Rows.TheVariants.{Hubs}
+use Rattle.dv_records.specs.ReadBack.{hub_rows}
+use Rattle.dv_mart.proofs.VaultMarts.{hub_within, said}
 use Rattle.dv_mart.proofs.marts.hub_text.Goals as goal
 
 pub hub-table-requires : goal.hub-table-requires
-hub-table-requires c = table_there c.args.office.now.mapping c.args.office.now.tables _ c.vault.ensures.order c.vault.ensures.tables _ c.requires
+hub-table-requires c = hub_within c.args.vault.now.mapping c.args.hub c.requires
 
 pub hub_table_text-requires : goal.hub_table_text-requires
-hub_table_text-requires c = hub_within c.args.office.now.mapping _ c.catalog.ensures c.args.hub c.requires
+hub_table_text-requires c = subst (λ (m : Mapping). c.args.hub < length m.hubs) (sym c.catalog.ensures.value) (hub_within c.args.vault.now.mapping c.args.hub c.requires)
 
 pub returns : goal.returns
 returns c =
     IfOk-weaker c.hub_table_text.result _ _
-    (λ text is. λ hashes state stands.
-    is ∙ hub_said hashes state c.args.office.now stands _ c.catalog.ensures _ c.vault.ensures.tables c.args.date c.args.hub c.requires _ (c.rows.ensures.value ∙ c.hub-table.ensures))
+    (λ text is. λ hashes sealed has.
+    is ∙ said hashes sealed c.args.vault.now has c.args.date (Hub c.args.hub) Hubs hub_rows c.requires refl _ (c.rows.ensures.value ∙ c.hub-table.ensures) _ c.catalog.ensures.value)
     c.hub_table_text.ensures

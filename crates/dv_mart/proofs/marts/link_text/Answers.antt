@@ -1,17 +1,21 @@
-use Rattle.std.proofs.Common.{◌∙◌}
+use Rattle.std.proofs.Common.{◌≡◌, ◌<◌, ◌∙◌, length, refl, subst, sym}
 use Rattle.std.proofs.lemmas.Result.{IfOk-weaker}
-use Rattle.dv_mart.proofs.OfficeMarts.{link_said, link_within, table_there}
+use Rattle.dv_catalog.specs.declared.tables.TableId.TheVariants.{Link}
+use Rattle.dv_catalog.specs.Entries.{Mapping}
+use Rattle.dv_records.specs.declared.stores.Rows.TheVariants.{Links}
+use Rattle.dv_records.specs.ReadBack.{link_rows}
+use Rattle.dv_mart.proofs.VaultMarts.{link_within, said}
 use Rattle.dv_mart.proofs.marts.link_text.Goals as goal
 
 pub link-table-requires : goal.link-table-requires
-link-table-requires c = table_there c.args.office.now.mapping c.args.office.now.tables _ c.vault.ensures.order c.vault.ensures.tables _ c.requires
+link-table-requires c = link_within c.args.vault.now.mapping c.args.link c.requires
 
 pub link_table_text-requires : goal.link_table_text-requires
-link_table_text-requires c = link_within c.args.office.now.mapping _ c.catalog.ensures c.args.link c.requires
+link_table_text-requires c = subst (λ (m : Mapping). c.args.link < length m.links) (sym c.catalog.ensures.value) (link_within c.args.vault.now.mapping c.args.link c.requires)
 
 pub returns : goal.returns
 returns c =
     IfOk-weaker c.link_table_text.result _ _
-    (λ text is. λ hashes state stands.
-    is ∙ link_said hashes state c.args.office.now stands _ c.catalog.ensures _ c.vault.ensures.tables c.args.date c.args.link c.requires _ (c.rows.ensures.value ∙ c.link-table.ensures))
+    (λ text is. λ hashes sealed has.
+    is ∙ said hashes sealed c.args.vault.now has c.args.date (Link c.args.link) Links link_rows c.requires refl _ (c.rows.ensures.value ∙ c.link-table.ensures) _ c.catalog.ensures.value)
     c.link_table_text.ensures

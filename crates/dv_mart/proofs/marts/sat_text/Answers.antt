@@ -1,20 +1,21 @@
-use Rattle.std.proofs.Common.{◌∙◌, sym}
-use Rattle.std.proofs.lemmas.Bool.{false≢true}
+use Rattle.std.proofs.Common.{◌≡◌, ◌<◌, ◌∙◌, length, refl, subst, sym}
 use Rattle.std.proofs.lemmas.Result.{IfOk-weaker}
-use Rattle.dv_mart.proofs.OfficeMarts.{sat_said, sat_within, table_there}
+use Rattle.dv_catalog.specs.declared.tables.TableId.TheVariants.{Sat}
+use Rattle.dv_catalog.specs.Entries.{Mapping}
+use Rattle.dv_records.specs.declared.stores.Rows.TheVariants.{Sats}
+use Rattle.dv_records.specs.ReadBack.{sat_rows}
+use Rattle.dv_mart.proofs.VaultMarts.{said, sat_within}
 use Rattle.dv_mart.proofs.marts.sat_text.Goals as goal
 
 pub sat_table_text-requires : goal.sat_table_text-requires
-sat_table_text-requires c = sat_within c.args.office.now.mapping _ c.catalog.ensures c.args.feed c.requires
+sat_table_text-requires c = subst (λ (m : Mapping). c.args.feed < length m.feeds) (sym c.catalog.ensures.value) (sat_within c.args.vault.now.mapping c.args.feed c.requires)
 
 pub unreachable-requires : goal.unreachable-requires
-unreachable-requires c =
-    false≢true
-    (sym (c.in-None.ensures {u = tt}).none ∙ table_there c.args.office.now.mapping c.args.office.now.tables _ c.vault.ensures.order c.vault.ensures.tables _ c.requires)
+unreachable-requires c = (c.in-None.ensures {u = tt}).absent c.requires
 
 pub returns : goal.returns
 returns c =
     IfOk-weaker c.sat_table_text.result _ _
-    (λ text is. λ hashes state stands.
-    is ∙ sat_said hashes state c.args.office.now stands _ c.catalog.ensures _ c.vault.ensures.tables c.args.date c.args.feed c.requires _ (c.rows.ensures.value ∙ (c.in-Some.ensures {u = tt}).some))
+    (λ text is. λ hashes sealed has.
+    is ∙ said hashes sealed c.args.vault.now has c.args.date (Sat c.args.feed) Sats sat_rows c.requires refl _ (c.rows.ensures.value ∙ (c.in-Some.ensures {u = tt}).rows) _ c.catalog.ensures.value)
     c.sat_table_text.ensures

@@ -1,10 +1,10 @@
 use Rattle.std.proofs.Common.{◌≡◌, ◌∙◌, ap, sym, inl, inr, true}
 use Rattle.std.proofs.lemmas.Bool.{false≢true}
-use Rattle.dv_window.specs.Vaults.{is_kept}
+use Rattle.dv_vault.specs.Vaults.{is_kept}
 use Rattle.dv_mart.proofs.OfferedTables.{named_kept}
 use Rattle.dv_mart.proofs.marts.table_text.Goals as goal
 
 pub unreachable-requires : goal.unreachable-requires
 unreachable-requires c =
-    let kept = named_kept c.args.office.now.mapping c.args.table c.vault-vault.ensures.built c.requires in
+    let kept = named_kept c.args.vault.now.mapping c.args.table c.note_built.ensures.built c.requires in
     elim c.in-Multi.is [ inl multi ↦ false≢true (sym (ap is_kept multi.1) ∙ kept) | inr effect ↦ false≢true (sym (ap is_kept effect.1) ∙ kept) ]

@@ -6,4 +6,4 @@ use Rattle.dv_window.proofs.plans.read_back.Given as goal
 abbrev pub invariant-loop-feed : goal.invariant-loop-feed
 invariant-loop-feed l =
     l.extracts
-    ≡ map (λ feed. record { feed = feed; rows = content_read l.office.mapping l.office.tables feed l.head.load }) (take l.feed-index l.feed-items)
+    ≡ map (λ feed. record { feed = feed; rows = content_read l.vault.mapping l.vault.tables feed l.head.load }) (take l.feed-index l.feed-items)

@@ -1,50 +1,28 @@
-use Rattle.std.proofs.Common.{rules, ◌≡◌, ◌∙◌, ap, inr, true, sym, subst, length}
+use Rattle.std.proofs.Common.{◌∙◌, ap, inr, length, subst, sym}
 use Rattle.dv_text.specs.declared.rows.Window.{Window}
 use Rattle.dv_text.specs.Keys.{hashes_of}
-use Rattle.dv_catalog.specs.Windows.{window_of}
 use Rattle.dv_records.specs.Outcomes.{full_at, late_after}
-use Rattle.dv_records.specs.Weights.{tables_weight}
-use Rattle.dv_window.specs.Offices.{Held, are_rows_kept, last_head}
-use Rattle.dv_window.specs.Plans.{AreApart, all_added, weight_with}
-use Rattle.dv_window.proofs.PlanFacts.{not_late, rows_not_later, weighs}
+use Rattle.dv_vault.specs.Additions.{IsAddition}
+use Rattle.dv_vault.specs.Vaults.{last_head}
+use Rattle.dv_window.specs.Offices.{Held}
+use Rattle.dv_window.proofs.PlanFacts.{not_late}
 use Rattle.dv_window.proofs.offices.Office.plan_new.Goals as goal
 
-pub batches-requires-clause-dated : goal.batches-requires-clause-dated
-batches-requires-clause-dated g c κs within =
-    rows_not_later c.args.self.now.heads c.args.self.now.tables c.args.window.load
-    (subst (λ (held : Held). are_rows_kept held.heads held.tables ≡ true) c.self.view_is c.self.invariant.2)
-    (ap (λ (window : Window). late_after (last_head c.args.self.now.heads) window.load) c.requires.window ∙ not_late c.args.self.now c.args.given.now c.requires.passes)
+pub addition-requires-clause-later : goal.addition-requires-clause-later
+addition-requires-clause-later g c κs within =
+    ap (λ (held : Held). late_after (last_head held.vault.heads) c.args.window.load) c.self.view_is
+    ∙ ap (λ (window : Window). late_after (last_head c.args.self.now.vault.heads) window.load) c.requires.window
+    ∙ not_late c.args.self.now.vault c.args.given.now c.requires.passes
 
 pub returns-in-Some-clause-stops : goal.returns-in-Some-clause-stops
 returns-in-Some-clause-stops g c =
+    let raw = c.args.self.now.vault in
     let hashes = hashes_of g.H.KeyDigest.digest_of g.H.KeyDigest.size in
-    let given = window_of c.args.self.now.mapping c.args.given.now in
-    let added : c.in_ok-batches.batches ≡ all_added hashes c.args.self.now given = (c.in_ok-batches.ensures {u = tt}).rows ∙ ap (all_added hashes c.args.self.now) c.requires.window in
-    let before : c.self.inside.weight ≡ tables_weight c.args.self.now.tables = c.self.invariant.4 ∙ ap (λ (held : Held). tables_weight held.tables) c.self.view_is in
-    let weight : c.in_ok-weight.weight ≡ weight_with hashes c.args.self.now given =
-    weighs hashes c.args.self.now given c.self.inside.weight c.in_ok-weight.weight c.in_ok-batches.batches c.items-2.result.now before added c.items-2.ensures (c.in_ok-weight.ensures {u = tt}) in
-    let count : c.in_ok-windows.windows ≡ length c.args.self.now.heads = c.in_ok-windows.ensures {u = tt} ∙ ap length c.items-3.ensures ∙ ap (λ (held : Held). length held.heads) c.self.view_is in
+    let adds : IsAddition hashes raw c.args.window c.in_ok-addition.addition = subst (λ (held : Held). IsAddition hashes held.vault c.args.window c.in_ok-addition.addition) c.self.view_is (c.in_ok-addition.ensures {u = tt}).adds in
+    let here = subst (λ (window : Window). IsAddition hashes raw window c.in_ok-addition.addition) c.requires.window adds in
+    let count = c.in_ok-windows.ensures {u = tt} ∙ ap length (c.items.ensures ∙ c.heads.ensures.value) in
     inr (inr (inr (record {
       passes = c.requires.passes;
-      apart = subst (λ (window : Window). AreApart hashes c.args.self.now window c.args.self.now.tables) c.requires.window (c.in_ok-batches.ensures {u = tt}).apart;
-      rule_is = ap (λ weight. full_at weight (length c.args.self.now.heads)) (sym weight) ∙ ap (full_at c.in_ok-weight.weight) (sym count) ∙ sym c.too_full.ensures ∙ c.in-Some.is;
+      apart = here.apart;
+      rule_is = ap (λ weight. full_at weight (length raw.heads)) (sym here.weight_is) ∙ ap (full_at c.in_ok-addition.addition.weight) (sym count) ∙ sym c.too_full.ensures ∙ c.in-Some.is;
     })))
-
-pub returns-clause-plan : goal.returns-clause-plan
-returns-clause-plan g c =
-    let hashes = hashes_of g.H.KeyDigest.digest_of g.H.KeyDigest.size in
-    let given = window_of c.args.self.now.mapping c.args.given.now in
-    let added : c.in_ok-batches.batches ≡ all_added hashes c.args.self.now given = (c.in_ok-batches.ensures {u = tt}).rows ∙ ap (all_added hashes c.args.self.now) c.requires.window in
-    let before : c.self.inside.weight ≡ tables_weight c.args.self.now.tables = c.self.invariant.4 ∙ ap (λ (held : Held). tables_weight held.tables) c.self.view_is in
-    let weight : c.in_ok-weight.weight ≡ weight_with hashes c.args.self.now given =
-    weighs hashes c.args.self.now given c.self.inside.weight c.in_ok-weight.weight c.in_ok-batches.batches c.items-2.result.now before added c.items-2.ensures (c.in_ok-weight.ensures {u = tt}) in
-    let count : c.in_ok-windows.windows ≡ length c.args.self.now.heads = c.in_ok-windows.ensures {u = tt} ∙ ap length c.items-3.ensures ∙ ap (λ (held : Held). length held.heads) c.self.view_is in
-    record {
-      passes = c.requires.passes;
-      window_is = c.requires.window;
-      batches_are = added;
-      apart = subst (λ (window : Window). AreApart hashes c.args.self.now window c.args.self.now.tables) c.requires.window (c.in_ok-batches.ensures {u = tt}).apart;
-      not_full = ap (λ weight. full_at weight (length c.args.self.now.heads)) (sym weight) ∙ ap (full_at c.in_ok-weight.weight) (sym count) ∙ sym c.too_full.ensures ∙ c.in_default.is;
-      rows_are = search rules;
-      weight_is = weight;
-    }

@@ -1,7 +1,6 @@
 use Rattle.std.proofs.Common.{◌≡◌, ◌∙◌, None, sym, true, subst}
 use Rattle.dv_text.specs.declared.rows.Window.{Window}
 use Rattle.dv_catalog.specs.Entries.{Mapping}
-use Rattle.dv_catalog.specs.Mappings.{is_valid}
 use Rattle.dv_catalog.specs.Windows.{window_of, window_rule}
 use Rattle.dv_records.specs.States.{is_window}
 use Rattle.dv_window.proofs.PlanFacts.{early_none, read_whole}
@@ -9,8 +8,8 @@ use Rattle.dv_window.proofs.offices.Office.window_of.Goals as goal
 
 pub returns-clause-whole : goal.returns-clause-whole
 returns-clause-whole c =
-    let valid : is_valid c.args.self.now.mapping ≡ true = subst (λ (mapping : Mapping). is_valid mapping ≡ true) c.catalog-catalog.ensures c.feed_count-feeds.ensures.valid in
-    let read : (window_rule c.args.self.now.mapping c.args.given.now ≡ None) × (c.in_ok-window.window ≡ window_of c.args.self.now.mapping c.args.given.now) =
-    subst (λ (mapping : Mapping). (window_rule mapping c.args.given.now ≡ None) × (c.in_ok-window.window ≡ window_of mapping c.args.given.now)) c.catalog-catalog.ensures (c.in_ok-window.ensures {u = tt}).ok in
-    let early = early_none c.args.self.now c.args.given.now (sym (c.in_ok-rule.ensures {u = tt}) ∙ c.in_default.is) read.0 in
-    subst (λ (window : Window). is_window c.args.self.now.mapping window ≡ true) (sym read.1) (read_whole c.args.self.now c.args.given.now valid early)
+    let raw = c.args.self.now.vault in
+    let read : (window_rule raw.mapping c.args.given.now ≡ None) × (c.in_ok-window.window ≡ window_of raw.mapping c.args.given.now) =
+    subst (λ (mapping : Mapping). (window_rule mapping c.args.given.now ≡ None) × (c.in_ok-window.window ≡ window_of mapping c.args.given.now)) c.catalog-catalog.ensures.value (c.in_ok-window.ensures {u = tt}).ok in
+    let early = early_none raw c.args.given.now (sym (c.in_ok-rule.ensures {u = tt}) ∙ c.in_default.is) read.0 in
+    subst (λ (window : Window). is_window raw.mapping window ≡ true) (sym read.1) (read_whole raw c.args.given.now c.catalog-catalog.ensures.built.valid early)

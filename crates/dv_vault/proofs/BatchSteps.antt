@@ -1,0 +1,240 @@
+-- Tables and their batches, one table after the other.
+use Rattle.std.proofs.Common.{◌≡◌, ℕ, ◌+◌, ◌<◌, ◌≤◌, ◌==◌, Bool, true, false, List, [], ◌∷◌, ◌++◌, refl, sym, ◌∙◌, ap, subst, arith, add-one, append-nil, drop, drop-cons, get_or, length, map, not, slice_set, suc, take, zero}
+use Rattle.std.specs.Prelude.{◌||◌, if◌then◌else◌}
+use Rattle.std.specs.List.{AllZip, list_any}
+use Rattle.std.proofs.lemmas.Bool.{and_parts}
+use Rattle.std.proofs.lemmas.Bool.Decides.{nat_tests}
+use Rattle.std.proofs.lemmas.List.{drop-set-lt, take_more, take_more_set}
+use Rattle.dv_catalog.specs.declared.tables.TableId.{TableId}
+use Rattle.dv_catalog.specs.declared.tables.TableId.TheVariants as ids
+use Rattle.dv_records.specs.declared.stores.Rows.{Rows}
+use Rattle.dv_records.specs.declared.stores.Rows.TheVariants as of
+use Rattle.dv_records.specs.declared.stores.TableRows.{TableRows}
+use Rattle.dv_records.specs.Stores.{appended_to, are_apart, is_of_kind, no_rows, row_count, rows_in, rows_then, table_eq}
+use Rattle.dv_vault.specs.declared.tables.Table.{Table}
+use Rattle.dv_vault.specs.Keeping.{HaveRoom}
+use Rattle.dv_vault.specs.Vaults.{Follow, entry_of, spare_of, entries_with}
+use Rattle.dv_records.proofs.WellFormedTables.{same_table}
+use Rattle.dv_vault.proofs.VaultFacts.{table_itself}
+
+-- ---- pairs
+
+pub pairs_push : {A B : Type 0} (R : A → B → Type 0) (xs : List A) (ys : List B) (x : A) (y : B) → AllZip R xs ys → R x y → AllZip R (xs ++ x ∷ []) (ys ++ y ∷ [])
+pairs_push R [] [] x y all r = (r, tt)
+pairs_push R [] (b ∷ ys) x y all r = absurd all
+pairs_push R (a ∷ xs) [] x y all r = absurd all
+pairs_push R (a ∷ xs) (b ∷ ys) x y all r = (all.0, pairs_push R xs ys x y all.1 r)
+
+pub pairs_more : {A B : Type 0} (R : A → B → Type 0) (xs : List A) (ys : List B) (i : ℕ) (x : A) (y : B) → i < length xs → i < length ys → get_or ys i y ≡ y → R x y
+    → AllZip R (take i xs) (take i ys) → AllZip R (take (i + 1) (slice_set xs i x)) (take (i + 1) ys)
+pairs_more R xs ys i x y h k is r all =
+    let more : take (i + 1) ys ≡ take i ys ++ y ∷ [] = take_more ys i y k ∙ ap (λ z. take i ys ++ z ∷ []) is in
+    rw (take_more_set xs i x h, more) (pairs_push R (take i xs) (take i ys) x y all r)
+
+pub pair_at : {A B : Type 0} (R : A → B → Type 0) (xs : List A) (ys : List B) (i : ℕ) (x : A) (y : B) → AllZip R xs ys → i < length xs → get_or xs i x ≡ x → get_or ys i y ≡ y → R x y
+pair_at R [] ys i x y all h at is = absurd (omega (arith, h))
+pair_at R (a ∷ xs) [] i x y all h at is = absurd all
+pair_at R (a ∷ xs) (b ∷ ys) zero x y all h at is = subst (λ b. R x b) is (subst (λ a. R a b) at all.0)
+pair_at R (a ∷ xs) (b ∷ ys) (suc i) x y all h at is = pair_at R xs ys i x y all.1 (omega (arith, h)) at is
+
+pub whole : {X : Type 0} (n : ℕ) (l : List X) → length l ≤ n → (take n l ≡ l) × (drop n l ≡ [])
+whole zero [] h = (refl, refl)
+whole (suc n) [] h = (refl, refl)
+whole zero (t ∷ l) h = absurd (omega (arith, h))
+whole (suc n) (t ∷ l) h =
+    let (taken, dropped) = whole n l (omega (arith, h)) in
+    (ap (λ l. t ∷ l) taken, dropped)
+
+-- ---- batches that are put behind the rows of tables
+
+-- the batches that are left fit the tables from a place on, and with those before them the tables are as they should be
+pub record IsUnder (first : List Table) (all : List Rows) (now : List Table) (i : ℕ) (left : List Rows) (count : ℕ) : Type 0 where
+  pub counted : count ≡ length left
+  pub room : AllZip (λ table rows. row_count rows ≤ spare_of table) (drop i now) left
+  pub follow : AllZip Follow (map (λ table. (entry_of table).rows) (drop i now)) left
+  pub result : map entry_of (take i now) ++ entries_with (map entry_of (drop i now)) left ≡ entries_with (map entry_of first) all
+
+pub under_start : (tables : List Table) (batches left : List Rows) (count : ℕ) → left ≡ batches → count ≡ length batches → HaveRoom tables batches
+    → AllZip Follow (map (λ table. (entry_of table).rows) tables) batches → IsUnder tables batches tables 0 left count
+under_start tables batches left count is counted room follow =
+    rw is (record { counted = counted; room = room; follow = follow; result = refl })
+
+moved : (before : List Table) (table : Table) (rest : List TableRows) → map entry_of (before ++ table ∷ []) ++ rest ≡ map entry_of before ++ entry_of table ∷ rest
+moved [] table rest = refl
+moved (t ∷ before) table rest = ap (λ l. entry_of t ∷ l) (moved before table rest)
+
+module _ (first : List Table) (all : List Rows) (now : List Table) (i : ℕ) (left : List Rows) (count : ℕ) (is : IsUnder first all now i left count) where
+  -- what holds of a table and its batch
+  pub record Turn (table : Table) (rows : Rows) (left' : List Rows) (count' : ℕ) : Type 0 where
+    pub room : row_count rows ≤ spare_of table
+    pub follow : Follow (entry_of table).rows rows
+    pub next : (table' : Table) → entry_of table' ≡ record { table = (entry_of table).table; rows = rows_then (entry_of table).rows rows } → IsUnder first all (slice_set now i table') (i + 1) left' count'
+
+  pub under_turn : (table : Table) (rows : Rows) (left' : List Rows) (count' : ℕ) → i < length now → get_or now i table ≡ table → left ≡ rows ∷ left' → count' + 1 ≡ count → Turn table rows left' count'
+  under_turn table rows left' count' h at e counted =
+      let split : drop i now ≡ table ∷ drop (i + 1) now = drop-cons now i table h ∙ ap (λ t. t ∷ drop (suc i) now) at ∙ ap (λ n. table ∷ drop n now) (sym (add-one i)) in
+      let room : AllZip (λ table rows. row_count rows ≤ spare_of table) (table ∷ drop (i + 1) now) (rows ∷ left') =
+      subst (λ l. AllZip (λ table rows. row_count rows ≤ spare_of table) (table ∷ drop (i + 1) now) l) e (subst (λ l. AllZip (λ table rows. row_count rows ≤ spare_of table) l left) split is.room) in
+      let follow : AllZip Follow (map (λ table. (entry_of table).rows) (table ∷ drop (i + 1) now)) (rows ∷ left') =
+      subst (λ l. AllZip Follow (map (λ table. (entry_of table).rows) (table ∷ drop (i + 1) now)) l) e (subst (λ l. AllZip Follow (map (λ table. (entry_of table).rows) l) left) split is.follow) in
+      let result : map entry_of (take i now) ++ entries_with (map entry_of (table ∷ drop (i + 1) now)) (rows ∷ left') ≡ entries_with (map entry_of first) all =
+      ap (λ l. map entry_of (take i now) ++ entries_with (map entry_of l) (rows ∷ left')) (sym split) ∙ ap (λ l. map entry_of (take i now) ++ entries_with (map entry_of (drop i now)) l) (sym e) ∙ is.result in
+      record {
+        room = room.0;
+        follow = follow.0;
+        next = λ table' grown.
+            let kept : drop (i + 1) (slice_set now i table') ≡ drop (i + 1) now = drop-set-lt (i + 1) now i table' (omega arith) in
+            record {
+              counted = omega (arith, counted, is.counted, ap (λ l. length l) e);
+              room = rw kept room.1;
+              follow = rw kept follow.1;
+              result =
+                  ap (λ l. map entry_of l ++ entries_with (map entry_of (drop (i + 1) (slice_set now i table'))) left') (take_more_set now i table' h)
+                  ∙ ap (λ l. map entry_of (take i now ++ table' ∷ []) ++ entries_with (map entry_of l) left') kept
+                  ∙ moved (take i now) table' (entries_with (map entry_of (drop (i + 1) now)) left')
+                  ∙ ap (λ entry. map entry_of (take i now) ++ entry ∷ entries_with (map entry_of (drop (i + 1) now)) left') grown
+                  ∙ result;
+            };
+      }
+
+  -- no table is without a batch
+  pub under_none : (table : Table) → i < length now → count ≡ 0 → ⊥
+  under_none table h none =
+      let split : drop i now ≡ get_or now i table ∷ drop (suc i) now = drop-cons now i table h in
+      by left (omega (arith, is.counted, none)) (subst (λ l. AllZip (λ table rows. row_count rows ≤ spare_of table) l left) split is.room)
+    where
+      by : (left : List Rows) → length left ≡ 0 → AllZip (λ table rows. row_count rows ≤ spare_of table) (get_or now i table ∷ drop (suc i) now) left → ⊥
+      by [] e nothing = nothing
+      by (rows ∷ left) e all = cc
+
+  pub under_end : length now ≤ i → map entry_of now ≡ entries_with (map entry_of first) all
+  under_end h = by (drop i now) (take i now) refl refl is.result
+    where
+      by : (rest before : List Table) → drop i now ≡ rest → take i now ≡ before → map entry_of before ++ entries_with (map entry_of rest) left ≡ entries_with (map entry_of first) all → map entry_of now ≡ entries_with (map entry_of first) all
+      by rest before d t e =
+          let (taken, dropped) = whole i now h in
+          ap (map entry_of) (sym taken ∙ t) ∙ sym (append-nil (map entry_of before)) ∙ ap (λ l. map entry_of before ++ entries_with (map entry_of l) left) (sym dropped ∙ d) ∙ e
+
+-- ---- batches that are put into a store
+
+pub none_of : {X : Type 0} (xs : List X) → length xs ≡ 0 → xs ≡ []
+none_of [] e = refl
+none_of (x ∷ xs) e = cc
+
+-- no rows behind others
+pub nothing_then : (table : TableId) (a b : Rows) → is_of_kind table a ≡ true → is_of_kind table b ≡ true → row_count b ≡ 0 → rows_then a b ≡ a
+nothing_then (ids.Hub n) (of.Hubs a) (of.Hubs b) k l e = ap of.Hubs (ap (λ b. a ++ b) (none_of b e) ∙ append-nil a)
+nothing_then (ids.Link n) (of.Links a) (of.Links b) k l e = ap of.Links (ap (λ b. a ++ b) (none_of b e) ∙ append-nil a)
+nothing_then (ids.Sat n) (of.Sats a) (of.Sats b) k l e = ap of.Sats (ap (λ b. a ++ b) (none_of b e) ∙ append-nil a)
+nothing_then (ids.Multi n) (of.Multis a) (of.Multis b) k l e = ap of.Multis (ap (λ b. a ++ b) (none_of b e) ∙ append-nil a)
+nothing_then (ids.Status n) (of.Statuses a) (of.Statuses b) k l e = ap of.Statuses (ap (λ b. a ++ b) (none_of b e) ∙ append-nil a)
+nothing_then (ids.Effect n) (of.Effects a) (of.Effects b) k l e = ap of.Effects (ap (λ b. a ++ b) (none_of b e) ∙ append-nil a)
+nothing_then table a b k l e = cc
+
+-- rows behind none
+then_nothing : (table : TableId) (b : Rows) → is_of_kind table b ≡ true → rows_then (no_rows table) b ≡ b
+then_nothing (ids.Hub n) (of.Hubs b) k = refl
+then_nothing (ids.Link n) (of.Links b) k = refl
+then_nothing (ids.Sat n) (of.Sats b) k = refl
+then_nothing (ids.Multi n) (of.Multis b) k = refl
+then_nothing (ids.Status n) (of.Statuses b) k = refl
+then_nothing (ids.Effect n) (of.Effects b) k = refl
+then_nothing table b k = cc
+
+-- the rows of each table after rows are put behind those of one
+rows_appended : (id table : TableId) (rows : Rows) → is_of_kind table rows ≡ true → (entries : List TableRows)
+    → rows_in id (appended_to table rows entries) ≡ (if table_eq table id then rows_then (rows_in table entries) rows else rows_in id entries)
+rows_appended id table rows kind [] = by (table_eq table id)
+  where
+    by : (b : Bool) → (if b then rows else no_rows id) ≡ (if b then rows_then (no_rows table) rows else no_rows id)
+    by true = sym (then_nothing table rows kind)
+    by false = refl
+rows_appended id table rows kind (entry ∷ entries) =
+    got (table_eq entry.table table)
+    ∙ by (table_eq entry.table table) (table_eq entry.table id) (table_eq table id) refl refl refl (rows_appended id table rows kind entries)
+  where
+    got : (here : Bool) → rows_in id (if here then record entry { rows = rows_then entry.rows rows } ∷ entries else entry ∷ appended_to table rows entries)
+        ≡ (if here then (if table_eq entry.table id then rows_then entry.rows rows else rows_in id entries) else (if table_eq entry.table id then entry.rows else rows_in id (appended_to table rows entries)))
+    got true = refl
+    got false = refl
+
+    clash : (b : Bool) → b ≡ true → b ≡ false → ⊥
+    clash b x y = cc
+
+    by : (here its same : Bool) → table_eq entry.table table ≡ here → table_eq entry.table id ≡ its → table_eq table id ≡ same
+        → rows_in id (appended_to table rows entries) ≡ (if same then rows_then (rows_in table entries) rows else rows_in id entries)
+        → (if here then (if its then rows_then entry.rows rows else rows_in id entries) else (if its then entry.rows else rows_in id (appended_to table rows entries)))
+        ≡ (if same then rows_then (if here then entry.rows else rows_in table entries) rows else (if its then entry.rows else rows_in id entries))
+    by true true true h i s later = refl
+    by true false false h i s later = refl
+    by true true false h i s later = absurd (clash (table_eq table id) (sym (ap (λ t. table_eq t id) (same_table entry.table table h)) ∙ i) s)
+    by true false true h i s later = absurd (clash (table_eq entry.table id) (ap (λ t. table_eq t id) (same_table entry.table table h) ∙ s) i)
+    by false true true h i s later = absurd (clash (table_eq entry.table table) (ap (λ t. table_eq t table) (same_table entry.table id i ∙ sym (same_table table id s)) ∙ table_itself table) h)
+    by false true false h i s later = refl
+    by false false true h i s later = later
+    by false false false h i s later = later
+
+pub rows_stay : (id table : TableId) (rows : Rows) → is_of_kind table rows ≡ true → (a b : List TableRows) → ((table : TableId) → rows_in table a ≡ rows_in table b)
+    → rows_in id (appended_to table rows a) ≡ rows_in id (appended_to table rows b)
+rows_stay id table rows kind a b same =
+    rows_appended id table rows kind a
+    ∙ ap (λ l. if table_eq table id then rows_then l rows else rows_in id a) (same table)
+    ∙ ap (λ l. if table_eq table id then rows_then (rows_in table b) rows else l) (same id)
+    ∙ sym (rows_appended id table rows kind b)
+
+pub no_more : (entries : List TableRows) → entries_with entries [] ≡ entries
+no_more [] = refl
+no_more (entry ∷ entries) = refl
+
+-- a table behind the first one is another
+another : (table : TableId) (entries : List TableRows) (i : ℕ) (entry : TableRows) → list_any (λ other. table_eq other.table table) entries ≡ false → i < length entries → get_or entries i entry ≡ entry
+    → table_eq entry.table table ≡ false
+another table [] i entry none h at = absurd (omega (arith, h))
+another table (first ∷ entries) i entry none h at = by (table_eq first.table table) refl i h at none (another table entries)
+  where
+    by : (b : Bool) → table_eq first.table table ≡ b → (i : ℕ) → i < length (first ∷ entries) → get_or (first ∷ entries) i entry ≡ entry
+        → (b || list_any (λ other. table_eq other.table table) entries) ≡ false
+        → ((i : ℕ) (entry : TableRows) → list_any (λ other. table_eq other.table table) entries ≡ false → i < length entries → get_or entries i entry ≡ entry → table_eq entry.table table ≡ false)
+        → table_eq entry.table table ≡ false
+    by true t i h at none later = cc
+    by false t zero h at none later = ap (λ (e : TableRows). table_eq e.table table) (sym at) ∙ t
+    by false t (suc i) h at none later = later i entry none (omega (arith, h)) at
+
+-- the tables are apart, so the first with a name is at its place
+pub record AtPlace (entries : List TableRows) (batches : List Rows) (i : ℕ) (entry : TableRows) (rows : Rows) : Type 0 where
+  pub found : rows_in entry.table (entries_with entries (take i batches)) ≡ entry.rows
+  pub appended : appended_to entry.table rows (entries_with entries (take i batches)) ≡ entries_with entries (take (suc i) batches)
+  pub passed : rows_then entry.rows rows ≡ entry.rows → entries_with entries (take (suc i) batches) ≡ entries_with entries (take i batches)
+
+pub at_place : (entries : List TableRows) (batches : List Rows) (i : ℕ) (entry : TableRows) (rows : Rows) → are_apart entries ≡ true → i < length entries → get_or entries i entry ≡ entry
+    → i < length batches → get_or batches i rows ≡ rows → AtPlace entries batches i entry rows
+at_place [] batches i entry rows apart h at k is = absurd (omega (arith, h))
+at_place (first ∷ entries) [] i entry rows apart h at k is = absurd (omega (arith, k))
+at_place (first ∷ entries) (batch ∷ batches) zero entry rows apart h at k is =
+    rw (← at, ← is)
+    (record {
+      found = rw (table_itself first.table) refl;
+      appended = rw (table_itself first.table) (ap (λ l. record { table = first.table; rows = rows_then first.rows batch } ∷ l) (sym (no_more entries)));
+      passed = λ same. ap (λ rows. record { table = first.table; rows = rows } ∷ entries_with entries []) same ∙ ap (λ l. first ∷ l) (no_more entries);
+    })
+at_place (first ∷ entries) (batch ∷ batches) (suc i) entry rows apart h at k is =
+    let (alone, rest) = and_parts (not (list_any (λ other. table_eq other.table first.table) entries)) (are_apart entries) apart in
+    let under : i < length entries = omega (arith, h) in
+    let other : table_eq first.table entry.table ≡ false = by (table_eq first.table entry.table) refl (another first.table entries i entry (not_true _ alone) under at) in
+    let behind = at_place entries batches i entry rows rest under at (omega (arith, k)) is in
+    record {
+      found = rw other behind.found;
+      appended = rw other (ap (λ l. record { table = first.table; rows = rows_then first.rows batch } ∷ l) behind.appended);
+      passed = λ same. ap (λ l. record { table = first.table; rows = rows_then first.rows batch } ∷ l) (behind.passed same);
+    }
+  where
+    not_true : (b : Bool) → not b ≡ true → b ≡ false
+    not_true true e = cc
+    not_true false e = refl
+
+    by : (b : Bool) → table_eq first.table entry.table ≡ b → table_eq entry.table first.table ≡ false → table_eq first.table entry.table ≡ false
+    by true t e = absurd (clash (ap (λ t. table_eq t first.table) (same_table first.table entry.table t)) e)
+      where
+        clash : table_eq first.table first.table ≡ table_eq entry.table first.table → table_eq entry.table first.table ≡ false → ⊥
+        clash a b = let c = table_itself first.table in cc
+    by false t e = t

@@ -1,0 +1,115 @@
+-- What a window adds to tables, one table after the other.
+use Rattle.std.proofs.Common.{◌≡◌, ℕ, zero, suc, ◌+◌, ◌<◌, ◌≤◌, Bool, true, List, [], ◌∷◌, ◌++◌, refl, sym, ◌∙◌, ap, arith, drop, drop-cons, get_or, length, map, subst, take}
+use Rattle.std.specs.Prelude.{All, Err, IfOk, Result}
+use Rattle.std.specs.List.{AllZip, list_all}
+use Rattle.std.proofs.lemmas.Bool.{and_parts}
+use Rattle.std.proofs.lemmas.List.{map-append, take-append-drop, take_more}
+use Rattle.std.proofs.lemmas.List.Elements.{All-append}
+use Rattle.std.proofs.lemmas.List.Folds.{list_all-map}
+use Rattle.dv_text.specs.declared.rows.Window.{Window}
+use Rattle.dv_text.specs.Keys.{Hashes}
+use Rattle.dv_catalog.specs.declared.tables.TableId.{TableId}
+use Rattle.dv_catalog.specs.Entries.{Mapping}
+use Rattle.dv_catalog.specs.TableLookups.{is_table_of}
+use Rattle.dv_catalog.proofs.TablesIn.{tables_in}
+use Rattle.dv_records.specs.declared.deliveries.DeltaFault.{DeltaFault}
+use Rattle.dv_records.specs.declared.deliveries.DeltaFault.TheVariants.{Collision, Memory}
+use Rattle.dv_records.specs.declared.raw_rows.HubRow.{HubRow}
+use Rattle.dv_records.specs.declared.stores.Rows.{Rows}
+use Rattle.dv_records.specs.declared.stores.TableRows.{TableRows}
+use Rattle.dv_records.specs.Deltas.{HasNoClash, IfCollides, IsLeastClash}
+use Rattle.dv_records.specs.HubNames.{HubName}
+use Rattle.dv_vault.specs.declared.additions.AdditionFault.{AdditionFault}
+use Rattle.dv_vault.specs.Additions.{AreApartBy, ClashesAt, FollowAll, fault_at}
+use Rattle.dv_vault.specs.Vaults.{AreOfLoad, Follow, IsVaultOf, added_to, hashed_in, names_of_rows}
+use Rattle.dv_vault.proofs.BatchSteps.{pairs_push, whole}
+
+-- an item at a place passes what all pass
+pub passes_here : {X : Type 0} (p : X → Bool) (xs : List X) (i : ℕ) (x : X) → list_all p xs ≡ true → i < length xs → get_or xs i x ≡ x → p x ≡ true
+passes_here p [] i x all under at = absurd (omega (arith, under))
+passes_here p (y ∷ xs) zero x all under at = let parts = and_parts (p y) (list_all p xs) all in ap p (sym at) ∙ parts.0
+passes_here p (y ∷ xs) (suc i) x all under at = let parts = and_parts (p y) (list_all p xs) all in passes_here p xs i x parts.1 (omega (arith, under)) at
+
+-- the tables of a vault are those of its mapping
+pub vault_tables : (mapping : Mapping) (entries : List TableRows) → IsVaultOf mapping entries → list_all (λ (entry : TableRows). is_table_of mapping entry.table) entries ≡ true
+vault_tables mapping entries is =
+    sym (list_all-map (is_table_of mapping) (λ (entry : TableRows). entry.table) entries) ∙ ap (list_all (is_table_of mapping)) is ∙ tables_in mapping
+
+-- the names of hubs and the tables are told by others that are equal
+pub named_apart : (result : Result (List Rows) AdditionFault) (mapping : Mapping) (hashes : Hashes) (hubs hubs' : List (List HubRow)) (window : Window) (entries entries' : List TableRows)
+    → hubs ≡ hubs' → entries ≡ entries' → IfOk result (λ batches. AreApartBy mapping hashes (names_of_rows hubs) window entries)
+    → IfOk result (λ batches. AreApartBy mapping hashes (names_of_rows hubs') window entries')
+named_apart result mapping hashes hubs hubs' window entries entries' same those apart =
+    subst (λ l. IfOk result (λ batches. AreApartBy mapping hashes (names_of_rows hubs') window l)) those
+    (subst (λ l. IfOk result (λ batches. AreApartBy mapping hashes (names_of_rows l) window entries)) same apart)
+
+one : {X : Type 0} (P : X → Type 0) (x : X) → P x → All P (x ∷ [])
+one P x p zero d under = p
+one P x p (suc k) d under = absurd (omega (arith, under))
+
+none : {X : Type 0} (P : X → Type 0) → All P []
+none P k d under = absurd (omega (arith, under))
+
+module _ (mapping : Mapping) (hashes : Hashes) (names : List HubName) (window : Window) where
+  -- the batches of tables
+  pub record SoFar (entries : List TableRows) (batches : List Rows) : Type 0 where
+    pub rows : batches ≡ map (added_to mapping hashes window) entries
+    pub apart : AreApartBy mapping hashes names window entries
+    pub follow : FollowAll window.load entries batches
+
+  pub at_first : SoFar [] []
+  at_first = record {
+    rows = refl;
+    apart = none (λ entry. HasNoClash (hashed_in mapping hashes names window entry));
+    follow = record { follow = tt; stamped = none (λ rows. AreOfLoad window.load rows) };
+  }
+
+  one_more : (entries : List TableRows) (batches : List Rows) (entry : TableRows) (rows : Rows) → SoFar entries batches
+      → rows ≡ added_to mapping hashes window entry → HasNoClash (hashed_in mapping hashes names window entry) → Follow entry.rows rows → AreOfLoad window.load rows
+      → SoFar (entries ++ entry ∷ []) (batches ++ rows ∷ [])
+  one_more entries batches entry rows so_far is apart follow stamped = record {
+    rows =
+        ap (λ (l : List Rows). l ++ rows ∷ []) so_far.rows
+        ∙ ap (λ r. map (added_to mapping hashes window) entries ++ r ∷ []) is
+        ∙ sym (map-append (added_to mapping hashes window) entries (entry ∷ []));
+    apart =
+        All-append (λ entry. HasNoClash (hashed_in mapping hashes names window entry)) entries (entry ∷ []) so_far.apart
+        (one (λ entry. HasNoClash (hashed_in mapping hashes names window entry)) entry apart);
+    follow = record {
+      follow =
+          subst (λ l. AllZip Follow l (batches ++ rows ∷ [])) (sym (map-append (λ (entry : TableRows). entry.rows) entries (entry ∷ [])))
+          (pairs_push Follow (map (λ (entry : TableRows). entry.rows) entries) batches entry.rows rows so_far.follow.follow follow);
+      stamped =
+          All-append (λ rows. AreOfLoad window.load rows) batches (rows ∷ []) so_far.follow.stamped
+          (one (λ rows. AreOfLoad window.load rows) rows stamped);
+    };
+  }
+
+  pub more_at : (entries : List TableRows) (i : ℕ) (batches more : List Rows) (entry : TableRows) (rows : Rows) → i < length entries → get_or entries i entry ≡ entry
+      → SoFar (take i entries) batches → more ≡ batches ++ rows ∷ []
+      → rows ≡ added_to mapping hashes window entry → HasNoClash (hashed_in mapping hashes names window entry) → Follow entry.rows rows → AreOfLoad window.load rows
+      → SoFar (take (i + 1) entries) more
+  more_at entries i batches more entry rows under at so_far pushed is apart follow stamped =
+      subst (λ l. SoFar (take (i + 1) entries) l) (sym pushed)
+      (subst (λ l. SoFar l (batches ++ rows ∷ [])) (sym (take_more entries i entry under ∙ ap (λ e. take i entries ++ e ∷ []) at))
+      (one_more (take i entries) batches entry rows so_far is apart follow stamped))
+
+  pub at_last : (entries : List TableRows) (i : ℕ) (batches : List Rows) → length entries ≤ i → SoFar (take i entries) batches → SoFar entries batches
+  at_last entries i batches all so_far = subst (λ l. SoFar l batches) (whole i entries all).0 so_far
+
+  -- the first table with a collision
+  pub clashed : (entries : List TableRows) (i : ℕ) (batches : List Rows) (entry : TableRows) (result : Result Rows DeltaFault) (fault : DeltaFault) (table : TableId)
+      → i < length entries → get_or entries i entry ≡ entry → SoFar (take i entries) batches → list_all (λ (entry : TableRows). is_table_of mapping entry.table) entries ≡ true
+      → result ≡ Err fault → IfCollides result (IsLeastClash (hashed_in mapping hashes names window entry)) → table ≡ entry.table
+      → ClashesAt mapping hashes names window entries (fault_at table fault)
+  clashed entries i batches entry result (Collision first second) table under at so_far declared failed clash named = record {
+    before = take i entries;
+    entry = entry;
+    behind = drop (suc i) entries;
+    split = sym (take-append-drop i entries) ∙ ap (λ l. take i entries ++ l) (drop-cons entries i entry under ∙ ap (λ e. e ∷ drop (suc i) entries) at);
+    is_table = sym named;
+    declared = ap (is_table_of mapping) named ∙ passes_here (λ (entry : TableRows). is_table_of mapping entry.table) entries i entry declared under at;
+    none_before = so_far.apart;
+    is = subst (λ r. IfCollides r (IsLeastClash (hashed_in mapping hashes names window entry))) failed clash;
+  }
+  clashed entries i batches entry result Memory table under at so_far declared failed clash named = tt

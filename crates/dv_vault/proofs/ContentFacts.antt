@@ -1,0 +1,146 @@
+-- What is read back from the vault, by what its tables answer.
+use Rattle.std.proofs.Common.{◌≡◌, ◌⊎◌, inl, inr, ℕ, zero, suc, ◌+◌, ◌<◌, ◌==◌, Bool, true, false, List, [], ◌∷◌, ◌++◌, Option, Some, None, Bor, refl, sym, ◌∙◌, ap, arith, get_or, length, take}
+use Rattle.std.specs.Prelude.{if◌then◌else◌, slice_get}
+use Rattle.std.specs.List.{filter_map}
+use Rattle.std.specs.Option.{option_map, option_map_or, option_to_list}
+use Rattle.std.proofs.lemmas.Bool.Decides.{nat_tests}
+use Rattle.std.proofs.lemmas.List.{take_more}
+use Rattle.std.proofs.lemmas.List.Elements.{filter_map-append}
+use Rattle.dv_text.specs.declared.rows.Key.{Key}
+use Rattle.dv_text.specs.declared.rows.NRow.{NRow}
+use Rattle.dv_text.specs.declared.rows.Window.{Window}
+use Rattle.dv_text.specs.Keys.{Hashes}
+use Rattle.dv_text.specs.Orders.{row_cmp}
+use Rattle.dv_text.specs.Sorting.{sorted_by}
+use Rattle.dv_catalog.specs.declared.entries.FeedDef.{FeedDef}
+use Rattle.dv_catalog.specs.declared.entries.LinkDef.{LinkDef}
+use Rattle.dv_catalog.specs.declared.entries.Parent.{Parent}
+use Rattle.dv_catalog.specs.declared.entries.Parent.TheVariants.{Hub, Link}
+use Rattle.dv_catalog.specs.declared.tables.TableId.TheVariants as ids
+use Rattle.dv_catalog.specs.Entries.{Mapping}
+use Rattle.dv_catalog.specs.Feeds.{link_hubs, parent_hubs}
+use Rattle.dv_catalog.specs.Mappings.{is_declared}
+use Rattle.dv_catalog.proofs.BuiltMappings.{built_forms}
+use Rattle.dv_records.specs.declared.raw_rows.HubRow.{HubRow}
+use Rattle.dv_records.specs.declared.raw_rows.LinkRow.{LinkRow}
+use Rattle.dv_records.specs.declared.raw_rows.SatRow.{SatRow}
+use Rattle.dv_records.specs.declared.raw_rows.StatusRow.{StatusRow}
+use Rattle.dv_records.specs.declared.stores.TableRows.{TableRows}
+use Rattle.dv_records.specs.Marts.{feed_mart}
+use Rattle.dv_records.specs.ReadBack.{attrs_read, content_read, content_read_by, hub_row_by, hub_rows_in, keys_read, link_row_by, link_rows_in, present_parents, refs_read, row_read, sat_rows, sat_rows_in, status_rows_in}
+use Rattle.dv_records.specs.Reconstruction.{valid_at}
+use Rattle.dv_records.proofs.ReadBack.{feed_tells}
+use Rattle.dv_vault.specs.Vaults.{HasSealed, IsBuilt, RawVault, has_table, is_parent}
+use Rattle.dv_vault.proofs.VaultFacts.{absent_rows, seen-twice}
+
+-- what is made of a thing that two looks found
+pub made_through : {X Y Z A : Type 0} (f : Y → Z) (g : X → Y) (h : A → Y) (o : Option X) (found : Option A) → option_map h found ≡ option_map g o
+    → option_map (λ x. f (g x)) o ≡ option_map (λ a. f (h a)) found
+made_through f g h o found e = seen-twice g f o ∙ ap (option_map f) (sym e) ∙ sym (seen-twice h f found)
+
+or_twice : {X Y Z : Type 0} (f : Y → Z) (g : X → Y) (o : Option X) (d : Z) → option_map_or (λ x. f (g x)) o d ≡ option_map_or f (option_map g o) d
+or_twice f g None d = refl
+or_twice f g (Some x) d = refl
+
+pub made_or : {X Y Z A : Type 0} (f : Y → Z) (g : X → Y) (h : A → Y) (o : Option X) (found : Option A) (d : Z) → option_map h found ≡ option_map g o
+    → option_map_or (λ x. f (g x)) o d ≡ option_map_or (λ a. f (h a)) found d
+made_or f g h o found d e = or_twice f g o d ∙ ap (λ o. option_map_or f o d) (sym e) ∙ sym (or_twice f h found d)
+
+-- one place has one thing
+pub one_there : {X : Type 0} (got : Option X) (a b : X) → got ≡ Some a → got ≡ Some b → a ≡ b
+one_there got a b first second = let same : Some a ≡ Some b = sym first ∙ second in cc
+
+some_there : {X : Type 0} (xs : List X) (i : ℕ) → i < length xs → (x : X) × (slice_get xs i ≡ Some x)
+some_there [] i under = absurd (omega (arith, under))
+some_there (x ∷ xs) zero under = (x, refl)
+some_there (x ∷ xs) (suc i) under = some_there xs i (omega (arith, under))
+
+pub feed_there : (mapping : Mapping) (feed : ℕ) → feed < length mapping.feeds → (definition : FeedDef) × (slice_get mapping.feeds feed ≡ Some definition)
+feed_there mapping feed under = some_there mapping.feeds feed under
+
+-- no keys of no hubs, nor by no hash keys
+pub no_keys : (mapping : Mapping) (tables : List TableRows) (hubs : List ℕ) (digests : List (List ℕ)) → (length hubs ≡ 0) ⊎ (length digests ≡ 0) → keys_read mapping tables hubs digests ≡ []
+no_keys mapping tables [] digests ended = refl
+no_keys mapping tables (hub ∷ hubs) [] ended = refl
+no_keys mapping tables (hub ∷ hubs) (digest ∷ digests) (inl e) = absurd (omega (arith, e))
+no_keys mapping tables (hub ∷ hubs) (digest ∷ digests) (inr e) = absurd (omega (arith, e))
+
+-- no attributes, where there is no satellite
+pub absent_attrs : (tables : List TableRows) (definition : FeedDef) (feed : ℕ) (digest : List ℕ) (date : ℕ) → has_table (ids.Sat feed) tables ≡ false
+    → attrs_read tables definition feed digest date ≡ []
+absent_attrs tables definition feed digest date absent = by (length definition.attrs == 0)
+  where
+    by : (b : Bool) → (if b then [] else option_map_or (λ (row : SatRow). row.attrs) (valid_at (sat_rows_in feed tables) digest date) []) ≡ []
+    by true = refl
+    by false = ap (λ rows. option_map_or (λ (row : SatRow). row.attrs) (valid_at (sat_rows rows) digest date) []) (absent_rows (ids.Sat feed) tables absent)
+
+pub parent_there : (mapping : Mapping) (parent : Parent) → is_declared mapping parent ≡ true → is_parent mapping parent ≡ true
+parent_there mapping (Hub hub) e = e
+parent_there mapping (Link link) e = e
+
+-- a hub or a link that is a parent is in the mapping
+pub hub_within : (mapping : Mapping) (parent : Parent) (hub : ℕ) → is_parent mapping parent ≡ true → parent ≡ Hub hub → hub < length mapping.hubs
+hub_within mapping parent hub there is =
+    let declared : is_parent mapping (Hub hub) ≡ true = ap (is_parent mapping) (sym is) ∙ there in
+    grind (arith, nat_tests, declared)
+
+pub link_within : (mapping : Mapping) (parent : Parent) (link : ℕ) → is_parent mapping parent ≡ true → parent ≡ Link link → link < length mapping.links
+link_within mapping parent link there is =
+    let declared : is_parent mapping (Link link) ≡ true = ap (is_parent mapping) (sym is) ∙ there in
+    grind (arith, nat_tests, declared)
+
+-- the reference list of a hub's or a link's row that was found
+pub refs_of_hub : (mapping : Mapping) (tables : List TableRows) (parent : Parent) (hub : ℕ) (digest : List ℕ) (rows : List HubRow) (found : Option (Bor Key)) (key : Bor Key) (refs : List Key)
+    → parent ≡ Hub hub → rows ≡ hub_rows_in hub tables → option_map (λ key. key.now) found ≡ option_map (λ (row : HubRow). row.key) (hub_row_by rows digest) → found ≡ Some key → refs ≡ key.now ∷ []
+    → Some refs ≡ refs_read mapping tables parent digest
+refs_of_hub mapping tables parent hub digest rows found key refs parent_is rows_are found_is is refs_are =
+    ap Some refs_are
+    ∙ ap (option_map (λ (key : Bor Key). key.now ∷ [])) (sym is)
+    ∙ sym (made_through (λ (key : Key). key ∷ []) (λ (row : HubRow). row.key) (λ (key : Bor Key). key.now) (hub_row_by rows digest) found found_is)
+    ∙ ap (λ (rows : List HubRow). option_map (λ (row : HubRow). row.key ∷ []) (hub_row_by rows digest)) rows_are
+    ∙ ap (λ p. refs_read mapping tables p digest) (sym parent_is)
+
+pub refs_of_link : (mapping : Mapping) (tables : List TableRows) (parent : Parent) (link : ℕ) (digest : List ℕ) (rows : List LinkRow) (found : Option (Bor (List (List ℕ)))) (digests : Bor (List (List ℕ)))
+    (definition : LinkDef) (hubs : List ℕ) (pointed : List (List ℕ)) (refs : List Key)
+    → parent ≡ Link link → rows ≡ link_rows_in link tables → option_map (λ digests. digests.now) found ≡ option_map (λ (row : LinkRow). row.hubs) (link_row_by rows digest) → found ≡ Some digests
+    → slice_get mapping.links link ≡ Some definition → hubs ≡ definition.hubs → pointed ≡ digests.now → refs ≡ keys_read mapping tables hubs pointed
+    → Some refs ≡ refs_read mapping tables parent digest
+refs_of_link mapping tables parent link digest rows found digests definition hubs pointed refs parent_is rows_are found_is is got hubs_are pointed_are refs_are =
+    ap Some
+    (refs_are ∙ ap (λ hubs. keys_read mapping tables hubs pointed) (hubs_are ∙ ap link_hubs (sym got)) ∙ ap (keys_read mapping tables (parent_hubs mapping (Link link))) pointed_are)
+    ∙ ap (option_map (λ (digests : Bor (List (List ℕ))). keys_read mapping tables (parent_hubs mapping (Link link)) digests.now)) (sym is)
+    ∙ sym (made_through (keys_read mapping tables (parent_hubs mapping (Link link))) (λ (row : LinkRow). row.hubs) (λ (digests : Bor (List (List ℕ))). digests.now) (link_row_by rows digest) found found_is)
+    ∙ ap (λ (rows : List LinkRow). option_map (λ (row : LinkRow). keys_read mapping tables (parent_hubs mapping (Link link)) row.hubs) (link_row_by rows digest)) rows_are
+    ∙ ap (λ p. refs_read mapping tables p digest) (sym parent_is)
+
+-- the rows of one parent more
+pub rows_more : {X Y : Type 0} (h : X → Option Y) (xs : List X) (i : ℕ) (x : X) (made more : List Y) (row : Option Y) → i < length xs → x ≡ get_or xs i x
+    → made ≡ filter_map h (take i xs) → row ≡ h x → more ≡ made ++ option_to_list row → more ≡ filter_map h (take (i + 1) xs)
+rows_more {X} {Y} h xs i x made more row under at made_are row_is more_are =
+    more_are
+    ∙ ap (λ l. l ++ option_to_list row) made_are
+    ∙ ap (λ l. filter_map h (take i xs) ++ l) (ap option_to_list row_is ∙ one (h x) refl)
+    ∙ sym (filter_map-append h (take i xs) (x ∷ []))
+    ∙ ap (filter_map h) (ap (λ y. take i xs ++ y ∷ []) at ∙ sym (take_more xs i x under))
+  where
+    one : (o : Option Y) → h x ≡ o → option_to_list (h x) ≡ filter_map h (x ∷ [])
+    one None e = rw e refl
+    one (Some y) e = rw e refl
+
+-- the content of a feed of the mapping
+pub content_by : (mapping : Mapping) (tables : List TableRows) (feed date : ℕ) (definition : FeedDef) (rows : List NRow) (parents : List (List ℕ)) (statuses : List StatusRow)
+    → slice_get mapping.feeds feed ≡ Some definition → statuses ≡ status_rows_in feed tables → parents ≡ present_parents statuses date
+    → rows ≡ filter_map (row_read mapping tables definition feed date) parents → sorted_by row_cmp rows ≡ content_read mapping tables feed date
+content_by mapping tables feed date definition rows parents statuses got statuses_are parents_are rows_are =
+    ap (sorted_by row_cmp)
+    (rows_are ∙ ap (filter_map (row_read mapping tables definition feed date)) (parents_are ∙ ap (λ (rows : List StatusRow). present_parents rows date) statuses_are))
+    ∙ ap (λ (found : Option FeedDef). content_read_by mapping tables found feed date) (sym got)
+
+-- it is the feed's mart, where the vault has sealed windows
+pub mart_read : (hashes : Hashes) (sealed : List Window) (raw : RawVault) → HasSealed hashes sealed raw → IsBuilt raw.mapping → (feed : ℕ) → feed < length raw.mapping.feeds
+    → (date : ℕ) → content_read raw.mapping raw.tables feed date ≡ feed_mart sealed feed date
+mart_read hashes sealed raw has built feed under date =
+    let (definition, got) = feed_there raw.mapping feed under in
+    let plain = (built_forms raw.mapping built.built).feeds feed definition got in
+    ap (λ (tables : List TableRows). content_read raw.mapping tables feed date) has.tables_are
+    ∙ feed_tells raw.mapping hashes sealed feed definition built.valid has.valid got plain.no_sub date

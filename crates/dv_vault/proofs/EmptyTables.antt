@@ -1,0 +1,76 @@
+-- The vault of no windows.
+use Rattle.std.proofs.Common.{◌≡◌, ℕ, ◌+◌, Bool, true, false, List, [], ◌∷◌, refl, sym, ◌∙◌, ap, arith, map}
+use Rattle.std.specs.Prelude.{if◌then◌else◌}
+use Rattle.std.proofs.lemmas.List.Sums.{sum_by-cons}
+use Rattle.dv_text.specs.Keys.{Hashes}
+use Rattle.dv_catalog.specs.declared.tables.TableId.{TableId}
+use Rattle.dv_catalog.specs.declared.tables.TableId.TheVariants as ids
+use Rattle.dv_catalog.specs.Entries.{Mapping}
+use Rattle.dv_catalog.specs.Tables.{tables}
+use Rattle.dv_records.specs.declared.stores.TableRows.{TableRows}
+use Rattle.dv_records.specs.Stores.{no_rows, rows_in, table_eq}
+use Rattle.dv_records.specs.Vault.{table_entry}
+use Rattle.dv_records.specs.Weights.{rows_weight, tables_weight}
+use Rattle.dv_vault.specs.Vaults.{IsVaultOf, are_empty, are_rows_kept}
+use Rattle.dv_records.proofs.WellFormedTables.{same_table}
+
+pub empty_tables : (all : List TableId) → map (λ (entry : TableRows). entry.table) (map (λ id. record { table = id; rows = no_rows id }) all) ≡ all
+empty_tables [] = refl
+empty_tables (id ∷ all) = ap (λ (rest : List TableId). id ∷ rest) (empty_tables all)
+
+pub empty_rows : (all : List TableId) (table : TableId) → rows_in table (map (λ id. record { table = id; rows = no_rows id }) all) ≡ no_rows table
+empty_rows [] table = refl
+empty_rows (id ∷ all) table = by (table_eq id table) refl (empty_rows all table)
+  where
+    by : (b : Bool) → table_eq id table ≡ b → rows_in table (map (λ id. record { table = id; rows = no_rows id }) all) ≡ no_rows table
+        → (if b then no_rows id else rows_in table (map (λ id. record { table = id; rows = no_rows id }) all)) ≡ no_rows table
+    by true e later = ap no_rows (same_table id table e)
+    by false e later = later
+
+no_weight : (id : TableId) → rows_weight (no_rows id) ≡ 0
+no_weight (ids.Hub n) = refl
+no_weight (ids.Link n) = refl
+no_weight (ids.Sat n) = refl
+no_weight (ids.Multi n) = refl
+no_weight (ids.Status n) = refl
+no_weight (ids.Effect n) = refl
+
+pub empty_weight : (all : List TableId) → tables_weight (map (λ id. record { table = id; rows = no_rows id }) all) ≡ 0
+empty_weight [] = refl
+empty_weight (id ∷ all) =
+    sum_by-cons (λ (entry : TableRows). rows_weight entry.rows) (record { table = id; rows = no_rows id }) (map (λ id. record { table = id; rows = no_rows id }) all)
+    ∙ no_sum (rows_weight (no_rows id)) (tables_weight (map (λ id. record { table = id; rows = no_rows id }) all)) (no_weight id) (empty_weight all)
+  where
+    no_sum : (a b : ℕ) → a ≡ 0 → b ≡ 0 → a + b ≡ 0
+    no_sum a b first rest = omega (arith, first, rest)
+
+pub empty_all : (all : List TableId) → are_empty (map (λ id. record { table = id; rows = no_rows id }) all) ≡ true
+empty_all [] = refl
+empty_all (ids.Hub n ∷ all) = empty_all all
+empty_all (ids.Link n ∷ all) = empty_all all
+empty_all (ids.Sat n ∷ all) = empty_all all
+empty_all (ids.Multi n ∷ all) = empty_all all
+empty_all (ids.Status n ∷ all) = empty_all all
+empty_all (ids.Effect n ∷ all) = empty_all all
+
+-- the vault of no windows has them
+first_entry : (mapping : Mapping) (hashes : Hashes) (id : TableId) → record { table = id; rows = no_rows id } ≡ table_entry mapping hashes [] id
+first_entry mapping hashes (ids.Hub n) = refl
+first_entry mapping hashes (ids.Link n) = refl
+first_entry mapping hashes (ids.Sat n) = refl
+first_entry mapping hashes (ids.Multi n) = refl
+first_entry mapping hashes (ids.Status n) = refl
+first_entry mapping hashes (ids.Effect n) = refl
+
+pub empty_vault : (mapping : Mapping) (hashes : Hashes) (all : List TableId) → map (λ id. record { table = id; rows = no_rows id }) all ≡ map (table_entry mapping hashes []) all
+empty_vault mapping hashes [] = refl
+empty_vault mapping hashes (id ∷ all) = rw (first_entry mapping hashes id) (ap (λ (rest : List TableRows). table_entry mapping hashes [] id ∷ rest) (empty_vault mapping hashes all))
+
+-- what a vault keeps to, with no windows
+pub new_kept : (mapping : Mapping) (entries : List TableRows) → entries ≡ map (λ id. record { table = id; rows = no_rows id }) (tables mapping)
+    → IsVaultOf mapping entries × (are_rows_kept [] entries ≡ true) × (0 ≡ tables_weight entries)
+new_kept mapping entries are = (
+  ap (map (λ (entry : TableRows). entry.table)) are ∙ empty_tables (tables mapping),
+  ap are_empty are ∙ empty_all (tables mapping),
+  sym (ap tables_weight are ∙ empty_weight (tables mapping)),
+)

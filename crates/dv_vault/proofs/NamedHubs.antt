@@ -1,0 +1,151 @@
+-- The names of the hubs of a vault tell the keys of the hubs' rows.
+use Rattle.std.proofs.Common.{◌≡◌, ℕ, zero, suc, ◌+◌, ◌<◌, ◌≤◌, ◌==◌, Bool, true, false, List, [], ◌∷◌, ◌++◌, Option, Some, None, Bor, refl, sym, ◌∙◌, ap, arith, map, length, reverse, eq-eqb, eqb-true, cond}
+use Rattle.std.specs.Prelude.{find, slice_get}
+use Rattle.std.specs.List.{enumerate_from, flat_map, range_with_len}
+use Rattle.std.specs.Option.{option_map, option_or}
+use Rattle.std.specs.Slice.{IsItemAt}
+use Rattle.std.specs.Str.{bytes_eq}
+use Rattle.std.proofs.lemmas.Bool.Decides.{nat_tests}
+use Rattle.std.proofs.lemmas.List.Folds.{find-append}
+use Rattle.std.proofs.lemmas.Option.{slice_get-get_or, slice_get-map, slice_get_past}
+use Rattle.dv_text.specs.declared.rows.Key.{Key}
+use Rattle.dv_text.specs.declared.rows.Window.{Window}
+use Rattle.dv_text.specs.Keys.{Hashes}
+use Rattle.dv_catalog.specs.Entries.{Mapping}
+use Rattle.dv_index.specs.Places.{Indexed}
+use Rattle.dv_records.specs.declared.raw_rows.HubRow.{HubRow}
+use Rattle.dv_records.specs.Batches.{appended}
+use Rattle.dv_records.specs.HubNames.{HubName, is_named, key_named}
+use Rattle.dv_records.specs.Hubs.{hub_batch}
+use Rattle.dv_records.specs.ReadBack.{hub_rows_in}
+use Rattle.dv_records.specs.Vault.{vault}
+use Rattle.dv_records.proofs.VaultRows.{vault_hub}
+use Rattle.dv_keys.specs.LinkDeltas.{key_with}
+use Rattle.dv_vault.specs.Vaults.{hub_names, names_of_hub, names_of_rows}
+
+-- the names of one hub are those of its rows
+own_names : (hub : ℕ) (digest : List ℕ) (rows : List HubRow) → key_named hub digest (names_of_hub (hub, rows)) ≡ key_with digest rows
+own_names hub digest [] = refl
+own_names hub digest (row ∷ rows) = rw (eq-eqb hub hub refl) (by (bytes_eq row.digest digest) (own_names hub digest rows))
+  where
+    by : (b : Bool) → key_named hub digest (names_of_hub (hub, rows)) ≡ key_with digest rows
+        → option_map (λ (name : HubName). name.key) (cond b (Some (record { hub = hub; digest = row.digest; key = row.key })) (find (is_named hub digest) (names_of_hub (hub, rows))))
+        ≡ option_map (λ (row : HubRow). row.key) (cond b (Some row) (find (λ row. bytes_eq row.digest digest) rows))
+    by true later = refl
+    by false later = later
+
+-- and no other hub's
+other_names : (hub other : ℕ) (digest : List ℕ) (rows : List HubRow) → (other == hub) ≡ false → find (is_named hub digest) (names_of_hub (other, rows)) ≡ None
+other_names hub other digest [] e = refl
+other_names hub other digest (row ∷ rows) e = rw e (other_names hub other digest rows e)
+
+not_same : (hub other : ℕ) → hub < other → (other == hub) ≡ false
+not_same hub other less = by (other == hub) refl
+  where
+    by : (b : Bool) → (other == hub) ≡ b → (other == hub) ≡ false
+    by false e = e
+    by true e = let same : other ≡ hub = eqb-true other hub e in absurd (omega (arith, same, less))
+
+-- a look among two lists of which only one can have the name
+named_first : (hub : ℕ) (digest : List ℕ) (a b : List HubName) → find (is_named hub digest) b ≡ None → key_named hub digest (a ++ b) ≡ key_named hub digest a
+named_first hub digest a b none =
+    ap (option_map (λ (name : HubName). name.key)) (find-append (is_named hub digest) a b ∙ ap (option_or (find (is_named hub digest) a)) none ∙ nothing_more (find (is_named hub digest) a))
+  where
+    nothing_more : (o : Option HubName) → option_or o None ≡ o
+    nothing_more None = refl
+    nothing_more (Some name) = refl
+
+named_behind : (hub : ℕ) (digest : List ℕ) (a b : List HubName) → find (is_named hub digest) a ≡ None → find (is_named hub digest) (a ++ b) ≡ find (is_named hub digest) b
+named_behind hub digest a b none = find-append (is_named hub digest) a b ∙ ap (λ (o : Option HubName). option_or o (find (is_named hub digest) b)) none
+
+module _ (rows_of : ℕ → List HubRow) (hub : ℕ) (digest : List ℕ) where
+  -- the names of so many hubs, counted from one
+  abbrev names_from : ℕ → ℕ → List HubName
+  names_from start count = flat_map names_of_hub (enumerate_from start (map rows_of (range_with_len start count)))
+
+  none_later : (count start : ℕ) → hub < start → find (is_named hub digest) (names_from start count) ≡ None
+  none_later zero start before = refl
+  none_later (suc count) start before =
+      named_behind hub digest (names_of_hub (start, rows_of start)) (names_from (start + 1) count) (other_names hub start digest (rows_of start) (not_same hub start before))
+      ∙ none_later count (start + 1) (omega (arith, before))
+
+  named_from : (count start : ℕ) → start ≤ hub → hub < start + count → key_named hub digest (names_from start count) ≡ key_with digest (rows_of hub)
+  named_from zero start from under = absurd (omega (arith, from, under))
+  named_from (suc count) start from under = by (start == hub) refl (named_from count (start + 1))
+    where
+      differ : (start == hub) ≡ false → start + 1 ≤ hub
+      differ e = grind (arith, nat_tests, from, e)
+
+      by : (b : Bool) → (start == hub) ≡ b → (start + 1 ≤ hub → hub < start + 1 + count → key_named hub digest (names_from (start + 1) count) ≡ key_with digest (rows_of hub))
+          → key_named hub digest (names_from start (suc count)) ≡ key_with digest (rows_of hub)
+      by true e later =
+          let same : start ≡ hub = eqb-true start hub e in
+          named_first hub digest (names_of_hub (start, rows_of start)) (names_from (start + 1) count) (none_later count (start + 1) (omega (arith, same)))
+          ∙ ap (λ n. key_named hub digest (names_of_hub (n, rows_of n))) same ∙ own_names hub digest (rows_of hub)
+      by false e later =
+          ap (option_map (λ (name : HubName). name.key)) (named_behind hub digest (names_of_hub (start, rows_of start)) (names_from (start + 1) count) (other_names hub start digest (rows_of start) e))
+          ∙ later (differ e) (omega (arith, under))
+
+-- ---- among the rows of hubs, which stand in declared order
+
+-- the key under a digest in rows, if there are any
+abbrev pub key_in : List ℕ → Option (List HubRow) → Option Key
+key_in digest None = None
+key_in digest (Some rows) = key_with digest rows
+
+none_behind : (hub : ℕ) (digest : List ℕ) (start : ℕ) (hubs : List (List HubRow)) → hub < start
+    → find (is_named hub digest) (flat_map names_of_hub (enumerate_from start hubs)) ≡ None
+none_behind hub digest start [] before = refl
+none_behind hub digest start (rows ∷ hubs) before =
+    named_behind hub digest (names_of_hub (start, rows)) (flat_map names_of_hub (enumerate_from (start + 1) hubs)) (other_names hub start digest rows (not_same hub start before))
+    ∙ none_behind hub digest (start + 1) hubs (omega (arith, before))
+
+not_before : (hub other : ℕ) → other < hub → (other == hub) ≡ false
+not_before hub other less = by (other == hub) refl
+  where
+    by : (b : Bool) → (other == hub) ≡ b → (other == hub) ≡ false
+    by false e = e
+    by true e = let same : other ≡ hub = eqb-true other hub e in absurd (omega (arith, same, less))
+
+named_at : (digest : List ℕ) (hubs : List (List HubRow)) (start hub i : ℕ) → hub ≡ start + i
+    → key_named hub digest (flat_map names_of_hub (enumerate_from start hubs)) ≡ key_in digest (slice_get hubs i)
+named_at digest [] start hub i e = refl
+named_at digest (rows ∷ hubs) start hub zero e =
+    let same : start ≡ hub = omega (arith, e) in
+    named_first hub digest (names_of_hub (start, rows)) (flat_map names_of_hub (enumerate_from (start + 1) hubs)) (none_behind hub digest (start + 1) hubs (omega (arith, same)))
+    ∙ ap (λ n. key_named hub digest (names_of_hub (n, rows))) same ∙ own_names hub digest rows
+named_at digest (rows ∷ hubs) start hub (suc i) e =
+    ap (option_map (λ (name : HubName). name.key)) (named_behind hub digest (names_of_hub (start, rows)) (flat_map names_of_hub (enumerate_from (start + 1) hubs))
+    (other_names hub start digest rows (not_before hub start (omega (arith, e)))))
+    ∙ named_at digest hubs (start + 1) hub i (omega (arith, e))
+
+-- a name is told by the rows of its hub
+pub named_in : (hub : ℕ) (digest : List ℕ) (hubs : List (List HubRow)) → key_named hub digest (names_of_rows hubs) ≡ key_in digest (slice_get hubs hub)
+named_in hub digest hubs = named_at digest hubs 0 hub hub (omega arith)
+
+-- what a look at a place finds
+got : {X : Type 0} (xs : List X) (i : ℕ) (found : Option (Bor X)) → IsItemAt xs i found → option_map (λ x. x.now) found ≡ slice_get xs i
+got xs i None is = sym (slice_get_past xs i is.3)
+got xs i (Some x) is = sym (slice_get-get_or xs i x.now is.3.0 ∙ ap Some (sym is.1))
+
+rows_at : (hubs : List (Bor (Indexed HubRow))) (hub : ℕ) (found : Option (Bor (Bor (Indexed HubRow)))) → IsItemAt hubs hub found
+    → slice_get (map (λ hub. hub.now.rows) hubs) hub ≡ option_map (λ hub. hub.now.rows) (option_map (λ hub. hub.now) found)
+rows_at hubs hub found is = slice_get-map (λ (hub : Bor (Indexed HubRow)). hub.now.rows) hubs hub ∙ ap (option_map (λ (hub : Bor (Indexed HubRow)). hub.now.rows)) (sym (got hubs hub found is))
+
+pub no_name : (hubs : List (Bor (Indexed HubRow))) (hub : ℕ) (digest : List ℕ) (found : Option (Bor (Bor (Indexed HubRow)))) → IsItemAt hubs hub found → found ≡ None
+    → key_named hub digest (names_of_rows (map (λ hub. hub.now.rows) hubs)) ≡ None
+no_name hubs hub digest None is e = named_in hub digest (map (λ hub. hub.now.rows) hubs) ∙ ap (key_in digest) (rows_at hubs hub None is)
+no_name hubs hub digest (Some there) is e = cc
+
+pub name_there : (hubs : List (Bor (Indexed HubRow))) (hub : ℕ) (digest : List ℕ) (found : Option (Bor (Bor (Indexed HubRow)))) (there : Bor (Bor (Indexed HubRow))) → IsItemAt hubs hub found
+    → found ≡ Some there → key_named hub digest (names_of_rows (map (λ hub. hub.now.rows) hubs)) ≡ key_with digest there.now.now.rows
+name_there hubs hub digest found there is e =
+    named_in hub digest (map (λ hub. hub.now.rows) hubs) ∙ ap (key_in digest) (rows_at hubs hub found is)
+    ∙ ap (λ (found : Option (Bor (Bor (Indexed HubRow)))). key_in digest (option_map (λ hub. hub.now.rows) (option_map (λ hub. hub.now) found))) e
+
+-- the names of the hubs of a vault are those of their rows
+pub hubs_named : (mapping : Mapping) (hashes : Hashes) (sealed : List Window) (hub : ℕ) (digest : List ℕ) → hub < length mapping.hubs
+    → key_named hub digest (hub_names mapping (vault mapping hashes sealed)) ≡ key_with digest (appended (hub_batch mapping hashes hub) (reverse sealed))
+hubs_named mapping hashes sealed hub digest under =
+    named_from (λ hub. hub_rows_in hub (vault mapping hashes sealed)) hub digest (length mapping.hubs) 0 (omega arith) (omega (arith, under))
+    ∙ ap (key_with digest) (vault_hub mapping hashes sealed hub under)

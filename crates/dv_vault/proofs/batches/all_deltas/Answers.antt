@@ -1,0 +1,48 @@
+use Rattle.std.proofs.Common.{◌≡◌, ◌<◌, ◌≤◌, ◌∙◌, ap, arith, get_or, length, map, subst, sym}
+use Rattle.std.proofs.lemmas.List.{length-map}
+use Rattle.std.proofs.Math.ListN.{get_or-map}
+use Rattle.dv_text.specs.Keys.{hashes_of}
+use Rattle.dv_catalog.specs.TableLookups.{is_table_of}
+use Rattle.dv_records.specs.declared.stores.TableRows.{TableRows}
+use Rattle.dv_vault.specs.Additions.{ClashesAt}
+use Rattle.dv_vault.specs.Vaults.{entry_of, is_up_to, names_of_hubs}
+use Rattle.dv_vault.proofs.BatchesSoFar.{at_last, clashed, more_at, passes_here}
+use Rattle.dv_vault.proofs.batches.all_deltas.Goals as goal
+
+pub delta-requires-clause-table : goal.delta-requires-clause-table
+delta-requires-clause-table g c = λ κs b.
+    let under : c.loop-table.table-index < length (map entry_of c.args.tables.now) = omega (arith, c.loop-table-test.true, length-map c.args.tables.now entry_of) in
+    let at : get_or (map entry_of c.args.tables.now) c.loop-table.table-index (entry_of c.table-item.result) ≡ entry_of c.table-item.result =
+    get_or-map entry_of c.args.tables.now c.loop-table.table-index c.table-item.result ∙ ap entry_of (sym c.table-item.is) in
+    passes_here (λ (entry : TableRows). is_table_of c.args.catalog.now entry.table) (map entry_of c.args.tables.now) c.loop-table.table-index (entry_of c.table-item.result) c.requires.tables under at
+
+pub delta-requires-clause-dated : goal.delta-requires-clause-dated
+delta-requires-clause-dated g c = λ κs b.
+    let under : c.loop-table.table-index < length (map entry_of c.args.tables.now) = omega (arith, c.loop-table-test.true, length-map c.args.tables.now entry_of) in
+    let at : get_or (map entry_of c.args.tables.now) c.loop-table.table-index (entry_of c.table-item.result) ≡ entry_of c.table-item.result =
+    get_or-map entry_of c.args.tables.now c.loop-table.table-index c.table-item.result ∙ ap entry_of (sym c.table-item.is) in
+    passes_here (λ (entry : TableRows). is_up_to c.args.window.now.load entry.rows) (map entry_of c.args.tables.now) c.loop-table.table-index (entry_of c.table-item.result) c.requires.dated under at
+
+pub returns-in-Err-clause-clashes : goal.returns-in-Err-clause-clashes
+returns-in-Err-clause-clashes g c =
+    let under : c.loop-table.table-index < length (map entry_of c.args.tables.now) = omega (arith, c.loop-table-test.true, length-map c.args.tables.now entry_of) in
+    let at : get_or (map entry_of c.args.tables.now) c.loop-table.table-index (entry_of c.table-item.result) ≡ entry_of c.table-item.result =
+    get_or-map entry_of c.args.tables.now c.loop-table.table-index c.table-item.result ∙ ap entry_of (sym c.table-item.is) in
+    subst (ClashesAt c.args.catalog.now (hashes_of g.H.KeyDigest.digest_of g.H.KeyDigest.size) (names_of_hubs c.args.names.now) c.args.window.now (map entry_of c.args.tables.now)) (sym c.fault_of.ensures)
+    (clashed c.args.catalog.now (hashes_of g.H.KeyDigest.digest_of g.H.KeyDigest.size) (names_of_hubs c.args.names.now) c.args.window.now (map entry_of c.args.tables.now) c.loop-table.table-index c.loop-table.batches
+    (entry_of c.table-item.result) c.delta.result c.in-Err.fault c.id.result under at c.loop-table.invariant c.requires.tables c.in-Err.is c.delta.ensures.collision c.id.ensures)
+
+pub loop-table-preserved : goal.loop-table-preserved
+loop-table-preserved g c =
+    let under : c.loop-table.table-index < length (map entry_of c.args.tables.now) = omega (arith, c.loop-table-test.true, length-map c.args.tables.now entry_of) in
+    let at : get_or (map entry_of c.args.tables.now) c.loop-table.table-index (entry_of c.table-item.result) ≡ entry_of c.table-item.result =
+    get_or-map entry_of c.args.tables.now c.loop-table.table-index c.table-item.result ∙ ap entry_of (sym c.table-item.is) in
+    more_at c.args.catalog.now (hashes_of g.H.KeyDigest.digest_of g.H.KeyDigest.size) (names_of_hubs c.args.names.now) c.args.window.now (map entry_of c.args.tables.now) c.loop-table.table-index c.loop-table.batches c.push.new.self
+    (entry_of c.table-item.result) c.in-Ok.rows under at c.loop-table.invariant (c.in_ok-push-in-Ok.ensures {u = tt}).ok
+    (c.in-Ok.ensures {u = tt}).rows (c.in-Ok.ensures {u = tt}).apart (c.in-Ok.ensures {u = tt}).follow (c.in-Ok.ensures {u = tt}).stamped
+
+pub returns-clause-apart : goal.returns-clause-apart
+returns-clause-apart g c =
+    let all : length (map entry_of c.args.tables.now) ≤ c.loop-table.table-index = omega (arith, c.loop-table-test.false, length-map c.args.tables.now entry_of) in
+    (at_last c.args.catalog.now (hashes_of g.H.KeyDigest.digest_of g.H.KeyDigest.size) (names_of_hubs c.args.names.now) c.args.window.now (map entry_of c.args.tables.now) c.loop-table.table-index c.loop-table.batches
+    all c.loop-table.invariant).apart

@@ -1,0 +1,10 @@
+use Rattle.std.proofs.Common.{map, take}
+use Rattle.dv_text.specs.Keys.{hashes_of}
+use Rattle.dv_vault.specs.Vaults.{entry_of, names_of_hubs}
+use Rattle.dv_vault.proofs.BatchesSoFar.{SoFar}
+use Rattle.dv_vault.proofs.batches.all_deltas.Given as goal
+
+-- the batches of the tables so far
+abbrev pub invariant-loop-table : goal.invariant-loop-table
+invariant-loop-table g l =
+    SoFar l.catalog (hashes_of g.H.KeyDigest.digest_of g.H.KeyDigest.size) (names_of_hubs l.names) l.window (take l.table-index (map entry_of l.tables)) l.batches

@@ -1,0 +1,7 @@
+use Rattle.std.proofs.Common.{◌≡◌, ◌+◌, take}
+use Rattle.std.specs.Prelude.{sum_by}
+use Rattle.dv_records.specs.Weights.{rows_weight}
+use Rattle.dv_vault.proofs.batches.weight_with.Given as goal
+
+abbrev pub invariant-loop-batch : goal.invariant-loop-batch
+invariant-loop-batch l = l.sum ≡ l.weight_before + sum_by rows_weight (take l.batch-index l.batches)

@@ -1,0 +1,13 @@
+use Rattle.std.proofs.Common.{◌≡◌, inl, inr, [], ◌++◌, sym, ◌∙◌, ap, append-nil}
+use Rattle.dv_records.specs.ReadBack.{keys_read}
+use Rattle.dv_vault.specs.Vaults.{entries_of}
+use Rattle.dv_vault.proofs.ContentFacts.{no_keys}
+use Rattle.dv_vault.proofs.contents.keys_read.Goals as goal
+
+pub returns : goal.returns
+returns c =
+    let ended : keys_read c.args.catalog.now (entries_of c.args.raw.now) c.loop-hub.hub-iterator.a.rest.now c.loop-hub.hub-iterator.b.rest.now ≡ [] = elim c.in-None.ensures.steps [
+      | inl (x, both) ↦ no_keys c.args.catalog.now (entries_of c.args.raw.now) _ _ (inl both.0)
+      | inr (x, both) ↦ no_keys c.args.catalog.now (entries_of c.args.raw.now) _ _ (inr both.0)
+    ] in
+    sym (append-nil c.loop-hub.keys) ∙ ap (λ l. c.loop-hub.keys ++ l) (sym ended) ∙ c.loop-hub.invariant.0

@@ -1,0 +1,11 @@
+use Rattle.std.proofs.Common.{◌≡◌, ◌++◌, true, length, nat_lt}
+use Rattle.std.specs.List.{list_all}
+use Rattle.dv_records.specs.ReadBack.{keys_read}
+use Rattle.dv_vault.specs.Vaults.{entries_of}
+use Rattle.dv_vault.proofs.contents.keys_read.Given as goal
+
+-- the keys so far and those behind them are all
+abbrev pub invariant-loop-hub : goal.invariant-loop-hub
+invariant-loop-hub l =
+    (l.keys ++ keys_read l.catalog (entries_of l.raw) l.hub-iterator.a.rest.now l.hub-iterator.b.rest.now ≡ keys_read l.catalog (entries_of l.raw) l.hubs l.digests)
+    × (list_all (λ hub. nat_lt hub (length l.catalog.hubs)) l.hub-iterator.a.rest.now ≡ true)

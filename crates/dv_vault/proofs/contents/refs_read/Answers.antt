@@ -1,0 +1,34 @@
+use Rattle.std.proofs.Common.{[], ◌∷◌, ◌++◌, ◌∙◌, ap}
+use Rattle.std.specs.List.{list_all}
+use Rattle.dv_catalog.specs.Mappings.{is_hub}
+use Rattle.dv_catalog.proofs.ValidReads.{valid_link}
+use Rattle.dv_vault.specs.Vaults.{entries_of}
+use Rattle.dv_vault.proofs.VaultFacts.{hub_there, link_there}
+use Rattle.dv_vault.proofs.ContentFacts.{hub_within, link_within, refs_of_hub, refs_of_link}
+use Rattle.dv_vault.proofs.contents.refs_read.Goals as goal
+
+pub hub-requires : goal.hub-requires
+hub-requires c =
+    hub_there c.args.catalog.now (entries_of c.args.raw.now) c.requires.raw c.in-Hub.hub (hub_within c.args.catalog.now c.args.parent c.in-Hub.hub c.requires.parent c.in-Hub.is)
+
+pub link-requires : goal.link-requires
+link-requires c =
+    link_there c.args.catalog.now (entries_of c.args.raw.now) c.requires.raw c.in-Link.link
+    (link_within c.args.catalog.now c.args.parent c.in-Link.link c.requires.parent c.in-Link.is)
+
+pub keys_read-requires-clause-hubs : goal.keys_read-requires-clause-hubs
+keys_read-requires-clause-hubs c =
+    ap (list_all (is_hub c.args.catalog.now)) c.items-hubs.ensures
+    ∙ (valid_link c.args.catalog.now c.requires.valid c.in-Link.link c.link-in-Link.result.now c.link-in-Link.ensures).in_range
+
+pub returns-in_ok-push-in-Hub : goal.returns-in_ok-push-in-Hub
+returns-in_ok-push-in-Hub c =
+    refs_of_hub c.args.catalog.now (entries_of c.args.raw.now) c.args.parent c.in-Hub.hub c.args.digest.now c.hub.result.now.rows c.key.result c.in-Some.key c.push.new.self
+    c.in-Hub.is c.hub.ensures c.key.ensures c.in-Some.is
+    ((c.in_ok-push-in-Hub.ensures {u = tt}).ok ∙ ap (λ l. l ++ c.in_ok-copy-in-Hub.field-0 ∷ []) (c.in_ok-refs-in-Hub.ensures {u = tt}) ∙ ap (λ key. key ∷ []) (c.in_ok-copy-in-Hub.ensures {u = tt}))
+
+pub returns-in_ok-refs-in-Link : goal.returns-in_ok-refs-in-Link
+returns-in_ok-refs-in-Link c =
+    refs_of_link c.args.catalog.now (entries_of c.args.raw.now) c.args.parent c.in-Link.link c.args.digest.now c.link.result.now.rows c.hubs.result c.in-Some-hubs.digests
+    c.link-in-Link.result.now c.items-hubs.result.now c.items.result.now c.in_ok-refs-in-Link.refs
+    c.in-Link.is c.link.ensures c.hubs.ensures c.in-Some-hubs.is c.link-in-Link.ensures c.items-hubs.ensures c.items.ensures (c.in_ok-refs-in-Link.ensures {u = tt})

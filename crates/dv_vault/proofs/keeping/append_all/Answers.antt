@@ -1,0 +1,61 @@
+use Rattle.std.proofs.Common.{rules, ◌≡◌, ◌<◌, ◌∙◌, ap, arith, get_or, length, map, subst, sym}
+use Rattle.std.proofs.lemmas.List.{length-map}
+use Rattle.std.proofs.Math.ListN.{get_or-map}
+use Rattle.std.proofs.lemmas.Slice.Zip.{AllZip-long}
+use Rattle.dv_vault.specs.Keeping.{IsOfKind, TakesRows}
+use Rattle.dv_vault.specs.Vaults.{entry_of}
+use Rattle.dv_vault.proofs.BatchSteps.{AtPlace, at_place, pair_at, whole}
+use Rattle.dv_vault.proofs.StoreSteps.{caused, stored_kind, took_more, took_none}
+use Rattle.dv_vault.proofs.keeping.append_all.Goals as goal
+
+pub loop-i-init : goal.loop-i-init
+loop-i-init g c = record { told = took_none (map entry_of c.args.tables.now) (g.K.Keeper.store c.args.keeper.now) c.requires.told; later = omega arith }
+
+pub bounds-batches-i : goal.bounds-batches-i
+bounds-batches-i g c = omega (arith, AllZip-long IsOfKind (map entry_of c.args.tables.now) c.args.batches.now c.requires.kinds, length-map c.args.tables.now entry_of)
+
+pub append_rows-requires-clause-given : goal.append_rows-requires-clause-given
+append_rows-requires-clause-given g c =
+    let under : c.loop-i.i < length (map entry_of c.args.tables.now) = omega (arith, length-map c.args.tables.now entry_of) in
+    let here : get_or (map entry_of c.args.tables.now) c.loop-i.i (entry_of c.index-tables-i.result) ≡ entry_of c.index-tables-i.result = get_or-map entry_of c.args.tables.now c.loop-i.i c.index-tables-i.result ∙ ap entry_of (sym c.index-tables-i.is) in
+    let kind : IsOfKind (entry_of c.index-tables-i.result) c.index-batches-i.result = pair_at IsOfKind (map entry_of c.args.tables.now) c.args.batches.now c.loop-i.i (entry_of c.index-tables-i.result) c.index-batches-i.result c.requires.kinds under here (sym c.index-batches-i.is) in
+    let named : c.id.result ≡ (entry_of c.index-tables-i.result).table = cc in
+    rw named kind.more
+
+pub append_rows-requires-clause-stored : goal.append_rows-requires-clause-stored
+append_rows-requires-clause-stored g c =
+    let under : c.loop-i.i < length (map entry_of c.args.tables.now) = omega (arith, length-map c.args.tables.now entry_of) in
+    let too : c.loop-i.i < length c.args.batches.now = omega (arith, AllZip-long IsOfKind (map entry_of c.args.tables.now) c.args.batches.now c.requires.kinds) in
+    let here : get_or (map entry_of c.args.tables.now) c.loop-i.i (entry_of c.index-tables-i.result) ≡ entry_of c.index-tables-i.result = get_or-map entry_of c.args.tables.now c.loop-i.i c.index-tables-i.result ∙ ap entry_of (sym c.index-tables-i.is) in
+    let kind : IsOfKind (entry_of c.index-tables-i.result) c.index-batches-i.result = pair_at IsOfKind (map entry_of c.args.tables.now) c.args.batches.now c.loop-i.i (entry_of c.index-tables-i.result) c.index-batches-i.result c.requires.kinds under here (sym c.index-batches-i.is) in
+    let at : AtPlace (map entry_of c.args.tables.now) c.args.batches.now c.loop-i.i (entry_of c.index-tables-i.result) c.index-batches-i.result = at_place (map entry_of c.args.tables.now) c.args.batches.now c.loop-i.i (entry_of c.index-tables-i.result) c.index-batches-i.result c.requires.apart under here too (sym c.index-batches-i.is) in
+    let named : c.id.result ≡ (entry_of c.index-tables-i.result).table = cc in
+    stored_kind (map entry_of c.args.tables.now) c.args.batches.now c.loop-i.i (entry_of c.index-tables-i.result) c.index-batches-i.result at kind c.id.result named
+    (g.K.Keeper.store c.args.keeper.now) (g.K.Keeper.store c.loop-i.keeper) c.loop-i.invariant.told
+
+pub returns-in_err-append_rows-clause-cause : goal.returns-in_err-append_rows-clause-cause
+returns-in_err-append_rows-clause-cause g c =
+    caused (g.K.Keeper.faults c.args.keeper.now) (g.K.Keeper.faults c.loop-i.keeper) (g.K.Keeper.faults c.append_rows.new.keeper) _ c.from_residual.result c.loop-i.invariant.later c.append_rows.ensures.cause
+    (λ e. search rules)
+
+pub loop-i-preserved : goal.loop-i-preserved
+loop-i-preserved g c =
+    let under : c.loop-i.i < length (map entry_of c.args.tables.now) = omega (arith, length-map c.args.tables.now entry_of) in
+    let too : c.loop-i.i < length c.args.batches.now = omega (arith, AllZip-long IsOfKind (map entry_of c.args.tables.now) c.args.batches.now c.requires.kinds) in
+    let here : get_or (map entry_of c.args.tables.now) c.loop-i.i (entry_of c.index-tables-i.result) ≡ entry_of c.index-tables-i.result = get_or-map entry_of c.args.tables.now c.loop-i.i c.index-tables-i.result ∙ ap entry_of (sym c.index-tables-i.is) in
+    let kind : IsOfKind (entry_of c.index-tables-i.result) c.index-batches-i.result = pair_at IsOfKind (map entry_of c.args.tables.now) c.args.batches.now c.loop-i.i (entry_of c.index-tables-i.result) c.index-batches-i.result c.requires.kinds under here (sym c.index-batches-i.is) in
+    let at : AtPlace (map entry_of c.args.tables.now) c.args.batches.now c.loop-i.i (entry_of c.index-tables-i.result) c.index-batches-i.result = at_place (map entry_of c.args.tables.now) c.args.batches.now c.loop-i.i (entry_of c.index-tables-i.result) c.index-batches-i.result c.requires.apart under here too (sym c.index-batches-i.is) in
+    let named : c.id.result ≡ (entry_of c.index-tables-i.result).table = cc in
+    record {
+      told = took_more (map entry_of c.args.tables.now) c.args.batches.now c.loop-i.i (entry_of c.index-tables-i.result) c.index-batches-i.result at kind c.id.result named
+          (g.K.Keeper.store c.args.keeper.now) (g.K.Keeper.store c.loop-i.keeper) (g.K.Keeper.store c.append_rows.new.keeper) c.in_ok-append_rows.ensures.change c.loop-i.invariant.told;
+      later = omega (arith, c.loop-i.invariant.later, c.append_rows.ensures.cause.later);
+    }
+
+pub returns-clause-told : goal.returns-clause-told
+returns-clause-told g c =
+    let (taken, dropped) = whole c.loop-i.i c.args.batches.now (omega (arith, AllZip-long IsOfKind (map entry_of c.args.tables.now) c.args.batches.now c.requires.kinds, length-map c.args.tables.now entry_of)) in
+    subst (λ l. TakesRows (map entry_of c.args.tables.now) l (g.K.Keeper.store c.args.keeper.now) (g.K.Keeper.store c.loop-i.keeper)) taken c.loop-i.invariant.told
+
+pub returns-clause-cause : goal.returns-clause-cause
+returns-clause-cause g c = record { later = c.loop-i.invariant.later; failed = λ e. cc }

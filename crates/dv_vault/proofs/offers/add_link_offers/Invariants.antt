@@ -1,0 +1,8 @@
+use Rattle.std.proofs.Common.{◌≡◌, ◌∷◌, [], ◌++◌, map, take}
+use Rattle.std.specs.List.{flat_map}
+use Rattle.dv_vault.specs.Offered.{kept, offered_by}
+use Rattle.dv_vault.proofs.offers.add_link_offers.Given as goal
+
+abbrev pub invariant-loop-row : goal.invariant-loop-row
+invariant-loop-row l =
+    map offered_by l.offers.items ≡ map offered_by l.initial.offers.items ++ flat_map (λ row. kept l.staged.feed (row.refs ∷ [])) (take l.row-index l.row-items)

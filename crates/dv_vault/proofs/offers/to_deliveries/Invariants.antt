@@ -1,0 +1,6 @@
+use Rattle.std.proofs.Common.{◌≡◌, map, take}
+use Rattle.dv_vault.specs.Offered.{delivery_to, offered_by}
+use Rattle.dv_vault.proofs.offers.to_deliveries.Given as goal
+
+abbrev pub invariant-loop-offer : goal.invariant-loop-offer
+invariant-loop-offer l = l.items ≡ map (delivery_to l.table) (map offered_by (take l.offer-index l.offers))

@@ -1,0 +1,16 @@
+use Rattle.std.proofs.Common.{◌∙◌, ap}
+use Rattle.std.specs.Prelude.{find}
+use Rattle.std.specs.Option.{option_map}
+use Rattle.dv_records.specs.declared.stores.TableRows.{TableRows}
+use Rattle.dv_records.specs.Stores.{table_eq}
+use Rattle.dv_vault.specs.declared.tables.Table.{Table}
+use Rattle.dv_vault.specs.Vaults.{entry_of}
+use Rattle.dv_vault.proofs.VaultFacts.{find-seen, seen-twice}
+use Rattle.dv_vault.proofs.raw_tables.RawTables.table.Goals as goal
+
+pub returns : goal.returns
+returns c =
+    seen-twice (λ table. table.now) entry_of c.find_table.result
+    ∙ ap (option_map entry_of) c.find_table.ensures
+    ∙ ap (λ tables. option_map entry_of (find (λ (table : Table). table_eq (entry_of table).table c.args.id) tables)) c.deref.ensures.value
+    ∙ find-seen entry_of (λ (entry : TableRows). table_eq entry.table c.args.id) c.args.self.now.tables.items

@@ -1,0 +1,10 @@
+use Rattle.std.specs.List.Sorted.{IsStrictlySortedBy}
+use Rattle.dv_vault.proofs.tables.Table.empty.Goals as goal
+
+pub from_rows-requires-in-Sat : goal.from_rows-requires-in-Sat
+unfolding IsStrictlySortedBy
+from_rows-requires-in-Sat c = rw c.new-in-Sat.ensures tt
+
+pub from_rows-requires-in-Status : goal.from_rows-requires-in-Status
+unfolding IsStrictlySortedBy
+from_rows-requires-in-Status c = rw c.new-in-Status.ensures tt

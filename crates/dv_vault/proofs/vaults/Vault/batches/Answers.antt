@@ -1,0 +1,30 @@
+use Rattle.std.proofs.Common.{◌≡◌, List, None, ◌∙◌, ap, map, subst, sym}
+use Rattle.std.specs.Prelude.{IfOk}
+use Rattle.std.specs.List.{list_all}
+use Rattle.dv_text.specs.Keys.{hashes_of}
+use Rattle.dv_catalog.specs.TableLookups.{is_table_of}
+use Rattle.dv_records.specs.declared.stores.TableRows.{TableRows}
+use Rattle.dv_records.specs.Outcomes.{late_after}
+use Rattle.dv_vault.specs.declared.tables.Table.{Table}
+use Rattle.dv_vault.specs.Additions.{AreApart}
+use Rattle.dv_vault.specs.Vaults.{RawVault, are_up_to, entries_of, entry_of, hubs_in, last_head, rows_of_hubs}
+use Rattle.dv_vault.proofs.BatchesSoFar.{named_apart, vault_tables}
+use Rattle.dv_vault.proofs.Taken.{rows_not_later}
+use Rattle.dv_vault.proofs.vaults.Vault.batches.Goals as goal
+
+pub all_deltas-requires-clause-tables : goal.all_deltas-requires-clause-tables
+all_deltas-requires-clause-tables g c κs within =
+    ap (λ (tables : List Table). list_all (λ (entry : TableRows). is_table_of c.self.inside.catalog entry.table) (map entry_of tables)) c.deref.ensures.value
+    ∙ vault_tables c.self.inside.catalog (entries_of c.self.inside.raw) c.self.invariant.0
+
+pub all_deltas-requires-clause-dated : goal.all_deltas-requires-clause-dated
+all_deltas-requires-clause-dated g c κs within =
+    let later : late_after (last_head c.self.inside.heads) c.args.window.now.load ≡ None = subst (λ (raw : RawVault). late_after (last_head raw.heads) c.args.window.now.load ≡ None) (sym c.self.view_is) c.requires.later in
+    ap (λ (tables : List Table). are_up_to c.args.window.now.load (map entry_of tables)) c.deref.ensures.value
+    ∙ rows_not_later c.self.inside.heads (entries_of c.self.inside.raw) c.args.window.now.load c.self.invariant.2 later
+
+pub returns-clause-apart : goal.returns-clause-apart
+returns-clause-apart g c =
+    subst (λ (raw : RawVault). IfOk c.all_deltas.result (λ batches. AreApart (hashes_of g.H.KeyDigest.digest_of g.H.KeyDigest.size) raw c.args.window.now)) c.self.view_is
+    (named_apart c.all_deltas.result c.self.inside.catalog (hashes_of g.H.KeyDigest.digest_of g.H.KeyDigest.size) (rows_of_hubs c.in_ok-names.names) (hubs_in c.self.inside.catalog (entries_of c.self.inside.raw))
+    c.args.window.now (map entry_of c.deref.result.now) (entries_of c.self.inside.raw) (c.in_ok-names.ensures {u = tt}) (ap (map entry_of) c.deref.ensures.value) c.all_deltas.ensures.apart)

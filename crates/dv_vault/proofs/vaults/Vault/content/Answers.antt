@@ -1,0 +1,24 @@
+use Rattle.std.proofs.Common.{◌≡◌, ◌<◌, ◌∙◌, ap, length, subst, sym}
+use Rattle.dv_records.specs.ReadBack.{content_read}
+use Rattle.dv_vault.specs.Vaults.{IsBuilt, RawVault, entries_of}
+use Rattle.dv_vault.proofs.VaultFacts.{status_there}
+use Rattle.dv_vault.proofs.ContentFacts.{content_by, feed_there, mart_read}
+use Rattle.dv_vault.proofs.vaults.Vault.content.Goals as goal
+
+pub status-requires : goal.status-requires
+status-requires c =
+    let (definition, got) = feed_there c.self.inside.catalog c.args.feed (subst (λ (raw : RawVault). c.args.feed < length raw.mapping.feeds) (sym c.self.view_is) c.requires) in
+    status_there c.self.inside.catalog (entries_of c.self.inside.raw) c.self.invariant.0 c.args.feed definition got
+
+pub returns-clause-read : goal.returns-clause-read
+returns-clause-read c =
+    let (definition, got) = feed_there c.self.inside.catalog c.args.feed (subst (λ (raw : RawVault). c.args.feed < length raw.mapping.feeds) (sym c.self.view_is) c.requires) in
+    c.sorted_rows.ensures.value
+    ∙ content_by c.self.inside.catalog (entries_of c.self.inside.raw) c.args.feed c.args.date definition c.in_ok-rows.rows c.items.result.now c.status.result.now.rows got c.status.ensures
+    (c.items.ensures ∙ c.in_ok-parents.ensures {u = tt}) (c.in_ok-rows.ensures {u = tt} definition got)
+    ∙ ap (λ (raw : RawVault). content_read raw.mapping raw.tables c.args.feed c.args.date) c.self.view_is
+
+pub returns-clause-told : goal.returns-clause-told
+returns-clause-told c hashes sealed has =
+    returns-clause-read c
+    ∙ mart_read hashes sealed c.args.self.now has (subst (λ (raw : RawVault). IsBuilt raw.mapping) c.self.view_is (record { valid = c.self.invariant.5; built = c.self.invariant.1 })) c.args.feed c.requires c.args.date

@@ -1,0 +1,20 @@
+use Rattle.std.proofs.Common.{◌≡◌, ap, sym, true, subst, List}
+use Rattle.dv_text.specs.declared.rows.WindowHead.{WindowHead}
+use Rattle.dv_vault.specs.Vaults.{are_heads_of, are_rows_kept, entries_of}
+use Rattle.dv_vault.proofs.BuiltTables.{tables_kept}
+use Rattle.dv_vault.proofs.EmptyTables.{new_kept}
+use Rattle.dv_vault.proofs.vaults.Vault.empty.Goals as goal
+
+pub empty-requires : goal.empty-requires
+empty-requires c = tables_kept c.args.catalog c.requires
+
+pub invariant_of-result : goal.invariant_of-result
+invariant_of-result c =
+    let (order, rows, weight) = new_kept c.args.catalog (entries_of c.in_ok-raw.raw) (c.in_ok-raw.ensures {u = tt}) in (
+      order,
+      c.requires,
+      subst (λ (heads : List WindowHead). are_rows_kept heads (entries_of c.in_ok-raw.raw) ≡ true) (sym c.new.ensures) rows,
+      ap (are_heads_of c.args.catalog) c.new.ensures,
+      weight,
+      c.hub_count-hubs.ensures.valid,
+    )

@@ -1,0 +1,17 @@
+use Rattle.std.proofs.Common.{subst}
+use Rattle.std.specs.Prelude.{Contains, IfNone, IfSome}
+use Rattle.dv_catalog.specs.declared.tables.TableId.TheVariants as ids
+use Rattle.dv_catalog.specs.Tables.{tables}
+use Rattle.dv_vault.specs.Vaults.{RawVault, entries_of}
+use Rattle.dv_vault.proofs.VaultFacts.{not_of_mapping, of_mapping}
+use Rattle.dv_vault.proofs.vaults.Vault.sat.Goals as goal
+
+pub returns-clause-there : goal.returns-clause-there
+returns-clause-there c =
+    subst (λ (raw : RawVault). IfSome c.sat.result (λ table. Contains (tables raw.mapping) (ids.Sat c.args.feed))) c.self.view_is
+    (of_mapping c.self.inside.catalog (entries_of c.self.inside.raw) c.self.invariant.0 (ids.Sat c.args.feed) c.sat.result c.sat.ensures.there)
+
+pub returns-clause-absent : goal.returns-clause-absent
+returns-clause-absent c =
+    subst (λ (raw : RawVault). IfNone c.sat.result (Contains (tables raw.mapping) (ids.Sat c.args.feed) → ⊥)) c.self.view_is
+    (not_of_mapping c.self.inside.catalog (entries_of c.self.inside.raw) c.self.invariant.0 (ids.Sat c.args.feed) c.sat.result c.sat.ensures.none)

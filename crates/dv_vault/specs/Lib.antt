@@ -1,0 +1,5 @@
+pub mod Additions
+pub mod Keeping
+pub mod NamesApart
+pub mod Offered
+pub mod Vaults

@@ -1,0 +1,237 @@
+-- The tables of a vault with their rows, and what a window adds to each, told from the rows alone.
+use Rattle.std.specs.Prelude.{◌≡◌, ℕ, ◌-◌, ◌==◌, nat_le, nat_lt, Bool, true, false, List, [], ◌∷◌, ◌++◌, Option, None, Some, All, IsTrue, find, length, map, slice_get}
+use Rattle.std.specs.List.{enumerate_from, flat_map, list_all, list_any, range_with_len}
+use Rattle.std.specs.List.Sorted.{IsStrictlySortedBy}
+use Rattle.std.specs.Option.{option_map, option_map_or}
+use Rattle.dv_text.specs.declared.rows.NRow.{NRow}
+use Rattle.dv_text.specs.declared.rows.Staged.{Staged}
+use Rattle.dv_text.specs.declared.rows.Window.{Window}
+use Rattle.dv_text.specs.declared.rows.WindowHead.{WindowHead}
+use Rattle.dv_text.specs.Keys.{Hashes}
+use Rattle.dv_catalog.specs.declared.entries.Parent.{Parent}
+use Rattle.dv_catalog.specs.declared.entries.Parent.TheVariants.{Hub, Link}
+use Rattle.dv_catalog.specs.declared.tables.TableId.{TableId}
+use Rattle.dv_catalog.specs.declared.tables.TableId.TheVariants as ids
+use Rattle.dv_catalog.specs.Built.{unbuilt}
+use Rattle.dv_catalog.specs.Entries.{Mapping}
+use Rattle.dv_catalog.specs.Feeds.{source}
+use Rattle.dv_catalog.specs.Mappings.{is_valid}
+use Rattle.dv_catalog.specs.Tables.{tables}
+use Rattle.dv_records.specs.declared.raw_rows.HubRow.{HubRow}
+use Rattle.dv_records.specs.declared.stores.Rows.{Rows}
+use Rattle.dv_records.specs.declared.stores.Rows.TheVariants.{Hubs, Links, Sats, Multis, Statuses, Effects, Pits, Bridges}
+use Rattle.dv_records.specs.declared.stores.TableRows.{TableRows}
+use Rattle.dv_records.specs.Deliveries.{deliveries}
+use Rattle.dv_records.specs.Deltas.{Hashed}
+use Rattle.dv_records.specs.History.{Extract, all_refs, extract_of}
+use Rattle.dv_records.specs.HubNames.{HubName}
+use Rattle.dv_records.specs.ReadBack.{hub_rows_in}
+use Rattle.dv_records.specs.States.{are_windows_valid, head_of}
+use Rattle.dv_records.specs.Stores.{no_rows, row_count, rows_then, table_eq}
+use Rattle.dv_records.specs.Vault.{vault}
+use Rattle.dv_keys.specs.HubDeltas.{hub_delta, hub_hashed}
+use Rattle.dv_keys.specs.HubRows.{are_hub_rows}
+use Rattle.dv_keys.specs.LinkDeltas.{link_delta, link_hashed}
+use Rattle.dv_keys.specs.LinkRows.{are_link_rows}
+use Rattle.dv_sat.specs.SatRows.{sat_delta, sat_order}
+use Rattle.dv_track.specs.Tracks.{status_delta, status_order}
+use Rattle.dv_vault.specs.declared.named_hubs.HubKeys.{HubKeys}
+use Rattle.dv_vault.specs.declared.tables.Table.{Table}
+use Rattle.dv_vault.specs.declared.raw_tables.RawTables.{RawTables}
+use Rattle.dv_vault.specs.declared.tables.Table.TheVariants as table
+
+-- a table with its rows
+abbrev pub entry_of : Table → TableRows
+entry_of (table.Hub hub rows) = record { table = ids.Hub hub; rows = Hubs rows.rows }
+entry_of (table.Link link rows) = record { table = ids.Link link; rows = Links rows.rows }
+entry_of (table.Sat feed rows) = record { table = ids.Sat feed; rows = Sats rows.rows }
+entry_of (table.Status feed rows) = record { table = ids.Status feed; rows = Statuses rows.rows }
+
+-- for how many more rows it has room
+abbrev pub spare_of : Table → ℕ
+spare_of (table.Hub hub rows) = rows.spare
+spare_of (table.Link link rows) = rows.spare
+spare_of (table.Sat feed rows) = rows.spare
+spare_of (table.Status feed rows) = rows.spare
+
+-- ---- hub keys
+
+-- the keys of a hub's rows by their hash keys
+abbrev pub names_of_hub : ℕ × List HubRow → List HubName
+names_of_hub hub = map (λ row. record { hub = hub.0; digest = row.digest; key = row.key }) hub.1
+
+-- the keys of hubs, which stand in declared order
+abbrev pub names_of_rows : List (List HubRow) → List HubName
+names_of_rows hubs = flat_map names_of_hub (enumerate_from 0 hubs)
+
+-- the rows of hubs whose keys are looked up, and their names
+abbrev pub rows_of_hubs : HubKeys → List (List HubRow)
+rows_of_hubs keys = map (λ hub. hub.now.rows) keys.hubs.items
+
+abbrev pub names_of_hubs : HubKeys → List HubName
+names_of_hubs keys = names_of_rows (rows_of_hubs keys)
+
+-- the rows of the hubs of a mapping, in declared order
+abbrev pub hubs_in : Mapping → List TableRows → List (List HubRow)
+hubs_in mapping tables = map (λ hub. hub_rows_in hub tables) (range_with_len 0 (length mapping.hubs))
+
+-- the keys of the hubs of a mapping by their hash keys
+abbrev pub hub_names : Mapping → List TableRows → List HubName
+hub_names mapping tables = names_of_rows (hubs_in mapping tables)
+
+-- ---- tables
+
+-- a table is among tables
+abbrev pub has_table : TableId → List TableRows → Bool
+has_table id tables = list_any (λ entry. table_eq entry.table id) tables
+
+-- a table that is built so far
+abbrev pub is_kept : TableId → Bool
+is_kept (ids.Hub n) = true
+is_kept (ids.Link n) = true
+is_kept (ids.Sat n) = true
+is_kept (ids.Status n) = true
+is_kept (ids.Multi n) = false
+is_kept (ids.Effect n) = false
+
+-- the kinds of tables
+abbrev pub is_hub : TableId → Bool
+is_hub (ids.Hub n) = true
+is_hub table = false
+
+abbrev pub is_link : TableId → Bool
+is_link (ids.Link n) = true
+is_link table = false
+
+abbrev pub is_sat : TableId → Bool
+is_sat (ids.Sat n) = true
+is_sat table = false
+
+abbrev pub is_status : TableId → Bool
+is_status (ids.Status n) = true
+is_status table = false
+
+-- a parent is a hub or a link of the mapping
+abbrev pub is_parent : Mapping → Parent → Bool
+is_parent mapping (Hub hub) = nat_lt hub (length mapping.hubs)
+is_parent mapping (Link link) = nat_lt link (length mapping.links)
+
+-- the extract of a feed in a window, with its feed
+abbrev pub staged_of : ℕ → Window → Option Staged
+staged_of feed window = find (λ staged. staged.feed == feed) window.extracts
+
+-- ---- what a window adds
+
+-- what an extract adds; nothing where there is none
+abbrev pub extract_rows : {R : Type 0} → (List NRow → List R) → Option Extract → List R
+extract_rows delta None = []
+extract_rows delta (Some extract) = delta extract.rows
+
+-- what a window adds to a table with these rows
+abbrev pub added : Mapping → Hashes → Window → TableId → Rows → Rows
+added mapping hashes window (ids.Hub hub) (Hubs rows) =
+    Hubs (hub_delta mapping hashes window.load rows (deliveries mapping (Hub hub) window))
+added mapping hashes window (ids.Link link) (Links rows) =
+    Links (link_delta mapping hashes window.load rows (deliveries mapping (Link link) window))
+added mapping hashes window (ids.Sat feed) (Sats rows) =
+    Sats (extract_rows (sat_delta hashes (source mapping feed) rows window.load) (extract_of feed window))
+added mapping hashes window (ids.Status feed) (Statuses rows) =
+    Statuses (extract_rows (λ staged. status_delta hashes (source mapping feed) rows window.load (all_refs staged)) (extract_of feed window))
+added mapping hashes window table rows = no_rows table
+
+abbrev pub added_to : Mapping → Hashes → Window → TableRows → Rows
+added_to mapping hashes window entry = added mapping hashes window entry.table entry.rows
+
+-- what must have hash keys of its own in a table with these rows and a window: nothing but in hubs and links
+abbrev pub hashed : Mapping → Hashes → List HubName → Window → TableId → Rows → List Hashed
+hashed mapping hashes names window (ids.Hub hub) (Hubs rows) = hub_hashed mapping hashes rows (deliveries mapping (Hub hub) window)
+hashed mapping hashes names window (ids.Link link) (Links rows) = link_hashed mapping hashes names rows (deliveries mapping (Link link) window)
+hashed mapping hashes names window table rows = []
+
+abbrev pub hashed_in : Mapping → Hashes → List HubName → Window → TableRows → List Hashed
+hashed_in mapping hashes names window entry = hashed mapping hashes names window entry.table entry.rows
+
+-- ---- what rows of a table keep to
+
+-- rows may stand behind those of a table
+abbrev pub Follow : Rows → Rows → Type 0
+Follow (Hubs rows) (Hubs more) = IsTrue (are_hub_rows (rows ++ more))
+Follow (Links rows) (Links more) = IsTrue (are_link_rows (rows ++ more))
+Follow (Sats rows) (Sats more) = IsStrictlySortedBy sat_order (rows ++ more)
+Follow (Statuses rows) (Statuses more) = IsStrictlySortedBy status_order (rows ++ more)
+Follow rows more = ⊥
+
+-- no row is later than a date
+abbrev pub is_up_to : ℕ → Rows → Bool
+is_up_to date (Hubs rows) = list_all (λ row. nat_le row.load date) rows
+is_up_to date (Links rows) = list_all (λ row. nat_le row.load date) rows
+is_up_to date (Sats rows) = list_all (λ row. nat_le row.load date) rows
+is_up_to date (Multis rows) = list_all (λ row. nat_le row.load date) rows
+is_up_to date (Statuses rows) = list_all (λ row. nat_le row.load date) rows
+is_up_to date (Effects rows) = list_all (λ row. nat_le row.load date) rows
+is_up_to date (Pits rows) = true
+is_up_to date (Bridges rows) = true
+
+-- no row of the tables is later than a date
+abbrev pub are_up_to : ℕ → List TableRows → Bool
+are_up_to date tables = list_all (λ entry. is_up_to date entry.rows) tables
+
+-- all rows have a load date
+abbrev pub AreOfLoad : ℕ → Rows → Type 0
+AreOfLoad load (Hubs rows) = All (λ row. row.load ≡ load) rows
+AreOfLoad load (Links rows) = All (λ row. row.load ≡ load) rows
+AreOfLoad load (Sats rows) = All (λ row. row.load ≡ load) rows
+AreOfLoad load (Multis rows) = All (λ row. row.load ≡ load) rows
+AreOfLoad load (Statuses rows) = All (λ row. row.load ≡ load) rows
+AreOfLoad load (Effects rows) = All (λ row. row.load ≡ load) rows
+AreOfLoad load (Pits rows) = ⊥
+AreOfLoad load (Bridges rows) = ⊥
+
+-- ---- a vault
+
+-- raw tables with their rows
+abbrev pub entries_of : RawTables → List TableRows
+entries_of raw = map entry_of raw.tables.items
+
+-- entries are those of the tables of a mapping, in table order
+abbrev pub IsVaultOf : Mapping → List TableRows → Type 0
+IsVaultOf mapping entries = map (λ entry. entry.table) entries ≡ tables mapping
+
+-- a mapping is valid, and every form in it is built
+pub record IsBuilt (mapping : Mapping) : Type 0 where
+  pub valid : is_valid mapping ≡ true
+  pub built : unbuilt mapping ≡ None
+
+-- what a vault has: the mapping, its raw tables with their rows, in table order, and the heads of the sealed windows, in order
+pub record RawVault : Type 0 where
+  pub mapping : Mapping
+  pub tables : List TableRows
+  pub heads : List WindowHead
+
+-- a vault has these sealed windows, which are valid: their rows are in its tables, and it has their heads
+pub record HasSealed (hashes : Hashes) (sealed : List Window) (raw : RawVault) : Type 0 where
+  pub valid : are_windows_valid raw.mapping hashes sealed ≡ true
+  pub tables_are : raw.tables ≡ vault raw.mapping hashes sealed
+  pub heads_are : raw.heads ≡ map head_of sealed
+
+-- the load date of the last head
+abbrev pub last_head : List WindowHead → Option ℕ
+last_head heads = option_map (λ head. head.load) (slice_get heads (length heads - 1))
+
+-- no table has rows
+abbrev pub are_empty : List TableRows → Bool
+are_empty tables = list_all (λ entry. row_count entry.rows == 0) tables
+
+-- no row is later than the last head; none where there is no head
+abbrev pub are_rows_kept : List WindowHead → List TableRows → Bool
+are_rows_kept heads tables = option_map_or (λ last. are_up_to last tables) (last_head heads) (are_empty tables)
+
+-- the feeds of heads are in the mapping
+abbrev pub are_heads_of : Mapping → List WindowHead → Bool
+are_heads_of mapping heads = list_all (λ head. list_all (λ feed. nat_lt feed (length mapping.feeds)) head.feeds) heads
+
+-- tables with the rows of batches behind theirs
+abbrev pub entries_with : List TableRows → List Rows → List TableRows
+entries_with [] batches = []
+entries_with (entry ∷ entries) [] = entry ∷ entries
+entries_with (entry ∷ entries) (rows ∷ batches) = record { table = entry.table; rows = rows_then entry.rows rows } ∷ entries_with entries batches

@@ -1,0 +1,54 @@
+// What a window adds to a vault.
+ghost use Rattle.std.specs.Prelude.{◌≡◌};
+ghost use Rattle.dv_vault.specs.Additions.{fault_at};
+
+use dv_catalog::TableId;
+use dv_records::{DeltaFault, Rows};
+use dv_text::{Key, List, Memory, Window};
+
+/// What a window adds: the rows for each table, in table order, how many these are, and what the vault then
+/// weighs.
+#[derive(Drop)]
+pub struct Addition {
+    pub window: Window,
+    pub batches: List<Rows>,
+    pub rows: u64,
+    pub weight: u64,
+}
+
+/// Why a window adds nothing: two different keys of a hub, or reference lists of a link, have one hash key; or
+/// want of memory.
+#[derive(Debug, Drop)]
+pub enum AdditionFault {
+    Collision {
+        table: TableId,
+        first: List<Key>,
+        second: List<Key>,
+    },
+    Memory,
+}
+
+impl From<Memory> for AdditionFault {
+    ghost use Rattle.std.specs.Prelude.{◌≡◌};
+    ghost use Rattle.dv_vault.specs.declared.additions.AdditionFault.TheVariants as variants;
+
+    ghost from_gives = { λ _ e. e ≡ variants.Memory };
+
+    fn from(_error: Memory) -> AdditionFault {
+        AdditionFault::Memory
+    }
+}
+
+// A fault of the rows of a table.
+pub(crate) fn fault_of(table: TableId, fault: DeltaFault) -> AdditionFault
+    ensures { result ≡ fault_at table fault }
+{
+    match fault {
+        DeltaFault::Collision { first, second } => AdditionFault::Collision {
+            table,
+            first,
+            second,
+        },
+        DeltaFault::Memory => AdditionFault::Memory,
+    }
+}

@@ -1,0 +1,88 @@
+// What a window adds to all tables.
+ghost use Rattle.std.specs.Prelude.{◌≡◌, ◌+◌, All, IfErr, IfOk, IsTrue, map, sum_by};
+ghost use Rattle.std.specs.List.{list_all};
+ghost use Rattle.dv_text.specs.Keys.{hashes_of};
+ghost use Rattle.dv_catalog.specs.Mappings.{is_valid};
+ghost use Rattle.dv_catalog.specs.TableLookups.{is_table_of};
+ghost use Rattle.dv_records.specs.Deltas.{HasNoClash};
+ghost use Rattle.dv_records.specs.States.{is_window};
+ghost use Rattle.dv_records.specs.Stores.{row_count};
+ghost use Rattle.dv_records.specs.Weights.{rows_weight};
+ghost use Rattle.dv_vault.specs.Additions as spec;
+ghost use Rattle.dv_vault.specs.Vaults.{added_to, are_up_to, entry_of, hashed_in, names_of_hubs};
+
+use crate::additions::{AdditionFault, fault_of};
+use crate::hub_keys::HubKeys;
+use crate::tables::Table;
+use dv_catalog::Catalog;
+use dv_records::{Rows, weight};
+use dv_text::{KeyDigest, List, Memory, Window};
+use std::alloc::Global;
+
+// How many rows there are.
+pub(crate) fn count(rows: &Rows) -> u64
+    ensures { result ≡ row_count rows.now }
+{
+    let count = match rows {
+        Rows::Hubs(rows) => rows.items().len(),
+        Rows::Links(rows) => rows.items().len(),
+        Rows::Sats(rows) => rows.items().len(),
+        Rows::Multis(rows) => rows.items().len(),
+        Rows::Statuses(rows) => rows.items().len(),
+        Rows::Effects(rows) => rows.items().len(),
+        Rows::Pits(rows) => rows.items().len(),
+        Rows::Bridges(rows) => rows.items().len(),
+    };
+    count as u64
+}
+
+// How many rows batches have together. More than a number of 64 bits has room for find no room in memory.
+pub(crate) fn count_all(batches: &[Rows]) -> Result<u64, Memory>
+    ensures { IfOk result (λ count. count ≡ sum_by row_count batches.now) }
+{
+    let mut rows: u64 = 0;
+    for batch in batches {
+        rows = rows.checked_add(count(batch)).ok_or(Memory)?;
+    }
+    Ok(rows)
+}
+
+// What a vault that weighs so much weighs with batches.
+pub(crate) fn weight_with(weight_before: u64, batches: &[Rows]) -> Result<u64, Memory>
+    ensures { IfOk result (λ w. w ≡ weight_before + sum_by rows_weight batches.now) }
+{
+    let mut sum = weight_before;
+    for batch in batches {
+        let more = u64::try_from(weight(batch)).map_err(|_| Memory)?;
+        sum = sum.checked_add(more).ok_or(Memory)?;
+    }
+    Ok(sum)
+}
+
+// The rows that a window adds to each of these tables, or the first collision that it makes.
+pub(crate) fn all_deltas<H: KeyDigest>(
+    alloc: Global,
+    tables: &[Table],
+    names: &HubKeys<'_>,
+    window: &Window,
+    catalog: &Catalog,
+    digest: &H,
+) -> Result<List<Rows>, AdditionFault>
+    requires tables { IsTrue (list_all (λ entry. is_table_of catalog.now entry.table) (map entry_of tables.now)) }
+    requires dated { IsTrue (are_up_to window.now.load (map entry_of tables.now)) }
+    requires valid { IsTrue (is_valid catalog.now) }
+    requires window { IsTrue (is_window catalog.now window.now) }
+    ensures rows { IfOk result (λ batches. batches ≡ map (added_to catalog.now (hashes_of H.digest_of H.size) window.now) (map entry_of tables.now)) }
+    ensures apart { IfOk result (λ batches. All (λ entry. HasNoClash (hashed_in catalog.now (hashes_of H.digest_of H.size) (names_of_hubs names.now) window.now entry)) (map entry_of tables.now)) }
+    ensures follow { IfOk result (spec.FollowAll window.now.load (map entry_of tables.now)) }
+    ensures clashes { IfErr result (spec.ClashesAt catalog.now (hashes_of H.digest_of H.size) (names_of_hubs names.now) window.now (map entry_of tables.now)) }
+{
+    let mut batches = List::new(alloc);
+    for table in tables {
+        match table.delta(alloc, names, window, catalog, digest) {
+            Ok(rows) => batches.push(rows)?,
+            Err(fault) => return Err(fault_of(table.id(), fault)),
+        }
+    }
+    Ok(batches)
+}

@@ -1,0 +1,18 @@
+//! The vault: the raw tables of a mapping, what a window adds to each of them, how a window is kept, and the
+//! contents of feeds read back from the tables.
+#![tactic(auto)]
+
+mod additions;
+mod batches;
+mod contents;
+mod hub_keys;
+mod keeping;
+mod named_hubs;
+mod offers;
+mod raw_tables;
+mod tables;
+mod vaults;
+
+pub use additions::{Addition, AdditionFault};
+pub use offers::deliveries;
+pub use vaults::Vault;

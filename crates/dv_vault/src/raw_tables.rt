@@ -1,0 +1,129 @@
+ghost use Rattle.std.specs.Prelude.{◌≡◌, false, IfNone, IfOk, IfSome, IsTrue, find, map, option_map};
+ghost use Rattle.std.specs.List.{list_all};
+ghost use Rattle.dv_catalog.specs.Tables.{tables};
+ghost use Rattle.dv_records.specs.ReadBack.{hub_rows_in, link_rows_in, sat_rows_in, status_rows_in};
+ghost use Rattle.dv_records.specs.Stores.{no_rows, table_eq};
+ghost use Rattle.dv_vault.specs.Vaults.{entries_of, entry_of};
+ghost use Rattle.dv_vault.specs.Vaults as spec;
+
+use crate::tables::Table;
+use dv_catalog::{Catalog, TableId};
+use dv_keys::{HubTable, LinkTable};
+use dv_sat::SatTable;
+use dv_text::Memory;
+use dv_track::StatusTable;
+use std::alloc::Global;
+
+/// The raw tables of a mapping, in table order (Linstedt and Olschimke 2015, chapter 4).
+#[derive(Drop)]
+pub(crate) struct RawTables {
+    pub(crate) tables: Vec<Table>,
+}
+
+// Tables without rows.
+fn empty_tables(alloc: Global, ids: &[TableId]) -> Result<Vec<Table>, Memory>
+    requires { IsTrue (list_all spec.is_kept ids.now) }
+    ensures { IfOk result (λ tables. map entry_of tables.items ≡ map (λ id. record { table = id; rows = no_rows id }) ids.now) }
+{
+    let mut tables = Vec::new(alloc);
+    for id in ids {
+        tables.push(Table::empty(alloc, *id)?)?;
+    }
+    Ok(tables)
+}
+
+// Whether a table has an id.
+fn is_table(table: &Table, id: TableId) -> bool
+    ensures { result ≡ table_eq (entry_of table.now).table id }
+{
+    table.id() == id
+}
+
+// The first table with an id.
+fn find_table(tables: &[Table], id: TableId) -> Option<&Table>
+    ensures { option_map (λ table. table.now) result ≡ find (λ table. table_eq (entry_of table).table id) tables.now }
+{
+    tables.iter().find(|table| is_table(table, id))
+}
+
+impl RawTables {
+    /// The tables of a mapping, without rows.
+    pub(crate) fn empty(alloc: Global, catalog: &Catalog) -> Result<RawTables, Memory>
+        requires { IsTrue (list_all spec.is_kept (tables catalog.now)) }
+        ensures { IfOk result (λ raw. entries_of raw ≡ map (λ id. record { table = id; rows = no_rows id }) (tables catalog.now)) }
+    {
+        let ids = catalog.tables(alloc)?;
+        let tables = empty_tables(alloc, ids.items())?;
+        Ok(RawTables { tables })
+    }
+
+    // The table with an id: the first one.
+    fn table(&self, id: TableId) -> Option<&Table>
+        ensures { option_map (λ table. entry_of table.now) result ≡ find (λ entry. table_eq entry.table id) (entries_of self.now) }
+    {
+        find_table(&self.tables, id)
+    }
+
+    fn hub_at(&self, i: u32) -> Option<&HubTable>
+        ensures some { IfSome result (λ table. table.now.rows ≡ hub_rows_in i (entries_of self.now)) }
+        ensures none { IfNone result (spec.has_table (TableId.Hub i) (entries_of self.now) ≡ false) }
+    {
+        self.table(TableId::Hub(i))?.as_hub()
+    }
+
+    fn link_at(&self, i: u32) -> Option<&LinkTable>
+        ensures some { IfSome result (λ table. table.now.rows ≡ link_rows_in i (entries_of self.now)) }
+        ensures none { IfNone result (spec.has_table (TableId.Link i) (entries_of self.now) ≡ false) }
+    {
+        self.table(TableId::Link(i))?.as_link()
+    }
+
+    fn status_at(&self, feed: u32) -> Option<&StatusTable>
+        ensures some { IfSome result (λ table. table.now.rows ≡ status_rows_in feed (entries_of self.now)) }
+        ensures none { IfNone result (spec.has_table (TableId.Status feed) (entries_of self.now) ≡ false) }
+    {
+        self.table(TableId::Status(feed))?.as_status()
+    }
+
+    /// The table of the hub at a place in declared order. Condition: it is among them. Takes no memory.
+    pub(crate) fn hub(&self, i: u32) -> &HubTable
+        requires { IsTrue (spec.has_table (TableId.Hub i) (entries_of self.now)) }
+        ensures { result.now.rows ≡ hub_rows_in i (entries_of self.now) }
+    {
+        match self.hub_at(i) {
+            Some(table) => table,
+            None => unreachable!(),
+        }
+    }
+
+    /// The table of the link at a place in declared order. Condition: it is among them. Takes no memory.
+    pub(crate) fn link(&self, i: u32) -> &LinkTable
+        requires { IsTrue (spec.has_table (TableId.Link i) (entries_of self.now)) }
+        ensures { result.now.rows ≡ link_rows_in i (entries_of self.now) }
+    {
+        match self.link_at(i) {
+            Some(table) => table,
+            None => unreachable!(),
+        }
+    }
+
+    /// The satellite of the feed at a place in declared order; none where the feed has none. Takes no memory.
+    pub(crate) fn sat(&self, feed: u32) -> Option<&SatTable>
+        ensures some { IfSome result (λ table. table.now.rows ≡ sat_rows_in feed (entries_of self.now)) }
+        ensures there { IfSome result (λ table. IsTrue (spec.has_table (TableId.Sat feed) (entries_of self.now))) }
+        ensures none { IfNone result (spec.has_table (TableId.Sat feed) (entries_of self.now) ≡ false) }
+    {
+        self.table(TableId::Sat(feed))?.as_sat()
+    }
+
+    /// The status table of the feed at a place in declared order. Condition: it is among them. Takes no memory.
+    pub(crate) fn status(&self, feed: u32) -> &StatusTable
+        requires { IsTrue (spec.has_table (TableId.Status feed) (entries_of self.now)) }
+        ensures { result.now.rows ≡ status_rows_in feed (entries_of self.now) }
+    {
+        match self.status_at(feed) {
+            Some(table) => table,
+            None => unreachable!(),
+        }
+    }
+}

@@ -1,0 +1,293 @@
+// A raw table of the vault, of any kind, and what a window adds to it.
+ghost use Rattle.std.specs.Prelude.{◌≡◌, ◌≤◌, ◌<◌, [], false, IfNone, IfOk, IfSome, IsTrue, OnOk, length, option_map};
+ghost use Rattle.dv_text.specs.Keys.{hashes_of};
+ghost use Rattle.dv_catalog.specs.Mappings.{is_valid};
+ghost use Rattle.dv_catalog.specs.TableLookups.{is_table_of};
+ghost use Rattle.dv_records.specs.Deltas.{HasNoClash, IfCollides, IsLeastClash};
+ghost use Rattle.dv_records.specs.States.{is_window};
+ghost use Rattle.dv_records.specs.Stores.{no_rows, row_count, rows_then};
+ghost use Rattle.dv_vault.specs.Vaults as spec;
+ghost use Rattle.dv_vault.specs.Vaults.{Follow, added_to, AreOfLoad, entry_of, hashed_in, is_up_to, spare_of};
+
+use crate::offers::deliveries;
+use dv_catalog::{Catalog, Parent, TableId};
+use dv_keys::{HubTable, LinkTable};
+use dv_records::{DeltaFault, HubNames, Rows};
+use dv_sat::SatTable;
+use dv_text::{KeyDigest, List, Memory, Staged, Stamp, Window};
+use dv_track::StatusTable;
+use std::alloc::Global;
+
+/// A raw table.
+#[derive(Drop)]
+pub(crate) enum Table {
+    Hub { hub: u32, rows: HubTable },
+    Link { link: u32, rows: LinkTable },
+    Sat { feed: u32, rows: SatTable },
+    Status { feed: u32, rows: StatusTable },
+}
+
+// The extract of a feed in a window.
+fn staged_of(window: &Window, feed: u32) -> Option<&Staged>
+    ensures { option_map (λ staged. staged.now) result ≡ spec.staged_of feed window.now }
+{
+    window
+        .extracts
+        .items()
+        .iter()
+        .find(|staged| staged.feed == feed)
+}
+
+// The rows that a window adds to a hub.
+fn hub_rows<H: KeyDigest>(
+    alloc: Global,
+    hub: u32,
+    table: &HubTable,
+    window: &Window,
+    catalog: &Catalog,
+    digest: &H,
+) -> Result<Rows, DeltaFault>
+    requires hub { hub < length catalog.now.hubs }
+    requires valid { IsTrue (is_valid catalog.now) }
+    requires window { IsTrue (is_window catalog.now window.now) }
+    requires dated { IsTrue (is_up_to window.now.load (Rows.Hubs table.now.rows)) }
+    ensures rows { IfOk result (λ rows. rows ≡ spec.added catalog.now (hashes_of H.digest_of H.size) window.now (TableId.Hub hub) (Rows.Hubs table.now.rows)) }
+    ensures apart { IfOk result (λ rows. HasNoClash (spec.hashed catalog.now (hashes_of H.digest_of H.size) [] window.now (TableId.Hub hub) (Rows.Hubs table.now.rows))) }
+    ensures collision { IfCollides result (IsLeastClash (spec.hashed catalog.now (hashes_of H.digest_of H.size) [] window.now (TableId.Hub hub) (Rows.Hubs table.now.rows))) }
+    ensures follow { IfOk result (λ rows. Follow (Rows.Hubs table.now.rows) rows) }
+    ensures stamped { IfOk result (λ rows. AreOfLoad window.now.load rows) }
+{
+    let items = deliveries(alloc, catalog, window, Parent::Hub(hub))?;
+    let rows = table.delta(alloc, window.load, &items, catalog, digest)?;
+    Ok(Rows::Hubs(rows))
+}
+
+// The rows that a window adds to a link.
+fn link_rows<H: KeyDigest, N: HubNames>(
+    alloc: Global,
+    link: u32,
+    table: &LinkTable,
+    names: &N,
+    window: &Window,
+    catalog: &Catalog,
+    digest: &H,
+) -> Result<Rows, DeltaFault>
+    requires link { link < length catalog.now.links }
+    requires valid { IsTrue (is_valid catalog.now) }
+    requires window { IsTrue (is_window catalog.now window.now) }
+    requires dated { IsTrue (is_up_to window.now.load (Rows.Links table.now.rows)) }
+    ensures rows { IfOk result (λ rows. rows ≡ spec.added catalog.now (hashes_of H.digest_of H.size) window.now (TableId.Link link) (Rows.Links table.now.rows)) }
+    ensures apart { IfOk result (λ rows. HasNoClash (spec.hashed catalog.now (hashes_of H.digest_of H.size) (N.names names.now) window.now (TableId.Link link) (Rows.Links table.now.rows))) }
+    ensures collision { IfCollides result (IsLeastClash (spec.hashed catalog.now (hashes_of H.digest_of H.size) (N.names names.now) window.now (TableId.Link link) (Rows.Links table.now.rows))) }
+    ensures follow { IfOk result (λ rows. Follow (Rows.Links table.now.rows) rows) }
+    ensures stamped { IfOk result (λ rows. AreOfLoad window.now.load rows) }
+{
+    let items = deliveries(alloc, catalog, window, Parent::Link(link))?;
+    let rows = table.delta(alloc, window.load, &items, names, catalog, digest)?;
+    Ok(Rows::Links(rows))
+}
+
+// The rows that a window adds to a feed's satellite.
+fn sat_rows<H: KeyDigest>(
+    alloc: Global,
+    feed: u32,
+    table: &SatTable,
+    window: &Window,
+    catalog: &Catalog,
+    digest: &H,
+) -> Result<Rows, Memory>
+    requires feed { feed < length catalog.now.feeds }
+    requires valid { IsTrue (is_valid catalog.now) }
+    requires window { IsTrue (is_window catalog.now window.now) }
+    requires dated { IsTrue (is_up_to window.now.load (Rows.Sats table.now.rows)) }
+    ensures rows { IfOk result (λ rows. rows ≡ spec.added catalog.now (hashes_of H.digest_of H.size) window.now (TableId.Sat feed) (Rows.Sats table.now.rows)) }
+    ensures follow { IfOk result (λ rows. Follow (Rows.Sats table.now.rows) rows) }
+    ensures stamped { IfOk result (λ rows. AreOfLoad window.now.load rows) }
+{
+    match staged_of(window, feed) {
+        Some(staged) => {
+            let rows = table.delta(alloc, window.load, staged, catalog, digest)?;
+            Ok(Rows::Sats(rows))
+        }
+        None => {
+            let _rows = table.rows();
+            Ok(Rows::Sats(List::new(alloc)))
+        }
+    }
+}
+
+// The rows that a window adds to a feed's status table.
+fn status_rows<H: KeyDigest>(
+    alloc: Global,
+    feed: u32,
+    table: &StatusTable,
+    window: &Window,
+    catalog: &Catalog,
+    digest: &H,
+) -> Result<Rows, Memory>
+    requires feed { feed < length catalog.now.feeds }
+    requires valid { IsTrue (is_valid catalog.now) }
+    requires window { IsTrue (is_window catalog.now window.now) }
+    requires dated { IsTrue (is_up_to window.now.load (Rows.Statuses table.now.rows)) }
+    ensures rows { IfOk result (λ rows. rows ≡ spec.added catalog.now (hashes_of H.digest_of H.size) window.now (TableId.Status feed) (Rows.Statuses table.now.rows)) }
+    ensures follow { IfOk result (λ rows. Follow (Rows.Statuses table.now.rows) rows) }
+    ensures stamped { IfOk result (λ rows. AreOfLoad window.now.load rows) }
+{
+    match staged_of(window, feed) {
+        Some(staged) => {
+            let rows = table.delta(alloc, window.load, staged, catalog, digest)?;
+            Ok(Rows::Statuses(rows))
+        }
+        None => {
+            let _rows = table.rows();
+            Ok(Rows::Statuses(List::new(alloc)))
+        }
+    }
+}
+
+impl Table {
+    /// A raw table without rows.
+    pub(crate) fn empty(alloc: Global, table: TableId) -> Result<Table, Memory>
+        requires { IsTrue (spec.is_kept table) }
+        ensures { IfOk result (λ made. entry_of made ≡ record { table = table; rows = no_rows table }) }
+    {
+        match table {
+            TableId::Hub(hub) => Ok(Table::Hub {
+                hub,
+                rows: HubTable::from_rows(alloc, List::new(alloc))?,
+            }),
+            TableId::Link(link) => Ok(Table::Link {
+                link,
+                rows: LinkTable::from_rows(alloc, List::new(alloc))?,
+            }),
+            TableId::Sat(feed) => Ok(Table::Sat {
+                feed,
+                rows: SatTable::from_rows(alloc, List::new(alloc))?,
+            }),
+            TableId::Status(feed) => Ok(Table::Status {
+                feed,
+                rows: StatusTable::from_rows(alloc, List::new(alloc))?,
+            }),
+            TableId::Multi(_) | TableId::Effect(_) => unreachable!(),
+        }
+    }
+
+    pub(crate) fn id(&self) -> TableId
+        ensures { result ≡ (entry_of self.now).table }
+    {
+        match self {
+            Table::Hub { hub, .. } => TableId::Hub(*hub),
+            Table::Link { link, .. } => TableId::Link(*link),
+            Table::Sat { feed, .. } => TableId::Sat(*feed),
+            Table::Status { feed, .. } => TableId::Status(*feed),
+        }
+    }
+
+    /// The table, if it is a hub's table.
+    pub(crate) fn as_hub(&self) -> Option<&HubTable>
+        ensures some { IfSome result (λ table. (entry_of self.now).rows ≡ Rows.Hubs table.now.rows) }
+        ensures none { IfNone result (spec.is_hub (entry_of self.now).table ≡ false) }
+    {
+        match self {
+            Table::Hub { rows, .. } => Some(rows),
+            _ => None,
+        }
+    }
+
+    /// The table, if it is a link's table.
+    pub(crate) fn as_link(&self) -> Option<&LinkTable>
+        ensures some { IfSome result (λ table. (entry_of self.now).rows ≡ Rows.Links table.now.rows) }
+        ensures none { IfNone result (spec.is_link (entry_of self.now).table ≡ false) }
+    {
+        match self {
+            Table::Link { rows, .. } => Some(rows),
+            _ => None,
+        }
+    }
+
+    /// The table, if it is a satellite.
+    pub(crate) fn as_sat(&self) -> Option<&SatTable>
+        ensures some { IfSome result (λ table. (entry_of self.now).rows ≡ Rows.Sats table.now.rows) }
+        ensures none { IfNone result (spec.is_sat (entry_of self.now).table ≡ false) }
+    {
+        match self {
+            Table::Sat { rows, .. } => Some(rows),
+            _ => None,
+        }
+    }
+
+    /// The table, if it is a status table.
+    pub(crate) fn as_status(&self) -> Option<&StatusTable>
+        ensures some { IfSome result (λ table. (entry_of self.now).rows ≡ Rows.Statuses table.now.rows) }
+        ensures none { IfNone result (spec.is_status (entry_of self.now).table ≡ false) }
+    {
+        match self {
+            Table::Status { rows, .. } => Some(rows),
+            _ => None,
+        }
+    }
+
+    /// The rows that a window adds. Where two different keys of a hub, or reference lists of a link, have one
+    /// hash key, the error is the least such pair.
+    pub(crate) fn delta<H: KeyDigest, N: HubNames>(
+        &self,
+        alloc: Global,
+        names: &N,
+        window: &Window,
+        catalog: &Catalog,
+        digest: &H,
+    ) -> Result<Rows, DeltaFault>
+        requires table { IsTrue (is_table_of catalog.now (entry_of self.now).table) }
+        requires valid { IsTrue (is_valid catalog.now) }
+        requires window { IsTrue (is_window catalog.now window.now) }
+        requires dated { IsTrue (is_up_to window.now.load (entry_of self.now).rows) }
+        ensures rows { IfOk result (λ rows. rows ≡ added_to catalog.now (hashes_of H.digest_of H.size) window.now (entry_of self.now)) }
+        ensures apart { IfOk result (λ rows. HasNoClash (hashed_in catalog.now (hashes_of H.digest_of H.size) (N.names names.now) window.now (entry_of self.now))) }
+        ensures collision { IfCollides result (IsLeastClash (hashed_in catalog.now (hashes_of H.digest_of H.size) (N.names names.now) window.now (entry_of self.now))) }
+        ensures follow { IfOk result (λ rows. Follow (entry_of self.now).rows rows) }
+        ensures stamped { IfOk result (λ rows. AreOfLoad window.now.load rows) }
+    {
+        match self {
+            Table::Hub { hub, rows } => hub_rows(alloc, *hub, rows, window, catalog, digest),
+            Table::Link { link, rows } => {
+                link_rows(alloc, *link, rows, names, window, catalog, digest)
+            }
+            Table::Sat { feed, rows } => {
+                let rows = sat_rows(alloc, *feed, rows, window, catalog, digest)?;
+                Ok(rows)
+            }
+            Table::Status { feed, rows } => {
+                let rows = status_rows(alloc, *feed, rows, window, catalog, digest)?;
+                Ok(rows)
+            }
+        }
+    }
+
+    /// Makes room for so many more rows. The rows stay as they are, also for want of memory.
+    pub(crate) fn reserve(&mut self, more: u64) -> Result<(), Memory>
+        ensures rows { entry_of self.new ≡ entry_of self.old }
+        ensures room { OnOk result (more ≤ spare_of self.new) }
+    {
+        match self {
+            Table::Hub { rows, .. } => rows.reserve(more),
+            Table::Link { rows, .. } => rows.reserve(more),
+            Table::Sat { rows, .. } => rows.reserve(more),
+            Table::Status { rows, .. } => rows.reserve(more),
+        }
+    }
+
+    /// Appends rows, which may stand behind those of the table, and for which there is room. Takes no memory.
+    pub(crate) fn apply(&mut self, more: Rows)
+        requires room { row_count more ≤ spare_of self.old }
+        requires follow { Follow (entry_of self.old).rows more }
+        ensures { entry_of self.new ≡ record { table = (entry_of self.old).table; rows = rows_then (entry_of self.old).rows more } }
+    {
+        match (self, more) {
+            (Table::Hub { rows, .. }, Rows::Hubs(more)) => rows.apply(more),
+            (Table::Link { rows, .. }, Rows::Links(more)) => rows.apply(more),
+            (Table::Sat { rows, .. }, Rows::Sats(more)) => rows.apply(more),
+            (Table::Status { rows, .. }, Rows::Statuses(more)) => rows.apply(more),
+            _ => unreachable!(),
+        }
+    }
+}

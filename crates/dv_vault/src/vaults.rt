@@ -1,0 +1,183 @@
+ghost use Rattle.std.specs.Prelude.{◌≡◌, ◌<◌, [], Contains, IfErr, IfNone, IfOk, IfSome, IsTrue, None, length, map};
+ghost use Rattle.dv_text.specs.Keys.{hashes_of};
+ghost use Rattle.dv_catalog.specs.Built.{unbuilt};
+ghost use Rattle.dv_catalog.specs.Tables.{tables};
+ghost use Rattle.dv_records.specs.Outcomes.{late_after};
+ghost use Rattle.dv_records.specs.ReadBack.{hub_rows_in, link_rows_in, sat_rows_in, status_rows_in};
+ghost use Rattle.dv_records.specs.States.{is_window};
+ghost use Rattle.dv_records.specs.Stores.{no_rows};
+ghost use Rattle.dv_records.specs.Weights.{tables_weight};
+ghost use Rattle.dv_vault.specs.Additions as spec;
+ghost use Rattle.dv_vault.specs.Additions.{Fits, IsAddition};
+ghost use Rattle.dv_vault.specs.Vaults.{IsBuilt, are_heads_of, last_head};
+
+use crate::additions::{Addition, AdditionFault};
+use crate::batches::{all_deltas, count_all, weight_with};
+use crate::hub_keys::hub_keys;
+use crate::raw_tables::RawTables;
+use dv_catalog::{Catalog, TableId};
+use dv_keys::{HubTable, LinkTable};
+use dv_records::Rows;
+use dv_sat::SatTable;
+use dv_text::{KeyDigest, List, Memory, Stamp, Window, WindowHead};
+use dv_track::StatusTable;
+use std::alloc::Global;
+use std::marker::Model;
+
+/// What is kept of the sealed windows: the raw tables of the mapping, and the windows' heads. Contracts see these.
+#[derive(Drop)]
+pub struct Vault {
+    pub(crate) catalog: Catalog,
+    pub(crate) raw: RawTables,
+    pub(crate) heads: List<WindowHead>,
+    pub(crate) weight: u64,
+}
+
+impl Model for Vault {
+    ghost use Rattle.std.specs.Prelude.{◌≡◌, IsTrue, None};
+    ghost use Rattle.dv_catalog.specs.Built.{unbuilt};
+    ghost use Rattle.dv_catalog.specs.Mappings.{is_valid};
+    ghost use Rattle.dv_records.specs.Weights.{tables_weight};
+    ghost use Rattle.dv_vault.specs.Vaults.{IsVaultOf, RawVault, are_heads_of, are_rows_kept, entries_of};
+
+    ghost Value = { RawVault };
+
+    ghost view = { λ v. record { mapping = v.catalog; tables = entries_of v.raw; heads = v.heads } };
+
+    ghost invariant = { λ v. IsVaultOf v.catalog (entries_of v.raw) × (unbuilt v.catalog ≡ None)
+        × IsTrue (are_rows_kept v.heads (entries_of v.raw)) × IsTrue (are_heads_of v.catalog v.heads) × (v.weight ≡ tables_weight (entries_of v.raw)) × IsTrue (is_valid v.catalog) };
+}
+
+impl Vault {
+    /// The vault of no windows.
+    pub fn empty(alloc: Global, catalog: Catalog) -> Result<Vault, Memory>
+        requires { unbuilt catalog ≡ None }
+        ensures mapping { IfOk result (λ vault. vault.mapping ≡ catalog) }
+        ensures tables { IfOk result (λ vault. vault.tables ≡ map (λ id. record { table = id; rows = no_rows id }) (tables catalog)) }
+        ensures heads { IfOk result (λ vault. vault.heads ≡ []) }
+    {
+        let _hubs = catalog.hub_count();
+        let raw = RawTables::empty(alloc, &catalog)?;
+        Ok(Vault {
+            catalog,
+            raw,
+            heads: List::new(alloc),
+            weight: 0,
+        })
+    }
+
+    /// The mapping, in which every form is built. Takes no memory.
+    pub fn catalog(&self) -> &Catalog
+        ensures value { result.now ≡ self.now.mapping }
+        ensures built { IsBuilt self.now.mapping }
+    {
+        &self.catalog
+    }
+
+    /// Does nothing: a call for proofs, which need to know that every form in the mapping is built.
+    pub fn note_built(&self)
+        ensures { IsBuilt self.now.mapping }
+    {
+        let _catalog = &self.catalog;
+    }
+
+    /// The heads of the sealed windows, in order. Takes no memory.
+    pub fn heads(&self) -> &List<WindowHead>
+        ensures value { result.now ≡ self.now.heads }
+        ensures feeds { IsTrue (are_heads_of self.now.mapping self.now.heads) }
+    {
+        &self.heads
+    }
+
+    /// The load date of the last sealed window; none where none is sealed. Takes no memory.
+    pub fn last(&self) -> Option<Stamp>
+        ensures { result ≡ last_head self.now.heads }
+    {
+        let head = self.heads.items().last()?;
+        Some(head.load)
+    }
+
+    /// The table of the hub at a place in declared order. Condition: the mapping has it. Takes no memory.
+    pub fn hub(&self, i: u32) -> &HubTable
+        requires { i < length self.now.mapping.hubs }
+        ensures { result.now.rows ≡ hub_rows_in i self.now.tables }
+    {
+        self.raw.hub(i)
+    }
+
+    /// The table of the link at a place in declared order. Condition: the mapping has it. Takes no memory.
+    pub fn link(&self, i: u32) -> &LinkTable
+        requires { i < length self.now.mapping.links }
+        ensures { result.now.rows ≡ link_rows_in i self.now.tables }
+    {
+        self.raw.link(i)
+    }
+
+    /// The satellite of the feed at a place in declared order: exactly where the feed has one. Takes no memory.
+    pub fn sat(&self, feed: u32) -> Option<&SatTable>
+        ensures rows { IfSome result (λ table. table.now.rows ≡ sat_rows_in feed self.now.tables) }
+        ensures there { IfSome result (λ table. Contains (tables self.now.mapping) (TableId.Sat feed)) }
+        ensures absent { IfNone result (Contains (tables self.now.mapping) (TableId.Sat feed) → ⊥) }
+    {
+        self.raw.sat(feed)
+    }
+
+    /// The status table of the feed at a place in declared order. Condition: the mapping has it. Takes no memory.
+    pub fn status(&self, feed: u32) -> &StatusTable
+        requires { feed < length self.now.mapping.feeds }
+        ensures { result.now.rows ≡ status_rows_in feed self.now.tables }
+    {
+        self.raw.status(feed)
+    }
+
+    // The rows that a window adds to each table, in table order, or the first collision that it makes.
+    fn batches<H: KeyDigest>(
+        &self,
+        alloc: Global,
+        window: &Window,
+        digest: &H,
+    ) -> Result<List<Rows>, AdditionFault>
+        requires later { late_after (last_head self.now.heads) window.now.load ≡ None }
+        requires window { IsTrue (is_window self.now.mapping window.now) }
+        ensures rows { IfOk result (λ batches. batches ≡ spec.all_added (hashes_of H.digest_of H.size) self.now window.now) }
+        ensures apart { IfOk result (λ batches. spec.AreApart (hashes_of H.digest_of H.size) self.now window.now) }
+        ensures follow { IfOk result (spec.FollowAll window.now.load self.now.tables) }
+        ensures clashes { IfErr result (spec.Clashes (hashes_of H.digest_of H.size) self.now window.now) }
+    {
+        let names = hub_keys(alloc, &self.catalog, &self.raw)?;
+        all_deltas(
+            alloc,
+            &self.raw.tables,
+            &names,
+            window,
+            &self.catalog,
+            digest,
+        )
+    }
+
+    /// What a window adds to the vault. Where it makes a collision, the fault names the first table that has
+    /// one, and the least pair there. Condition: it is a window of the mapping, later than the last sealed one.
+    pub fn addition<H: KeyDigest>(
+        &self,
+        alloc: Global,
+        window: Window,
+        digest: &H,
+    ) -> Result<Addition, AdditionFault>
+        requires later { late_after (last_head self.now.heads) window.load ≡ None }
+        requires window { IsTrue (is_window self.now.mapping window) }
+        ensures adds { IfOk result (IsAddition (hashes_of H.digest_of H.size) self.now window) }
+        ensures fits { IfOk result (Fits self.now) }
+        ensures clashes { IfErr result (spec.Clashes (hashes_of H.digest_of H.size) self.now window) }
+    {
+        let weight_before = self.weight;
+        let batches = self.batches(alloc, &window, digest)?;
+        let rows = count_all(batches.items())?;
+        let weight = weight_with(weight_before, batches.items())?;
+        Ok(Addition {
+            window,
+            batches,
+            rows,
+            weight,
+        })
+    }
+}

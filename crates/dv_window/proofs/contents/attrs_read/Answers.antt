@@ -1,8 +1,0 @@
-use Rattle.std.proofs.Common.{◌∙◌, sym}
-use Rattle.dv_window.specs.Vaults.{entries_of}
-use Rattle.dv_window.proofs.ContentFacts.{absent_attrs}
-use Rattle.dv_window.proofs.contents.attrs_read.Goals as goal
-
-pub returns-in_default : goal.returns-in_default
-returns-in_default c =
-    c.new-in_default.ensures ∙ sym (absent_attrs (entries_of c.args.vault.now) c.args.definition.now c.args.feed c.args.digest.now c.args.date c.in_default.ensures.none)

@@ -1,5 +1,0 @@
-use Rattle.std.proofs.Common.{◌≡◌, ◌≤◌, [], replicate}
-use Rattle.dv_window.proofs.contents.missing_key.Given as goal
-
-abbrev pub invariant-loop : goal.invariant-loop
-invariant-loop l = (l.parts ≡ replicate l.counter []) × (l.counter ≤ l.end)

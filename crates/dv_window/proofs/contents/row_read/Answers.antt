@@ -1,7 +1,0 @@
-use Rattle.dv_catalog.proofs.ValidReads.{valid_feed}
-use Rattle.dv_window.proofs.ContentFacts.{parent_there}
-use Rattle.dv_window.proofs.contents.row_read.Goals as goal
-
-pub refs_read-requires-clause-parent : goal.refs_read-requires-clause-parent
-refs_read-requires-clause-parent c =
-    parent_there c.args.catalog.now c.feed-definition.result.now.parent (valid_feed c.args.catalog.now c.requires.valid c.args.feed c.feed-definition.result.now c.feed-definition.ensures).declared

@@ -1,7 +1,0 @@
-use Rattle.std.specs.Vec.Iter.{into_iter_items, into_iter_len}
-use Rattle.dv_window.proofs.BatchSteps.{IsUnder}
-use Rattle.dv_window.proofs.loads.apply_all.Given as goal
-
--- the tables so far have their batches, and the others have room for theirs
-abbrev pub invariant-loop-table : goal.invariant-loop-table
-invariant-loop-table l = IsUnder l.fn.tables l.fn.batches l.tables l.table-index (into_iter_items l.batches) (into_iter_len l.batches)

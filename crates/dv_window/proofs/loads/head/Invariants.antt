@@ -1,5 +1,0 @@
-use Rattle.std.proofs.Common.{◌≡◌, map, take}
-use Rattle.dv_window.proofs.loads.head.Given as goal
-
-abbrev pub invariant-loop-staged : goal.invariant-loop-staged
-invariant-loop-staged l = l.feeds ≡ map (λ staged. staged.feed) (take l.staged-index l.staged-items)

@@ -1,7 +1,0 @@
-use Rattle.std.proofs.Common.{◌≡◌, map, take}
-use Rattle.dv_records.specs.Stores.{no_rows}
-use Rattle.dv_window.specs.Vaults.{entry_of}
-use Rattle.dv_window.proofs.vaults.empty_tables.Given as goal
-
-abbrev pub invariant-loop-id : goal.invariant-loop-id
-invariant-loop-id l = map entry_of l.tables.items ≡ map (λ id. record { table = id; rows = no_rows id }) (take l.id-index l.ids)

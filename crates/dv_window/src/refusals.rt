@@ -1,0 +1,54 @@
+// What a window adds, or the rule of the collision that it makes.
+ghost use Rattle.std.specs.Prelude.{◌≡◌, IfErr, IfOk, IsTrue, None};
+ghost use Rattle.dv_text.specs.Keys.{hashes_of};
+ghost use Rattle.dv_records.specs.Outcomes.{late_after};
+ghost use Rattle.dv_records.specs.States.{is_window};
+ghost use Rattle.dv_vault.specs.Additions.{Fits, IsAddition};
+ghost use Rattle.dv_vault.specs.Vaults.{last_head};
+ghost use Rattle.dv_window.specs.Plans as spec;
+
+use crate::stops::Stop;
+use dv_catalog::{Catalog, Rule};
+use dv_text::{KeyDigest, Memory, Window};
+use dv_vault::{Addition, AdditionFault, Vault};
+use std::alloc::Global;
+
+// What a fault of an addition is answered as.
+fn refusal(alloc: Global, catalog: &Catalog, fault: AdditionFault) -> Result<Stop, Memory>
+    requires { IsTrue (spec.names_table catalog.now fault) }
+    ensures { IfOk result (λ stop. spec.IsRefusal catalog.now fault stop) }
+{
+    let AdditionFault::Collision {
+        table,
+        first,
+        second,
+    } = fault
+    else {
+        return Err(Memory);
+    };
+    let table = catalog.table_name(alloc, table)?;
+    Ok(Stop::Refused(Rule::Collision {
+        table,
+        first,
+        second,
+    }))
+}
+
+/// What a window adds to a vault, or the rule of the collision that it makes.
+pub(crate) fn addition<H: KeyDigest>(
+    alloc: Global,
+    vault: &Vault,
+    window: Window,
+    digest: &H,
+) -> Result<Addition, Stop>
+    requires later { late_after (last_head vault.now.heads) window.load ≡ None }
+    requires window { IsTrue (is_window vault.now.mapping window) }
+    ensures adds { IfOk result (IsAddition (hashes_of H.digest_of H.size) vault.now window) }
+    ensures fits { IfOk result (Fits vault.now) }
+    ensures stops { IfErr result (spec.StopsRows (hashes_of H.digest_of H.size) vault.now window) }
+{
+    match vault.addition(alloc, window, digest) {
+        Ok(addition) => Ok(addition),
+        Err(fault) => Err(refusal(alloc, vault.catalog(), fault)?),
+    }
+}

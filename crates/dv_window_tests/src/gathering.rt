@@ -1,0 +1,123 @@
+use crate::judging::put_keys;
+use crate::mappings::{ACCOUNTS, ASSIGNMENTS, ORDERS, catalog, window};
+use dv_catalog::{Parent, TableId};
+use dv_judge::stage_window;
+use dv_records::Delivery;
+use dv_vault::deliveries;
+use std::alloc::AllocError;
+use std::test::Fail;
+
+// Puts a delivery as the letter and the place of its table, its feed and its keys.
+fn put_item(into: &mut Vec<u8>, rt: &impl AllocGlobal, item: &Delivery) -> Result<(), AllocError> {
+    let (letter, place) = match item.table {
+        TableId::Hub(hub) => ('H', hub),
+        TableId::Link(link) => ('L', link),
+        _ => ('?', 0),
+    };
+    let feed = item.feed;
+    let text = format!(in rt.alloc(); "{letter}{place} {feed}:")?;
+    into.extend_from_slice(text.as_bytes())?;
+    put_keys(into, item.refs.items())?;
+    into.push(b' ')?;
+    Ok(())
+}
+
+// What a window of two extracts delivers to a hub or a link.
+fn delivered(
+    rt: &impl AllocGlobal,
+    mapping: &[u8],
+    extracts: &[(&[u8], &[u8])],
+    parent: Parent,
+) -> Result<Vec<u8>, Fail> {
+    let catalog = catalog(rt, mapping)?;
+    let given = window(rt, extracts)?;
+    let window = stage_window(rt.alloc(), &catalog, &given)
+        .ok()
+        .ok_or("refused")?;
+    let mut shown = Vec::new(rt.alloc());
+    for item in deliveries(rt.alloc(), &catalog, &window, parent)?.items() {
+        put_item(&mut shown, rt, item)?;
+    }
+    Ok(shown)
+}
+
+const TWO_CUSTOMERS: (&[u8], &[u8]) = (b"customers", b"CUST_NO,NAME\n2,x\n1,abc\n");
+
+const TWO_ACCOUNTS: (&[u8], &[u8]) = (b"accounts", b"ACCOUNT,TIER\n3,tin\n 2,gold\n");
+
+const PLACEMENTS: (&[u8], &[u8]) = (b"placements", b"CUST,ORD\n1,O1\n,O2\n");
+
+const LINES: (&[u8], &[u8]) = (
+    b"lines",
+    b"ORD,PROD,QTY\nO3,P2,1\nO1,P1,3\nO1,P2,2\nO2,,4\n",
+);
+
+// Two extracts in the order in which they are given, the hub or the link, and what it is brought.
+static DELIVERED: [(&[u8], (&[u8], &[u8]), (&[u8], &[u8]), Parent, &[u8]); 9] = [
+    (
+        ACCOUNTS,
+        TWO_CUSTOMERS,
+        TWO_ACCOUNTS,
+        Parent::Hub(0),
+        b"H0 0:1,/ H0 0:2,/ H0 1:3,/ ",
+    ),
+    (
+        ACCOUNTS,
+        TWO_ACCOUNTS,
+        TWO_CUSTOMERS,
+        Parent::Hub(0),
+        b"H0 0:1,/ H0 0:2,/ H0 1:3,/ ",
+    ),
+    (ORDERS, LINES, PLACEMENTS, Parent::Hub(0), b"H0 0:1,/ "),
+    (
+        ORDERS,
+        LINES,
+        PLACEMENTS,
+        Parent::Hub(1),
+        b"H1 0:O1,/ H1 0:O2,/ H1 1:O3,/ ",
+    ),
+    (
+        ORDERS,
+        PLACEMENTS,
+        LINES,
+        Parent::Hub(2),
+        b"H2 1:P1,/ H2 1:P2,/ ",
+    ),
+    (
+        ORDERS,
+        LINES,
+        PLACEMENTS,
+        Parent::Link(0),
+        b"L0 0:,/O2,/ L0 0:1,/O1,/ ",
+    ),
+    (
+        ORDERS,
+        LINES,
+        PLACEMENTS,
+        Parent::Link(1),
+        b"L1 1:O1,/P1,/ L1 1:O1,/P2,/ L1 1:O2,/,/ L1 1:O3,/P2,/ ",
+    ),
+    (
+        ORDERS,
+        (b"lines", b"ORD,PROD,QTY\n"),
+        PLACEMENTS,
+        Parent::Link(1),
+        b"",
+    ),
+    (
+        ASSIGNMENTS,
+        (b"assignments", b"EMP,DEPT\n2,Q\n1,\n3,Q\n"),
+        (b"assignments", b""),
+        Parent::Hub(1),
+        b"H1 0:Q,/ ",
+    ),
+];
+
+#[test]
+fn windows_deliver_each_list_once(rt: HostRuntime) -> Result<(), Fail> {
+    for (mapping, first, second, parent, shown) in DELIVERED {
+        let got = delivered(&rt, mapping, &[first, second], parent)?;
+        assert_eq!(rt; got.as_slice(), shown);
+    }
+    Ok(())
+}

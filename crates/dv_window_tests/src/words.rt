@@ -1,0 +1,81 @@
+use dv_catalog::TableId;
+use dv_mapfile::read_catalog;
+use dv_mart::{QueryRule, What};
+use dv_text::{Stamp, Text};
+use std::test::Fail;
+
+const MAPPING: &[u8] =
+    b"[[hub]]\nname = \"customer\"\nparts = 1\n\n[[feed]]\nname = \"customers\"\nsource = \"crm\"\nhub = \"customer\"\nkeys = [[\"CUST_NO\"]]\n\n[[feed]]\nname = \"accounts\"\nsource = \"shop\"\nhub = \"customer\"\nkeys = [[\"ACCOUNT\"]]\n";
+
+#[test]
+fn rules_are_printed_with_their_fields(rt: HostRuntime) -> Result<(), Fail> {
+    let alloc = rt.alloc();
+    let date = Stamp::read(b"2024-03-01T02:00:00").ok_or("no stamp")?;
+    let name = Text::of(alloc, b"hub:client\n")?;
+    let text = Text::of(alloc, b"2024-02-30T00:00:00")?;
+    let path = Text::of(alloc, b"sold")?;
+    let table = Text::of(alloc, b"hub_client")?;
+    for (rule, expected) in [
+        (
+            QueryRule::UnknownMart { name },
+            "Q1 UnknownMart name=hub:client?",
+        ),
+        (
+            QueryRule::BadDate { text },
+            "Q2 BadDate text=2024-02-30T00:00:00",
+        ),
+        (QueryRule::TooLarge { path }, "Q3 TooLarge path=sold"),
+        (
+            QueryRule::Future { last: Some(date) },
+            "Q4 Future last=2024-03-01T02:00:00",
+        ),
+        (QueryRule::Future { last: None }, "Q4 Future last=none"),
+        (
+            QueryRule::NoSnapshot { date },
+            "Q5 NoSnapshot date=2024-03-01T02:00:00",
+        ),
+        (
+            QueryRule::UnknownTable { name: table },
+            "Q6 UnknownTable name=hub_client",
+        ),
+        (
+            QueryRule::SnapshotsFull {
+                weight: 268_435_457,
+            },
+            "Q7 SnapshotsFull weight=268435457",
+        ),
+        (QueryRule::NothingOpen, "Q8 NothingOpen"),
+    ] {
+        let printed = rule.printed(alloc)?;
+        assert_eq!(rt; printed.bytes(), expected.as_bytes(), "for {expected}");
+    }
+    Ok(())
+}
+
+#[test]
+fn words_name_the_marts_of_feeds_and_the_raw_tables(rt: HostRuntime) -> Result<(), Fail> {
+    let alloc = rt.alloc();
+    let catalog = read_catalog(alloc, MAPPING).ok().ok_or("no mapping")?;
+    for (word, expected) in [
+        ("feed:customers", Some(What::Feed(0))),
+        ("feed:accounts", Some(What::Feed(1))),
+        ("feed:", None),
+        ("feed:Customers", None),
+        ("customers", None),
+        ("feed", None),
+        ("table:hub_customer", Some(What::Table(TableId::Hub(0)))),
+        (
+            "table:status_accounts",
+            Some(What::Table(TableId::Status(1))),
+        ),
+        ("table:sat_customers", None),
+        ("table:customers", None),
+        ("table:", None),
+        ("hub:customer", None),
+        ("pit:customer", None),
+    ] {
+        let word = Text::of(alloc, word.as_bytes())?;
+        assert_eq!(rt; What::read(alloc, &catalog, &word)?, expected);
+    }
+    Ok(())
+}
