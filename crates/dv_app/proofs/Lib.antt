@@ -1,8 +1,8 @@
 pub mod Completes
+pub mod EndSteps
 pub mod ExtractSteps
-pub mod ManifestSteps
 pub mod MappingSteps
 pub mod OfficeSteps
-pub mod Parts
 pub mod RunSteps
+pub mod TrySteps
 pub mod WholeSteps

@@ -1,52 +1,100 @@
--- How the reading of the mapping's file may end the command.
-use Rattle.std.proofs.Common.{◌≡◌, ℕ, List, Option, Some, None, Result, Ok, Err, inl, inr, sym, ◌∙◌, ap, take, option_map}
+-- How the reading of the mapping's file, and what is asked of it, may end the command.
+use Rattle.std.proofs.Common.{◌≡◌, ℕ, List, [], Option, Some, None, Result, Ok, Err, inl, inr, refl, sym, ◌∙◌, ap, take, option_map}
 use Rattle.std.specs.Prelude.{◌≢◌}
+use Rattle.dv_text.specs.Stamps.{stamp_of}
 use Rattle.dv_catalog.specs.Built.{built_mapping}
 use Rattle.dv_catalog.specs.Entries.{Mapping}
 use Rattle.dv_catalog.specs.declared.map_error.MapError.{MapError}
 use Rattle.dv_catalog.specs.declared.map_error.MapError.TheVariants as errors
+use Rattle.dv_mart.specs.Whats.{offered_what}
+use Rattle.dv_mart.specs.declared.whats.What.{What}
 use Rattle.dv_outside.specs.declared.folders.NamedFile.{NamedFile}
-use Rattle.dv_outside.specs.declared.statuses.Status.{Status}
-use Rattle.dv_outside.specs.declared.statuses.Status.TheVariants.{Done, Refused, Usage, Mapping as Mapped, ReadFault, KeeperFault, WriteFault, Memory, Damaged}
-use Rattle.dv_app.specs.declared.lines.TheConstants.{MAPPING_NAME}
-use Rattle.dv_app.specs.Given.{absent_line, given, read_fault_line, ReadStops}
-use Rattle.dv_app.specs.Parts.{MapErrorStops, MappingStops}
-use Rattle.dv_app.specs.Tried.{mapping_at}
+use Rattle.dv_outside.specs.declared.statuses.Status.TheVariants as statuses
+use Rattle.dv_app.specs.declared.endings.Ending.{Ending}
+use Rattle.dv_app.specs.declared.endings.Ending.TheVariants.{BadMapping, BadQuery, Absent, Unread, Memory}
+use Rattle.dv_app.specs.Endings.{DateEnds, IsMappingEnd, IsReadCause, MappingEnds, ReadEnds, WhatEnds, line_of_ending, status_of}
+use Rattle.dv_app.specs.Given.{absent_line, given, query_line}
+use Rattle.dv_app.specs.Lines.{mapping_file}
+use Rattle.dv_app.specs.Loadings.{Begins}
+use Rattle.dv_app.specs.Says.{IsEnded, Trial, lines_before, lines_with}
+use Rattle.dv_app.specs.Tried.{Tried, ended, mapping_at, tried_at, tried_for, tried_with}
 
--- it could not be read
-pub mapping_unread : (told : Option (List NamedFile)) (files : List NamedFile) → told ≡ Some files → (name : List ℕ) → name ≡ MAPPING_NAME.now
-    → (before now : ℕ) (status : Status) (text : List ℕ) → ReadStops told name before now status text → MappingStops files before now status text
-mapping_unread told files is name named before now ReadFault text (inl absent) = inl (
-  absent.0 ∙ ap absent_line named,
-  ap (λ n. option_map built_mapping (given 1048577 files n)) (sym named)
-      ∙ ap (λ f. option_map built_mapping (option_map (take 1048577) f)) (absent.1 files is),
-)
-mapping_unread told files is name named before now ReadFault text (inr failed) = inr (failed.0 ∙ ap read_fault_line named, failed.1)
-mapping_unread told files is name named before now Memory text memory = memory
-mapping_unread told files is name named before now Done text none = absurd none
-mapping_unread told files is name named before now Refused text none = absurd none
-mapping_unread told files is name named before now Usage text none = absurd none
-mapping_unread told files is name named before now Mapped text none = absurd none
-mapping_unread told files is name named before now KeeperFault text none = absurd none
-mapping_unread told files is name named before now WriteFault text none = absurd none
-mapping_unread told files is name named before now Damaged text none = absurd none
+module _ (files : List NamedFile) (name : List ℕ) (named : name ≡ mapping_file) where
+  -- it could not be read
+  pub mapping_unread : (ending : Ending) → ReadEnds files name ending → MappingEnds files ending
+  mapping_unread (Absent file) absent = (
+    absent.0 ∙ named,
+    ap (λ n. option_map built_mapping (given 1048577 files n)) (sym named) ∙ ap (λ f. option_map built_mapping (option_map (take 1048577) f)) absent.1,
+  )
+  mapping_unread (Unread file) is = is ∙ named
+  mapping_unread Memory memory = memory
+  mapping_unread (BadMapping e) none = absurd none
+  mapping_unread (BadQuery rule) none = absurd none
 
--- it was read
-pub mapping_read : (files : List NamedFile) (name bytes read : List ℕ) (result : Result Mapping MapError) → name ≡ MAPPING_NAME.now → given 1048577 files name ≡ Some bytes → read ≡ bytes
-    → built_mapping read ≡ result → mapping_at files ≡ Some result
-mapping_read files name bytes read result named there same is =
-    ap (λ n. option_map built_mapping (given 1048577 files n)) (sym named) ∙ ap (option_map built_mapping) there
-    ∙ ap (λ b. Some (built_mapping b)) (sym same) ∙ ap Some is
+  -- it was read
+  pub mapping_read : (bytes read : List ℕ) (result : Result Mapping MapError) → given 1048577 files name ≡ Some bytes → read ≡ bytes → built_mapping read ≡ result → mapping_at files ≡ Some result
+  mapping_read bytes read result there same is =
+      ap (λ n. option_map built_mapping (given 1048577 files n)) (sym named) ∙ ap (option_map built_mapping) there
+      ∙ ap (λ b. Some (built_mapping b)) (sym same) ∙ ap Some is
 
--- a refusal of its own
-pub mapping_refused : (files : List NamedFile) (e : MapError) → (e ≢ errors.Memory → mapping_at files ≡ Some (Err e)) → (before now : ℕ) (status : Status) (text : List ℕ)
-    → MapErrorStops e status text → MappingStops files before now status text
-mapping_refused files e is before now Mapped text stops = (e, is stops.0, stops.1)
-mapping_refused files e is before now Memory text memory = memory
-mapping_refused files e is before now Done text none = absurd none
-mapping_refused files e is before now Refused text none = absurd none
-mapping_refused files e is before now Usage text none = absurd none
-mapping_refused files e is before now ReadFault text none = absurd none
-mapping_refused files e is before now KeeperFault text none = absurd none
-mapping_refused files e is before now WriteFault text none = absurd none
-mapping_refused files e is before now Damaged text none = absurd none
+  -- a refusal of its own
+  pub mapping_refused : (e : MapError) → (e ≢ errors.Memory → mapping_at files ≡ Some (Err e)) → (ending : Ending) → IsMappingEnd e ending → MappingEnds files ending
+  mapping_refused e is (BadMapping bad) refused = is refused.1 ∙ ap (λ x. Some (Err x)) (sym refused.0)
+  mapping_refused e is Memory memory = memory
+  mapping_refused e is (BadQuery rule) none = absurd none
+  mapping_refused e is (Absent file) none = absurd none
+  mapping_refused e is (Unread file) none = absurd none
+
+module _ (t : Trial) (before now : ℕ) where
+  abbrev with_mapping : Option (Result Mapping MapError) → Tried
+  with_mapping = tried_with t.hashes t.files t.what t.date t.names
+
+  no_lines : (mapping : Option (Result Mapping MapError)) → lines_with t 0 mapping ≡ Some []
+  no_lines None = refl
+  no_lines (Some (Err e)) = refl
+  no_lines (Some (Ok mapping)) = refl
+
+  pub no_line_yet : lines_before t 0 ≡ Some []
+  no_line_yet = no_lines (mapping_at t.files)
+
+  abbrev EndsIt : Ending → Type 0
+  EndsIt ending = IsEnded t before now (status_of ending) (line_of_ending ending)
+
+  memory_ends : EndsIt Memory
+  memory_ends = (0, [], no_line_yet, refl)
+
+  -- the mapping's file is not read
+  pub mapping_ends : (ending : Ending) → MappingEnds t.files ending → IsReadCause before now ending → EndsIt ending
+  mapping_ends (BadMapping e) is cause = ap with_mapping is
+  mapping_ends (Absent file) none cause = inl (ap with_mapping none.1 ∙ ap (λ f. ended statuses.ReadFault (absent_line f)) (sym none.0))
+  mapping_ends (Unread file) is cause = inr ((0, [], file, no_line_yet, inl (refl, is), refl), cause)
+  mapping_ends Memory memory cause = memory_ends
+  mapping_ends (BadQuery rule) none cause = absurd none
+
+  module _ (mapping : Mapping) (is : mapping_at t.files ≡ Some (Ok mapping)) where
+    abbrev with_what : Option What → Tried
+    with_what = tried_for mapping t.hashes t.files t.what t.date t.names
+
+    -- the word names no mart
+    pub what_ends : (ending : Ending) → WhatEnds mapping t.what ending → EndsIt ending
+    what_ends (BadQuery rule) stops = ap with_mapping is ∙ ap with_what stops.1 ∙ ap (λ r. ended statuses.Refused (query_line r)) (sym stops.0)
+    what_ends Memory memory = memory_ends
+    what_ends (BadMapping e) none = absurd none
+    what_ends (Absent file) none = absurd none
+    what_ends (Unread file) none = absurd none
+
+    module _ (what : What) (offered : offered_what mapping t.what ≡ Some what) where
+      abbrev with_date : Option ℕ → Tried
+      with_date = tried_at mapping t.hashes t.files what t.date t.names
+
+      -- the date is no stamp
+      pub date_ends : (ending : Ending) → DateEnds t.date ending → EndsIt ending
+      date_ends (BadQuery rule) stops = ap with_mapping is ∙ ap with_what offered ∙ ap with_date stops.1 ∙ ap (λ r. ended statuses.Refused (query_line r)) (sym stops.0)
+      date_ends Memory memory = memory_ends
+      date_ends (BadMapping e) none = absurd none
+      date_ends (Absent file) none = absurd none
+      date_ends (Unread file) none = absurd none
+
+      -- what is asked for is in order
+      pub begins : (at : ℕ) → stamp_of t.date ≡ Some at → Begins t mapping what at
+      begins at dated = record { tried_is = ap with_mapping is ∙ ap with_what offered ∙ ap with_date dated; lines_are = λ k. ap (lines_with t k) is }

@@ -1,88 +1,125 @@
 -- The run over manifests, so far.
-use Rattle.std.proofs.Common.{◌≡◌, ℕ, ◌+◌, ◌<◌, ◌≤◌, List, [], ◌∷◌, ◌++◌, Option, Some, length, take, drop, get_or, slice_get, inl, inr, refl, sym, ◌∙◌, ap, subst, append_assoc, arith}
-use Rattle.std.proofs.lemmas.List.{drop_all, drop_more, take_more}
+use Rattle.std.proofs.Common.{◌≡◌, ℕ, ◌+◌, ◌<◌, ◌≤◌, ◌||◌, Bool, true, false, List, [], ◌∷◌, ◌++◌, Option, Some, Result, Ok, Err, length, take, drop, get_or, slice_get, refl, sym, ◌∙◌, ap, subst, append_assoc}
+use Rattle.std.proofs.lemmas.List.{append-nil, drop_more, take-append-drop, take_all, take_more}
 use Rattle.std.proofs.lemmas.Option.{slice_get-get_or}
 use Rattle.dv_text.specs.Keys.{Hashes}
 use Rattle.dv_catalog.specs.Entries.{Mapping}
-use Rattle.dv_mart.specs.declared.whats.What.{What}
-use Rattle.dv_outside.proofs.Told.{after-after, after-nil}
-use Rattle.dv_outside.specs.Bytes.{after}
+use Rattle.dv_outside.proofs.Told.{after-after, after-nil, got_behind}
+use Rattle.dv_outside.specs.Bytes.{after, GotPrefix}
 use Rattle.dv_outside.specs.declared.folders.NamedFile.{NamedFile}
-use Rattle.dv_outside.specs.declared.statuses.Status.{Status}
-use Rattle.dv_outside.specs.declared.statuses.Status.TheVariants.{Done, Refused, Usage, Mapping as Mapped, ReadFault, KeeperFault, WriteFault, Memory, Damaged}
-use Rattle.dv_app.specs.declared.lines.TheConstants.{MEMORY}
+use Rattle.dv_app.specs.declared.endings.Ending.{Ending}
+use Rattle.dv_app.specs.declared.endings.Ending.TheVariants.{BadMapping, BadQuery, Absent, Unread, Memory}
+use Rattle.dv_app.specs.declared.endings.Stop.{Stop}
+use Rattle.dv_app.specs.declared.endings.Stop.TheVariants.{Ended, Unwritten}
 use Rattle.dv_app.specs.declared.takings.Loading.{Loading}
-use Rattle.dv_app.specs.Given.{read_fault_line}
-use Rattle.dv_app.specs.Loadings.{Goes, IsLoaded, LoadsAll, LoadStops, ManifestStops, SoFar, after_some}
-use Rattle.dv_app.specs.Tried.{Progress, Tried, after_manifest, came, ended, lines_of, manifest_bytes, progressed, start, tried_from}
+use Rattle.dv_app.specs.declared.takings.Taken.{Taken}
+use Rattle.dv_app.specs.declared.takings.Taken.TheVariants as taken
+use Rattle.dv_app.specs.Endings.{BringEnds, IsStopCause}
+use Rattle.dv_app.specs.Loadings.{Goes, HasRefusal, IsLoaded, LoadEnds, LoadStops, LoadsAll, LoadsFirst, ManifestStops, SoFar, WroteLine, WroteLines, outcome_of, taken_text}
+use Rattle.dv_app.specs.Tried.{Progress, is_refused, refusal_text, start, step, step_by, step_on, steps, window_line}
+
+-- ---- the lines, whatever the folder tells
+
+behind_text : (front line behind more text : List ℕ) → text ≡ front ++ line ++ behind → text ++ more ≡ front ++ line ++ (behind ++ more)
+behind_text front line behind more text is = ap (λ l. l ++ more) is ∙ append_assoc (front ++ line) behind more
+
+-- before the first manifest
+pub none_wrote : (said : Option (List ℕ)) → WroteLines false said said
+none_wrote said = record { lines = []; said_is = sym (after-nil said); refusal = λ so. let none : false ≡ true = so in cc }
+
+module _ (said mid says : Option (List ℕ)) (name : List ℕ) (was is : Bool) (wrote : WroteLines was said mid) where
+  -- one line more
+  refused_by : (came_of : Taken) → is_refused (outcome_of came_of) ≡ true → HasRefusal (wrote.lines ++ window_line name (taken_text came_of))
+  refused_by (taken.Loaded rows) so = let none : false ≡ true = so in cc
+  refused_by taken.Repeated so = let none : false ≡ true = so in cc
+  refused_by (taken.Refused rule) so = (wrote.lines, name, rule, [], sym (append-nil (wrote.lines ++ window_line name (refusal_text rule))))
+
+  refused_before : HasRefusal wrote.lines → (line : List ℕ) → HasRefusal (wrote.lines ++ line)
+  refused_before has line = (has.0, has.1, has.2, has.3 ++ line, behind_text has.0 (window_line has.1 (refusal_text has.2)) has.3 line wrote.lines has.4)
+
+  refused_either : (before : Bool) → was ≡ before → (came_of : Taken) → (before || is_refused (outcome_of came_of)) ≡ true → HasRefusal (wrote.lines ++ window_line name (taken_text came_of))
+  refused_either true e came_of so = refused_before (wrote.refusal e) (window_line name (taken_text came_of))
+  refused_either false e came_of so = refused_by came_of so
+
+  pub wrote_more : WroteLine name was is mid says → WroteLines is said says
+  wrote_more line = record {
+    lines = wrote.lines ++ line.0;
+    said_is = line.2 ∙ ap (λ o. after o line.0) wrote.said_is ∙ after-after said wrote.lines line.0;
+    refusal = λ so. subst (λ l. HasRefusal (wrote.lines ++ l)) (sym line.1.1) (refused_either was refl line.1.0 (sym line.1.2 ∙ so));
+  }
+
+-- ---- the run over the folder's files
 
 module _ (mapping : Mapping) (hashes : Hashes) (files : List NamedFile) where
-  progressed-push : (p : Progress) (names : List (List ℕ)) (name : List ℕ) → progressed mapping hashes files p (names ++ name ∷ []) ≡ after_manifest mapping hashes files name (progressed mapping hashes files p names)
-  progressed-push p [] name = refl
-  progressed-push p (n ∷ names) name = progressed-push (after_manifest mapping hashes files n p) names name
+  abbrev run : Progress → List (List ℕ) → Result Progress (List ℕ)
+  run = steps mapping hashes files
+
+  step_on_so : (a b : List (List ℕ)) → ((q : Progress) → run q (a ++ b) ≡ step_on (run q a) (λ q. run q b)) → (r : Result Progress (List ℕ))
+      → step_on r (λ q. run q (a ++ b)) ≡ step_on (step_on r (λ q. run q a)) (λ q. run q b)
+  step_on_so a b so (Err lines) = refl
+  step_on_so a b so (Ok q) = so q
+
+  steps-append : (p : Progress) (a b : List (List ℕ)) → run p (a ++ b) ≡ step_on (run p a) (λ q. run q b)
+  steps-append p [] b = refl
+  steps-append p (name ∷ a) b = step_on_so a b (λ q. steps-append q a b) (step mapping hashes files name p)
+
+  ends_so : (r : Result Progress (List ℕ)) → step_on r (λ q. Ok q) ≡ r
+  ends_so (Err lines) = refl
+  ends_so (Ok q) = refl
 
   -- before the first manifest
-  pub none_yet : (names : List (List ℕ)) (loading : Loading) (said : Option (List ℕ)) → IsLoaded mapping hashes loading start → SoFar mapping hashes files names 0 loading said said
-  none_yet names loading said loaded = record { loaded_is = loaded; said_is = sym (after-nil said); goes = λ what date. refl }
+  pub none_yet : (names : List (List ℕ)) (loading : Loading) (said : Option (List ℕ)) → IsLoaded mapping hashes loading start → LoadsFirst mapping hashes files names 0 loading said said
+  none_yet names loading said loaded = (record { progress = start; steps_are = refl; said_is = sym (after-nil said) }, loaded)
 
-  module _ (names : List (List ℕ)) (i : ℕ) (name : List ℕ) (within : i < length names) (is : name ≡ get_or names i name) where
+  module _ (names : List (List ℕ)) (i : ℕ) (name : List ℕ) (within : i < length names) (is : name ≡ get_or names i name) (said mid : Option (List ℕ)) (so_far : SoFar mapping hashes files names i said mid) where
     abbrev p : Progress
-    p = after_some mapping hashes files names i
+    p = so_far.progress
 
-    dropped : drop i names ≡ name ∷ drop (i + 1) names
-    dropped = drop_more names i name within ∙ ap (λ n. n ∷ drop (i + 1) names) (sym is)
+    behind : (rest more : List (List ℕ)) → more ≡ take i names ++ rest → run start more ≡ run p rest
+    behind rest more e = ap (run start) e ∙ steps-append start (take i names) rest ∙ ap (λ r. step_on r (λ q. run q rest)) so_far.steps_are
 
-    next : after_some mapping hashes files names (i + 1) ≡ after_manifest mapping hashes files name p
-    next =
-        ap (progressed mapping hashes files start) (take_more names i name within ∙ ap (λ n. take i names ++ n ∷ []) (sym is))
-        ∙ progressed-push start (take i names) name
+    next_is : run start (take (i + 1) names) ≡ step mapping hashes files name p
+    next_is = behind (name ∷ []) (take (i + 1) names) (take_more names i name within ∙ ap (λ n. take i names ++ n ∷ []) (sym is)) ∙ ends_so (step mapping hashes files name p)
 
-    module _ (loading : Loading) (said mid : Option (List ℕ)) (so_far : SoFar mapping hashes files names i loading said mid) where
-      -- one more
-      pub goes_one : (new : Loading) (says : Option (List ℕ)) → Goes mapping hashes files name p new mid says → SoFar mapping hashes files names (i + 1) new said says
-      goes_one new says goes = record {
-        loaded_is = subst (IsLoaded mapping hashes new) (sym next) goes.loaded_is;
-        said_is = goes.said_is ∙ ap (λ o. after o goes.line) so_far.said_is ∙ after-after said p.lines goes.line
-            ∙ ap (after said) (sym goes.lines_are ∙ sym (ap (λ (q : Progress). q.lines) next));
-        goes = λ what date.
-            so_far.goes what date ∙ ap (tried_from mapping hashes files what date p) dropped
-            ∙ goes.goes (λ q. tried_from mapping hashes files what date q (drop (i + 1) names))
-            ∙ ap (λ q. tried_from mapping hashes files what date q (drop (i + 1) names)) (sym next);
-      }
+    rest_is : run start names ≡ step_on (step mapping hashes files name p) (λ q. run q (drop (i + 1) names))
+    rest_is = behind (name ∷ drop (i + 1) names) names
+        (sym (take-append-drop i names) ∙ ap (λ l. take i names ++ l) (drop_more names i name within ∙ ap (λ n. n ∷ drop (i + 1) names) (sym is)))
 
-      -- how this one may end the command
-      pub leads : (first before now : ℕ) → first ≤ before → (status : Status) (text : List ℕ) → ManifestStops mapping hashes files name p before now status text
-          → LoadStops mapping hashes files names first now status (lines_of mapping hashes files names i ++ text)
-      leads first before now le ReadFault text (inl is_end) = inl (λ what date.
-          so_far.goes what date ∙ ap (tried_from mapping hashes files what date p) dropped
-          ∙ is_end (λ q. tried_from mapping hashes files what date q (drop (i + 1) names)))
-      leads first before now le ReadFault text (inr failed) = inr (
-        i,
-        failed.0,
-        (name, slice_get-get_or names i name within ∙ ap Some (sym is), failed.1),
-        ap (λ t. p.lines ++ t) failed.2,
-        omega (arith, le, failed.3),
-      )
-      leads first before now le Memory text (inl memory) = (i, ap (λ t. p.lines ++ t) memory)
-      leads first before now le Memory text (inr written) = (
-        i + 1,
-        ap (λ t. p.lines ++ t) written.2 ∙ sym (append_assoc p.lines written.0 MEMORY.now)
-            ∙ ap (λ l. l ++ MEMORY.now) (sym written.1 ∙ sym (ap (λ (q : Progress). q.lines) next)),
-      )
-      leads first before now le Done text none = absurd none
-      leads first before now le Refused text none = absurd none
-      leads first before now le Usage text none = absurd none
-      leads first before now le Mapped text none = absurd none
-      leads first before now le KeeperFault text none = absurd none
-      leads first before now le WriteFault text none = absurd none
-      leads first before now le Damaged text none = absurd none
+    named : slice_get names i ≡ Some name
+    named = slice_get-get_or names i name within ∙ ap Some (sym is)
+
+    -- one more
+    pub goes_one : (new : Loading) (says : Option (List ℕ)) → Goes mapping hashes files name p new mid says → LoadsFirst mapping hashes files names (i + 1) new said says
+    goes_one new says goes = (
+      record {
+        progress = goes.takes.next;
+        steps_are = next_is ∙ goes.takes.step_is;
+        said_is = goes.said_is ∙ ap (λ o. after o goes.line) so_far.said_is ∙ after-after said p.lines goes.line ∙ ap (after said) (sym goes.takes.lines_are);
+      },
+      goes.takes.loaded_is,
+    )
+
+    -- why all are not
+    leads_by : (ending : Ending) → BringEnds files name ending → LoadEnds mapping hashes files names i p.lines ending
+    leads_by (Absent file) absent = rest_is ∙ ap (λ a. step_on (step_by mapping hashes name a p) (λ q. run q (drop (i + 1) names))) absent
+    leads_by (Unread file) read = (name, named, read)
+    leads_by Memory memory = memory
+    leads_by (BadMapping e) none = absurd none
+    leads_by (BadQuery rule) none = absurd none
+
+    pub leads : (before now : ℕ) (W : Type 0) (says : Option (List ℕ)) (stop : Stop) → IsStopCause before now W (says ≡ mid) stop → ManifestStops mapping hashes files name p mid says stop
+        → LoadStops mapping hashes files names said says stop
+    leads before now W says (Ended ending) cause ends =
+        (i, record { progress = p; steps_are = so_far.steps_are; said_is = cause.1 ∙ so_far.said_is }, leads_by ending ends)
+    leads before now W says Unwritten cause cut =
+        (i + 1, cut.next, next_is ∙ cut.step_is, subst (GotPrefix said says) (sym cut.lines_are) (got_behind said mid says p.lines cut.line so_far.said_is cut.got))
 
   -- all of them
-  pub all_taken : (names : List (List ℕ)) (i : ℕ) (loading : Loading) (said says : Option (List ℕ)) → length names ≤ i → SoFar mapping hashes files names i loading said says
+  pub all_taken : (names : List (List ℕ)) (i : ℕ) (loading : Loading) (said says : Option (List ℕ)) → length names ≤ i → LoadsFirst mapping hashes files names i loading said says
       → LoadsAll mapping hashes files names loading said says
-  all_taken names i loading said says whole so_far = record {
-    count = i;
-    loaded_is = so_far.loaded_is;
-    said_is = so_far.said_is;
-    goes = λ what date. so_far.goes what date ∙ ap (tried_from mapping hashes files what date (after_some mapping hashes files names i)) (drop_all i names whole);
+  all_taken names i loading said says whole first = record {
+    progress = first.0.progress;
+    steps_are = ap (run start) (sym (take_all i names whole)) ∙ first.0.steps_are;
+    said_is = first.0.said_is;
+    loaded_is = first.1;
   }

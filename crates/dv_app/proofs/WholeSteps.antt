@@ -1,5 +1,5 @@
 -- The bytes that are not read of a manifest's files change no outcome.
-use Rattle.std.proofs.Common.{◌≡◌, ℕ, ◌+◌, ◌-◌, ◌<◌, ◌≤◌, ◌==◌, ◌||◌, Bool, true, false, List, [], ◌∷◌, ◌++◌, Option, Some, None, Result, Ok, Err, length, map, min, take, cond, nat_lt, refl, sym, ◌∙◌, ap, subst, append_assoc, arith, option_map}
+use Rattle.std.proofs.Common.{◌≡◌, ℕ, ◌+◌, ◌<◌, ◌≤◌, ◌==◌, ◌||◌, Bool, true, false, List, [], ◌∷◌, ◌++◌, Option, Some, None, Result, Ok, Err, length, map, min, take, cond, nat_lt, refl, sym, ◌∙◌, ap, subst, append_assoc, arith, option_map}
 use Rattle.std.specs.Prelude.{find, not, unwrap_or, if◌then◌else◌}
 use Rattle.std.specs.Option.{option_map_or, option_or}
 use Rattle.std.proofs.lemmas.List.{append-nil, length-map, length-take, take_all}
@@ -8,30 +8,27 @@ use Rattle.dv_text.specs.Keys.{Hashes}
 use Rattle.dv_text.specs.declared.rows.Window.{Window}
 use Rattle.dv_catalog.specs.Entries.{Mapping}
 use Rattle.dv_catalog.specs.FirstOf.{first_of}
-use Rattle.dv_catalog.specs.Manifests.{manifest_in}
 use Rattle.dv_catalog.specs.Windows.{window_of, window_rule}
-use Rattle.dv_catalog.specs.declared.manifests.Manifest.{Manifest}
-use Rattle.dv_catalog.specs.declared.manifests.ManifestExtract.{ManifestExtract}
+use Rattle.dv_mapfile.specs.declared.manifests.Manifest.{Manifest}
+use Rattle.dv_mapfile.specs.declared.manifests.ManifestExtract.{ManifestExtract}
 use Rattle.dv_catalog.specs.declared.rules.Rule.{Rule}
 use Rattle.dv_catalog.specs.declared.rules.Rule.TheVariants.{FeedTwice, NoExtracts, TooLong, UnknownFeed}
 use Rattle.dv_catalog.specs.declared.windows.ExtractIn.{ExtractIn}
 use Rattle.dv_catalog.specs.declared.windows.WindowIn.{WindowIn}
 use Rattle.dv_outside.specs.Files.{file_at}
 use Rattle.dv_outside.specs.declared.folders.NamedFile.{NamedFile}
-use Rattle.dv_records.specs.Outcomes.{accepted, collides, differs, feed_twice, if_new, is_feed, late, most_bytes, most_window_bytes, no_extracts, open_other, outcome, refusal, repeated_name, too_long, too_long_behind, unknown_feed, vault_full}
+use Rattle.dv_records.specs.Outcomes.{accepted, collides, differs, feed_twice, if_new, is_feed, late, no_extracts, open_other, outcome, refusal, repeated_name, too_long_behind, unknown_feed, vault_full}
+use Rattle.dv_records.specs.Limits.{most_extract_bytes, most_window_bytes}
 use Rattle.dv_records.specs.States.{State}
 use Rattle.dv_records.specs.declared.answers.Outcome.{Outcome}
 use Rattle.dv_records.specs.declared.answers.Outcome.TheVariants as outcomes
 use Rattle.dv_app.specs.Given.{given}
-use Rattle.dv_app.specs.Tried.{Brought, Reading, allowed, no_reading, read_from, read_more, read_on, with_extract}
-use Rattle.dv_app.specs.WholeWindows.{HasWholeOutcome, whole_extract, whole_window}
+use Rattle.dv_app.specs.Readings.{Reading, StandsForWhole, allowed, no_reading, read_from, read_more, read_on, with_extract}
+use Rattle.dv_app.specs.Tried.{absent_or, first_absent, is_past, whole_extract, whole_window}
 
 -- the feeds' names of extracts
 abbrev names_of : List ExtractIn → List (List ℕ)
 names_of extracts = map (λ extract. extract.feed) extracts
-
-manifest_same : (r : Result Manifest (List ℕ)) (a b : Manifest) → r ≡ Ok a → r ≡ Ok b → a ≡ b
-manifest_same r a b is_a is_b = cc
 
 -- ---- windows that are alike
 
@@ -54,6 +51,14 @@ unknown_is mapping (extract ∷ extracts) = by (not (is_feed mapping extract.fee
         ≡ option_map (λ name. UnknownFeed name) (cond b (Some extract.feed) (find (λ name. not (is_feed mapping name)) (names_of extracts)))
     by true rest = refl
     by false rest = rest
+
+-- a refusal behind others is one
+abbrev HasRule : Option Rule → Type 0
+HasRule o = (rule : Rule) × (o ≡ Some rule)
+
+or_some : (o p : Option Rule) → HasRule p → HasRule (option_or o p)
+or_some None p has = has
+or_some (Some rule) p has = (rule, refl)
 
 module _ (mapping : Mapping) (hashes : Hashes) (state : State) (load : ℕ) (a b : List ExtractIn) (alike : IsAlike 0 a b) where
   abbrev window : List ExtractIn → WindowIn
@@ -94,51 +99,60 @@ module _ (mapping : Mapping) (hashes : Hashes) (state : State) (load : ℕ) (a b
       ∙ (λ i. refused_by (none_same i) (unknown_same i) (twice_same i) (open_same state.begun i) (Some rule) (later b))
       ∙ ap (refused_with b) (sym (sym alike.long ∙ e))
 
+  abbrev outcome_by : Option Rule → Outcome
+  outcome_by refused = option_map_or (λ rule. outcomes.Refused rule) refused (accepted state load)
+
   outcome_same : outcome mapping hashes state (window a) ≡ outcome mapping hashes state (window b)
-  outcome_same = ap (λ r. option_map_or (λ rule. outcomes.Refused rule) r (accepted state load)) (refusal_same (too_long_behind 0 a) refl)
+  outcome_same = ap outcome_by (refusal_same (too_long_behind 0 a) refl)
+
+  -- where the window is to be loaded, nothing is too long, and both are the same
+  loaded_same : outcome mapping hashes state (window b) ≡ outcomes.Load → a ≡ b
+  loaded_same load_is = by (too_long_behind 0 b) refl
+    where
+      by : (long : Option Rule) → too_long_behind 0 b ≡ long → a ≡ b
+      by None e = alike.same (alike.long ∙ e)
+      by (Some rule) e =
+          let refused : HasRule (refusal mapping hashes state (window b)) = subst (λ long. HasRule (refused_with b long)) (sym e)
+          (or_some (no_extracts (window b)) _ (or_some (unknown_feed mapping (window b)) _ (or_some (feed_twice (window b)) _ (or_some (late state (window a)) _ (or_some (open_other state.begun (window b)) _ (rule, refl)))))) in
+          let no : outcomes.Refused refused.0 ≡ outcomes.Load = sym (ap outcome_by refused.1) ∙ load_is in
+          cc
 
 -- ---- extracts as they are read
 
 -- a length past what is allowed is past one of the limits
-past_limits : (bytes left count : ℕ) → bytes + left ≡ most_window_bytes → allowed left < count → (nat_lt most_bytes count || nat_lt most_window_bytes (bytes + count)) ≡ true
-past_limits bytes left count whole lt = by (nat_lt most_bytes count) refl
+past_limits : (bytes left count : ℕ) → bytes + left ≡ most_window_bytes → allowed left < count → (nat_lt most_extract_bytes count || nat_lt most_window_bytes (bytes + count)) ≡ true
+past_limits bytes left count whole lt = by (nat_lt most_extract_bytes count) refl
   where
-    by : (b : Bool) → nat_lt most_bytes count ≡ b → (nat_lt most_bytes count || nat_lt most_window_bytes (bytes + count)) ≡ true
+    by : (b : Bool) → nat_lt most_extract_bytes count ≡ b → (nat_lt most_extract_bytes count || nat_lt most_window_bytes (bytes + count)) ≡ true
     by true e = ap (λ b. b || nat_lt most_window_bytes (bytes + count)) e
     by false e =
         ap (λ b. b || nat_lt most_window_bytes (bytes + count)) e
-        ∙ lt-ltb most_window_bytes (bytes + count) (omega (arith, whole, lt, ltb-false most_bytes count e))
+        ∙ lt-ltb most_window_bytes (bytes + count) (omega (arith, whole, lt, ltb-false most_extract_bytes count e))
 
 -- and one within it is within both
-within_limits : (bytes left count : ℕ) → bytes + left ≡ most_window_bytes → count ≤ allowed left → (nat_lt most_bytes count || nat_lt most_window_bytes (bytes + count)) ≡ false
+within_limits : (bytes left count : ℕ) → bytes + left ≡ most_window_bytes → count ≤ allowed left → (nat_lt most_extract_bytes count || nat_lt most_window_bytes (bytes + count)) ≡ false
 within_limits bytes left count whole le =
-    ap (λ b. b || nat_lt most_window_bytes (bytes + count)) (le-ltb most_bytes count (omega (arith, le)))
+    ap (λ b. b || nat_lt most_window_bytes (bytes + count)) (le-ltb most_extract_bytes count (omega (arith, le)))
     ∙ le-ltb most_window_bytes (bytes + count) (omega (arith, whole, le))
 
 module _ (bytes : ℕ) (extract : ExtractIn) (rest : List ExtractIn) where
-  abbrev is_past : Bool
-  is_past = nat_lt most_bytes (length extract.bytes) || nat_lt most_window_bytes (bytes + length extract.bytes)
+  abbrev past : Bool
+  past = is_past bytes (length extract.bytes)
 
-  is_long : is_past ≡ true → too_long_behind bytes (extract ∷ rest) ≡ Some (TooLong extract.feed)
-  is_long e = ap (λ b. cond b (Some (TooLong extract.feed)) (too_long_behind (bytes + length extract.bytes) rest)) e
-
-  not_long : is_past ≡ false → too_long_behind bytes (extract ∷ rest) ≡ too_long_behind (bytes + length extract.bytes) rest
-  not_long e = ap (λ b. cond b (Some (TooLong extract.feed)) (too_long_behind (bytes + length extract.bytes) rest)) e
-
-ok_same : (r : Result (List ExtractIn) (List ℕ)) (a b : List ExtractIn) → r ≡ Ok a → r ≡ Ok b → a ≡ b
-ok_same r a b is_a is_b = cc
+  too_long_by : (b : Bool) → past ≡ b → too_long_behind bytes (extract ∷ rest) ≡ cond b (Some (TooLong extract.feed)) (too_long_behind (bytes + length extract.bytes) rest)
+  too_long_by b e = ap (λ b. cond b (Some (TooLong extract.feed)) (too_long_behind (bytes + length extract.bytes) rest)) e
 
 module _ (files : List NamedFile) where
   abbrev unread : ManifestExtract → ExtractIn
   unread extract = record { feed = extract.feed; bytes = [] }
 
   -- behind an extract that is too long none is read
-  over_from : (extracts : List ManifestExtract) (r : Reading) (read : List ExtractIn) → r.is_over ≡ true → read_from files r extracts ≡ Ok read → read ≡ r.extracts ++ map unread extracts
-  over_from [] r read over is = ok_same (Ok read) read r.extracts refl (sym is) ∙ sym (append-nil r.extracts)
-  over_from (extract ∷ extracts) r read over is =
-      over_from extracts (with_extract extract.feed [] r) read (ap (λ b. b || nat_lt (allowed r.left) 0) over)
-      (sym (ap (λ b. read_on (read_more extract (if b then Some [] else given (allowed r.left + 1) files extract.file) r) (λ q. read_from files q extracts)) over) ∙ is)
-      ∙ append_assoc r.extracts (unread extract ∷ []) (map unread extracts)
+  over_from : (extracts : List ManifestExtract) (r : Reading) → r.is_over ≡ true → read_from files r extracts ≡ Ok (r.extracts ++ map unread extracts)
+  over_from [] r over = ap Ok (sym (append-nil r.extracts))
+  over_from (extract ∷ extracts) r over =
+      ap (λ b. read_on (read_more extract (if b then Some [] else given (allowed r.left + 1) files extract.file) r) (λ q. read_from files q extracts)) over
+      ∙ over_from extracts (with_extract extract.feed [] r) (ap (λ b. b || nat_lt (allowed r.left) 0) over)
+      ∙ ap Ok (append_assoc r.extracts (unread extract ∷ []) (map unread extracts))
 
   unread_names : (extracts : List ManifestExtract) → names_of (map unread extracts) ≡ names_of (map (whole_extract files) extracts)
   unread_names [] = refl
@@ -146,18 +160,26 @@ module _ (files : List NamedFile) where
 
   -- the extracts behind those that were read, and how they are like those of whole files
   record Behind (r : Reading) (bytes : ℕ) (extracts : List ManifestExtract) (read : List ExtractIn) : Type 0 where
+    none_absent : first_absent files bytes extracts ≡ None
     more : List ExtractIn
     read_is : read ≡ r.extracts ++ more
     alike : IsAlike bytes more (map (whole_extract files) extracts)
 
-  module _ (x : ManifestExtract) (xs : List ManifestExtract) (r : Reading) (bytes : ℕ) (read : List ExtractIn) (over : r.is_over ≡ false) (left : bytes + r.left ≡ most_window_bytes)
-      (is : read_from files r (x ∷ xs) ≡ Ok read)
-      (behind : (q : Reading) (n : ℕ) → q.is_over ≡ false → n + q.left ≡ most_window_bytes → read_from files q xs ≡ Ok read → Behind q n xs read) where
+  -- what the reading of extracts comes to
+  abbrev ReadsAs : Reading → ℕ → List ManifestExtract → Result (List ExtractIn) (List ℕ) → Type 0
+  ReadsAs r bytes extracts (Err file) = first_absent files bytes extracts ≡ Some file
+  ReadsAs r bytes extracts (Ok read) = Behind r bytes extracts read
+
+  module _ (x : ManifestExtract) (xs : List ManifestExtract) (r : Reading) (bytes : ℕ) (over : r.is_over ≡ false) (left : bytes + r.left ≡ most_window_bytes)
+      (behind : (q : Reading) (n : ℕ) → q.is_over ≡ false → n + q.left ≡ most_window_bytes → ReadsAs q n xs (read_from files q xs)) where
     abbrev going : Option (List ℕ) → Result (List ExtractIn) (List ℕ)
     going file = read_on (read_more x (option_map (take (allowed r.left + 1)) file) r) (λ q. read_from files q xs)
 
     by_given : read_from files r (x ∷ xs) ≡ going (file_at files x.file)
     by_given = ap (λ b. read_on (read_more x (if b then Some [] else given (allowed r.left + 1) files x.file) r) (λ q. read_from files q xs)) over
+
+    absent_by : (file : Option (List ℕ)) → file_at files x.file ≡ file → first_absent files bytes (x ∷ xs) ≡ absent_or bytes x.file file (λ more. first_absent files more xs)
+    absent_by file e = ap (λ f. absent_or bytes x.file f (λ more. first_absent files more xs)) e
 
     module _ (file : List ℕ) (there : file_at files x.file ≡ Some file) where
       abbrev front : List ℕ
@@ -172,11 +194,11 @@ module _ (files : List NamedFile) where
       abbrev next : Reading
       next = with_extract x.feed front r
 
-      goes : read_from files next xs ≡ Ok read
-      goes = sym (by_given ∙ ap going there) ∙ is
-
       whole_is : map (whole_extract files) (x ∷ xs) ≡ whole_one ∷ map (whole_extract files) xs
       whole_is = ap (λ f. record { feed = x.feed; bytes = unwrap_or f [] } ∷ map (whole_extract files) xs) there
+
+      absent_past : (b : Bool) → is_past bytes (length file) ≡ b → first_absent files bytes (x ∷ xs) ≡ (if b then None else first_absent files (bytes + length file) xs)
+      absent_past b e = absent_by (Some file) there ∙ ap (λ b. if b then None else first_absent files (bytes + length file) xs) e
 
       front_length : length front ≡ min (allowed r.left + 1) (length file)
       front_length = length-take (allowed r.left + 1) file
@@ -184,66 +206,84 @@ module _ (files : List NamedFile) where
       next_over : (b : Bool) → nat_lt (allowed r.left) (length front) ≡ b → next.is_over ≡ b
       next_over b e = ap (λ o. o || nat_lt (allowed r.left) (length front)) over ∙ e
 
-      if_over : nat_lt (allowed r.left) (length front) ≡ true → Behind r bytes (x ∷ xs) read
+      if_over : nat_lt (allowed r.left) (length front) ≡ true → ReadsAs r bytes (x ∷ xs) (read_from files next xs)
       if_over e =
-          let past : allowed r.left < length front = ltb-true (allowed r.left) (length front) e in
-          let long_read = is_long bytes read_one (map unread xs) (past_limits bytes r.left (length front) left past) in
-          let long_whole = is_long bytes whole_one (map (whole_extract files) xs) (past_limits bytes r.left (length file) left (omega (arith, past, front_length))) in
-          record {
+          let longer : allowed r.left < length front = ltb-true (allowed r.left) (length front) e in
+          let past_read = past_limits bytes r.left (length front) left longer in
+          let past_whole = past_limits bytes r.left (length file) left (omega (arith, longer, front_length)) in
+          let long_read = too_long_by bytes read_one (map unread xs) true past_read in
+          subst (ReadsAs r bytes (x ∷ xs)) (sym (over_from xs next (next_over true e))) (record {
+            none_absent = absent_past true past_whole;
             more = read_one ∷ map unread xs;
-            read_is = over_from xs next read (next_over true e) goes ∙ append_assoc r.extracts (read_one ∷ []) (map unread xs);
+            read_is = append_assoc r.extracts (read_one ∷ []) (map unread xs);
             alike = record {
               feeds = ap (λ l. x.feed ∷ l) (unread_names xs);
-              long = long_read ∙ sym (ap (too_long_behind bytes) whole_is ∙ long_whole);
+              long = long_read ∙ sym (ap (too_long_behind bytes) whole_is ∙ too_long_by bytes whole_one (map (whole_extract files) xs) true past_whole);
               same = λ none. let no : Some (TooLong x.feed) ≡ None = sym long_read ∙ none in cc;
             };
-          }
+          })
 
-      if_within : nat_lt (allowed r.left) (length front) ≡ false → Behind r bytes (x ∷ xs) read
-      if_within e =
-          let le : length front ≤ allowed r.left = ltb-false (allowed r.left) (length front) e in
-          let whole : front ≡ file = take_all (allowed r.left + 1) file (omega (arith, le, front_length)) in
-          let rest = behind next (bytes + length front) (next_over false e) (omega (arith, le, left)) goes in
-          let within = within_limits bytes r.left (length front) left le in
-          let read_long = not_long bytes read_one rest.more within in
-          let whole_long = not_long bytes read_one (map (whole_extract files) xs) within in
-          let one_is : read_one ≡ whole_one = ap (λ l. record { feed = x.feed; bytes = l }) whole in
-          record {
-            more = read_one ∷ rest.more;
-            read_is = rest.read_is ∙ append_assoc r.extracts (read_one ∷ []) rest.more;
-            alike = record {
-              feeds = ap (λ l. x.feed ∷ l) rest.alike.feeds;
-              long = read_long ∙ rest.alike.long ∙ sym whole_long ∙ ap (λ one. too_long_behind bytes (one ∷ map (whole_extract files) xs)) one_is ∙ sym (ap (too_long_behind bytes) whole_is);
-              same = λ none. ap (λ l. read_one ∷ l) (rest.alike.same (sym read_long ∙ none)) ∙ ap (λ one. one ∷ map (whole_extract files) xs) one_is ∙ sym whole_is;
-            };
-          }
+      module _ (within : nat_lt (allowed r.left) (length front) ≡ false) where
+        le : length front ≤ allowed r.left
+        le = ltb-false (allowed r.left) (length front) within
 
-      if_there : Behind r bytes (x ∷ xs) read
-      if_there = by (nat_lt (allowed r.left) (length front)) refl
-        where
-          by : (b : Bool) → nat_lt (allowed r.left) (length front) ≡ b → Behind r bytes (x ∷ xs) read
-          by true e = if_over e
-          by false e = if_within e
+        whole : front ≡ file
+        whole = take_all (allowed r.left + 1) file (omega (arith, le, front_length))
 
-    one_more : (file : Option (List ℕ)) → file_at files x.file ≡ file → Behind r bytes (x ∷ xs) read
-    one_more None e = let no : Err x.file ≡ Ok read = sym (by_given ∙ ap going e) ∙ is in cc
-    one_more (Some file) e = if_there file e
+        extend : (rest : Result (List ExtractIn) (List ℕ)) → ReadsAs next (bytes + length front) xs rest → ReadsAs r bytes (x ∷ xs) rest
+        extend (Err name) absent =
+            absent_past false (sym (ap (λ l. is_past bytes (length l)) whole) ∙ within_limits bytes r.left (length front) left le)
+            ∙ sym (ap (λ l. first_absent files (bytes + length l) xs) whole) ∙ absent
+        extend (Ok read) rest =
+            let limits = within_limits bytes r.left (length front) left le in
+            let read_long = too_long_by bytes read_one rest.more false limits in
+            let whole_long = too_long_by bytes read_one (map (whole_extract files) xs) false limits in
+            let one_is : read_one ≡ whole_one = ap (λ l. record { feed = x.feed; bytes = l }) whole in
+            record {
+              none_absent = absent_past false (sym (ap (λ l. is_past bytes (length l)) whole) ∙ limits)
+                  ∙ sym (ap (λ l. first_absent files (bytes + length l) xs) whole) ∙ rest.none_absent;
+              more = read_one ∷ rest.more;
+              read_is = rest.read_is ∙ append_assoc r.extracts (read_one ∷ []) rest.more;
+              alike = record {
+                feeds = ap (λ l. x.feed ∷ l) rest.alike.feeds;
+                long = read_long ∙ rest.alike.long ∙ sym whole_long ∙ ap (λ one. too_long_behind bytes (one ∷ map (whole_extract files) xs)) one_is ∙ sym (ap (too_long_behind bytes) whole_is);
+                same = λ none. ap (λ l. read_one ∷ l) (rest.alike.same (sym read_long ∙ none)) ∙ ap (λ one. one ∷ map (whole_extract files) xs) one_is ∙ sym whole_is;
+              };
+            }
 
-  reads_alike : (extracts : List ManifestExtract) (r : Reading) (bytes : ℕ) (read : List ExtractIn) → r.is_over ≡ false → bytes + r.left ≡ most_window_bytes → read_from files r extracts ≡ Ok read
-      → Behind r bytes extracts read
-  reads_alike [] r bytes read over left is = record {
-    more = [];
-    read_is = ok_same (Ok read) read r.extracts refl (sym is) ∙ sym (append-nil r.extracts);
-    alike = record { feeds = refl; long = refl; same = λ none. refl };
-  }
-  reads_alike (x ∷ xs) r bytes read over left is =
-      one_more x xs r bytes read over left is (λ q n o l e. reads_alike xs q n read o l e) (file_at files x.file) refl
+      if_there : (b : Bool) → nat_lt (allowed r.left) (length front) ≡ b → ReadsAs r bytes (x ∷ xs) (read_from files next xs)
+      if_there true e = if_over e
+      if_there false e = extend e (read_from files next xs) (behind next (bytes + length front) (next_over false e) (omega (arith, le e, left)))
 
--- the outcome of what was read is that of the whole files
-pub whole_outcome : (files : List NamedFile) (bytes : List ℕ) (manifest : Manifest) → manifest_in bytes ≡ Ok manifest → (read : List ExtractIn) → read_from files no_reading manifest.extracts ≡ Ok read
-    → HasWholeOutcome files bytes (Brought (record { load = manifest.load; extracts = read }))
-whole_outcome files bytes manifest is read reads = λ other other_is mapping hashes state.
-    let behind = reads_alike files manifest.extracts no_reading 0 read refl refl reads in
-    ap (λ extracts. outcome mapping hashes state (record { load = manifest.load; extracts = extracts })) behind.read_is
-    ∙ outcome_same mapping hashes state manifest.load behind.more (map (whole_extract files) manifest.extracts) behind.alike
-    ∙ ap (λ m. outcome mapping hashes state (whole_window files m)) (manifest_same (manifest_in bytes) manifest other is other_is)
+    one_more : (file : Option (List ℕ)) → file_at files x.file ≡ file → ReadsAs r bytes (x ∷ xs) (going file)
+    one_more None e = absent_by None e
+    one_more (Some file) e = if_there file e (nat_lt (allowed r.left) (length (take (allowed r.left + 1) file))) refl
+
+  reads_alike : (extracts : List ManifestExtract) (r : Reading) (bytes : ℕ) → r.is_over ≡ false → bytes + r.left ≡ most_window_bytes → ReadsAs r bytes extracts (read_from files r extracts)
+  reads_alike [] r bytes over left = record { none_absent = refl; more = []; read_is = sym (append-nil r.extracts); alike = record { feeds = refl; long = refl; same = λ none. refl } }
+  reads_alike (x ∷ xs) r bytes over left =
+      subst (ReadsAs r bytes (x ∷ xs)) (sym (by_given x xs r bytes over left (reads_alike xs)))
+      (one_more x xs r bytes over left (reads_alike xs) (file_at files x.file) refl)
+
+  -- what was read stands for the whole files
+  module _ (manifest : Manifest) (result : Result (List ExtractIn) (List ℕ)) (reads : read_from files no_reading manifest.extracts ≡ result) where
+    all_read : ReadsAs no_reading 0 manifest.extracts result
+    all_read = subst (ReadsAs no_reading 0 manifest.extracts) reads (reads_alike manifest.extracts no_reading 0 refl refl)
+
+  pub absent_whole : (manifest : Manifest) (file : List ℕ) → read_from files no_reading manifest.extracts ≡ Err file → first_absent files 0 manifest.extracts ≡ Some file
+  absent_whole manifest file reads = all_read manifest (Err file) reads
+
+  module _ (manifest : Manifest) (read : List ExtractIn) (reads : read_from files no_reading manifest.extracts ≡ Ok read) where
+    behind_all : Behind no_reading 0 manifest.extracts read
+    behind_all = all_read manifest (Ok read) reads
+
+    pub none_absent : first_absent files 0 manifest.extracts ≡ None
+    none_absent = behind_all.none_absent
+
+    pub stands_for_whole : StandsForWhole (record { load = manifest.load; extracts = read }) (whole_window files manifest)
+    stands_for_whole = record {
+      outcome_is = λ mapping hashes state. ap (λ extracts. outcome mapping hashes state (record { load = manifest.load; extracts = extracts })) behind_all.read_is
+          ∙ outcome_same mapping hashes state manifest.load behind_all.more (map (whole_extract files) manifest.extracts) behind_all.alike;
+      same = λ mapping hashes state load. ap (λ extracts. record { load = manifest.load; extracts = extracts })
+          (behind_all.read_is ∙ loaded_same mapping hashes state manifest.load behind_all.more (map (whole_extract files) manifest.extracts) behind_all.alike load);
+    }

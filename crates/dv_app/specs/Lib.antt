@@ -1,8 +1,9 @@
+pub mod Endings
 pub mod Given
+pub mod Lines
 pub mod Loadings
-pub mod Parts
+pub mod Readings
 pub mod Run
 pub mod Says
 pub mod Tried
 pub mod Words
-pub mod WholeWindows

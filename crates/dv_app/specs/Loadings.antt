@@ -1,37 +1,36 @@
 -- The parts of `try` between its mapping and its text: the taking of the manifests, one after another.
-use Rattle.std.specs.Prelude.{◌≡◌, ◌⊎◌, ℕ, Bool, true, false, List, [], ◌∷◌, ◌++◌, Option, Some, None, Ok, codes, drop, slice_get, take}
+use Rattle.std.specs.Prelude.{◌≡◌, ℕ, Bool, true, ◌||◌, List, ◌++◌, Option, Some, Ok, Err, codes, take}
 use Rattle.std.specs.Fmt.{decimal}
-use Rattle.dv_text.specs.Causes.{Rose}
 use Rattle.dv_text.specs.Keys.{Hashes}
 use Rattle.dv_text.specs.Told.{Told}
 use Rattle.dv_catalog.specs.Built.{built_mapping}
 use Rattle.dv_catalog.specs.Entries.{Mapping}
-use Rattle.dv_catalog.specs.RuleTexts.{rule_text}
 use Rattle.dv_catalog.specs.Windows.{window_of}
+use Rattle.dv_catalog.specs.declared.rules.Rule.{Rule}
 use Rattle.dv_catalog.specs.declared.windows.WindowIn.{WindowIn}
 use Rattle.dv_mart.specs.declared.whats.What.{What}
-use Rattle.dv_outside.specs.Bytes.{after}
+use Rattle.dv_outside.specs.Bytes.{after, GotPrefix}
 use Rattle.dv_outside.specs.declared.folders.NamedFile.{NamedFile}
-use Rattle.dv_outside.specs.declared.statuses.Status.{Status}
-use Rattle.dv_outside.specs.declared.statuses.Status.TheVariants.{Done, Refused, ReadFault, WriteFault, Memory}
 use Rattle.dv_records.specs.Loads.{loaded}
 use Rattle.dv_records.specs.MemoryKeepers.{keeper_store}
 use Rattle.dv_records.specs.Outcomes.{outcome}
 use Rattle.dv_records.specs.States.{State}
-use Rattle.dv_records.specs.Steps.{sealed_with}
-use Rattle.dv_records.specs.declared.answers.LoadAnswer.{LoadAnswer}
-use Rattle.dv_records.specs.declared.answers.LoadAnswer.TheVariants as answers
+use Rattle.dv_records.specs.declared.answers.Outcome.{Outcome}
 use Rattle.dv_records.specs.declared.answers.Outcome.TheVariants as outcomes
-use Rattle.dv_window.specs.Offices.{Agrees, StandsFor}
-use Rattle.dv_app.specs.declared.lines.TheConstants.{MEMORY}
+use Rattle.dv_window.specs.Offices.{Agrees, Held, IsAtRest, StandsFor}
+use Rattle.dv_app.specs.declared.endings.Ending.{Ending}
+use Rattle.dv_app.specs.declared.endings.Ending.TheVariants as endings
+use Rattle.dv_app.specs.declared.endings.Stop.{Stop}
+use Rattle.dv_app.specs.declared.endings.Stop.TheVariants as stops
 use Rattle.dv_app.specs.declared.takings.Loading.{Loading}
 use Rattle.dv_app.specs.declared.takings.Taken.{Taken}
 use Rattle.dv_app.specs.declared.takings.Taken.TheVariants as taken
 use Rattle.dv_app.specs.declared.words.Asked.{Asked}
-use Rattle.dv_app.specs.Given.{absent_line, read_fault_line}
-use Rattle.dv_app.specs.Parts.{IsFileOf}
-use Rattle.dv_app.specs.Says.{Broke, CutShort, Gives, Heard, Trial, lines_before, tried_of}
-use Rattle.dv_app.specs.Tried.{Absent, Arrival, Broken, Brought, Progress, Tried, after_manifest, at_end, brought, came, ended, ended_absent, goes_on, lines_of, manifest_bytes, outcome_text, progressed, refusal_text, start, state_after, tried_from, went_on, window_line}
+use Rattle.dv_app.specs.Endings.{BringEnds, line_of_ending, status_of}
+use Rattle.dv_app.specs.Given.{absent_line}
+use Rattle.dv_app.specs.Lines.{memory_line}
+use Rattle.dv_app.specs.Says.{CutShort, Heard, IsCutLines, IsEnded, IsMemory, IsReadNext, Trial, lines_before, lines_of, tried_of}
+use Rattle.dv_app.specs.Tried.{Absent, Arrival, Broken, Brought, Progress, arrival, at_end, is_refused, refusal_text, start, state_after, step, step_by, steps, window_line}
 
 -- what `try` was asked for, of these files
 abbrev pub trial_of : Hashes → List NamedFile → Asked → Trial
@@ -44,38 +43,42 @@ trial_of hashes files a =
 abbrev pub IsMappingText : List ℕ → Type 0
 IsMappingText text = (mapping : Mapping) × (built_mapping text ≡ Ok mapping)
 
--- a window can be given to the office: it stands for some state, and its keeper agrees with it
+-- a window can be given to the office: it stands for some state with no window open, and its keeper agrees with it
 pub record IsReady (hashes : Hashes) (loading : Loading) : Type 0 where
   pub state : State
   pub stands : StandsFor hashes state loading.office
+  pub rest : IsAtRest loading.office
   pub agrees : Told (Some (keeper_store loading.keeper)) (Agrees loading.office)
 
 -- what the code has loaded is what the run has
 pub record IsLoaded (mapping : Mapping) (hashes : Hashes) (loading : Loading) (p : Progress) : Type 0 where
-  pub mapping_is : loading.office.mapping ≡ mapping
+  pub mapping_is : loading.office.vault.mapping ≡ mapping
   pub refused_is : loading.refused ≡ p.refused
   pub stands : StandsFor hashes p.state loading.office
 
--- what came of a window, as the code has it
-abbrev pub TakenWindow : Mapping → Hashes → WindowIn → State → Taken → Type 0
-TakenWindow mapping hashes given state (taken.Loaded rows) =
-    (outcome mapping hashes state given ≡ outcomes.Load) × (rows ≡ loaded mapping hashes state.sealed (window_of mapping given))
-TakenWindow mapping hashes given state taken.Repeated = outcome mapping hashes state given ≡ outcomes.Repeated
-TakenWindow mapping hashes given state (taken.Refused rule) = outcome mapping hashes state given ≡ outcomes.Refused rule
+-- the outcome that the code has of a window
+abbrev pub outcome_of : Taken → Outcome
+outcome_of (taken.Loaded rows) = outcomes.Load
+outcome_of taken.Repeated = outcomes.Repeated
+outcome_of (taken.Refused rule) = outcomes.Refused rule
 
--- what came of a window, by the office's answer; nothing is known where its keeper failed or memory ran out
-abbrev pub taken_of : LoadAnswer → Option Taken
-taken_of (answers.Loaded rows) = Some (taken.Loaded rows)
-taken_of answers.Repeated = Some taken.Repeated
-taken_of (answers.Refused rule) = Some (taken.Refused rule)
-taken_of answers.KeeperFault = None
-taken_of answers.Memory = None
+-- the number of rows that the code has of a window
+abbrev pub HasRows : Mapping → Hashes → State → WindowIn → Taken → Type 0
+HasRows mapping hashes state given (taken.Loaded rows) = rows ≡ loaded mapping hashes state.sealed (window_of mapping given)
+HasRows mapping hashes state given taken.Repeated = Unit {0}
+HasRows mapping hashes state given (taken.Refused rule) = Unit {0}
+
+-- what came of a window, and what the office has behind it
+pub record TakesWindow (mapping : Mapping) (hashes : Hashes) (given : WindowIn) (state : State) (held : Held) (came_of : Taken) : Type 0 where
+  pub outcome_is : outcome mapping hashes state given ≡ outcome_of came_of
+  pub rows_are : HasRows mapping hashes state given came_of
+  pub stands : StandsFor hashes (state_after mapping given (outcome_of came_of) state) held
 
 -- what came of what a manifest brought
-abbrev pub TakenAs : Mapping → Hashes → Arrival → State → Taken → Type 0
-TakenAs mapping hashes (Absent file) state came_of = ⊥
-TakenAs mapping hashes (Broken rule) state came_of = came_of ≡ taken.Refused rule
-TakenAs mapping hashes (Brought given) state came_of = TakenWindow mapping hashes given state came_of
+abbrev pub TakesArrival : Mapping → Hashes → Arrival → State → Held → Taken → Type 0
+TakesArrival mapping hashes (Absent file) state held came_of = ⊥
+TakesArrival mapping hashes (Broken rule) state held came_of = (came_of ≡ taken.Refused rule) × StandsFor hashes state held
+TakesArrival mapping hashes (Brought given) state held came_of = TakesWindow mapping hashes given state held came_of
 
 -- a line's words for what came of it
 abbrev pub taken_text : Taken → List ℕ
@@ -83,112 +86,105 @@ taken_text (taken.Loaded rows) = codes ": Loaded " ++ decimal rows
 taken_text taken.Repeated = codes ": Repeated"
 taken_text (taken.Refused rule) = refusal_text rule
 
--- the state after it
-abbrev pub state_taken : Mapping → WindowIn → Taken → State → State
-state_taken mapping given (taken.Loaded rows) state = sealed_with (window_of mapping given) state
-state_taken mapping given taken.Repeated state = state
-state_taken mapping given (taken.Refused rule) state = state
-
-abbrev pub is_refusal : Taken → Bool
-is_refusal (taken.Loaded rows) = false
-is_refusal taken.Repeated = false
-is_refusal (taken.Refused rule) = true
-
 -- ---- a manifest
 
--- the state after what a manifest brought
-abbrev pub arrival_state : Mapping → Hashes → Arrival → State → State
-arrival_state mapping hashes (Absent file) state = state
-arrival_state mapping hashes (Broken rule) state = state
-arrival_state mapping hashes (Brought given) state = state_after mapping given (outcome mapping hashes state given) state
+-- a line of what came of a manifest, and whether a window was refused up to there
+abbrev pub IsLine : List ℕ → Bool → Bool → List ℕ → Type 0
+IsLine name was is line = (came_of : Taken) × (line ≡ window_line name (taken_text came_of)) × (is ≡ (was || is_refused (outcome_of came_of)))
 
--- the line of what a manifest brought
-abbrev pub arrival_line : Mapping → Hashes → List ℕ → Arrival → State → List ℕ
-arrival_line mapping hashes name (Absent file) state = []
-arrival_line mapping hashes name (Broken rule) state = window_line name (refusal_text rule)
-arrival_line mapping hashes name (Brought given) state = window_line name (outcome_text mapping hashes state given (outcome mapping hashes state given))
+-- what a manifest brought was taken, and this is its line
+pub record Takes (mapping : Mapping) (hashes : Hashes) (name : List ℕ) (came : Arrival) (p : Progress) (loading : Loading) (line : List ℕ) : Type 0 where
+  pub next : Progress
+  pub step_is : step_by mapping hashes name came p ≡ Ok next
+  pub loaded_is : IsLoaded mapping hashes loading next
+  pub lines_are : next.lines ≡ p.lines ++ line
 
--- a file that is read for a manifest: itself, or one that it names
-abbrev pub IsReadFor : List NamedFile → List ℕ → List ℕ → Type 0
-IsReadFor files name file =
-    (file ≡ name) ⊎ ((bytes : List ℕ) × (manifest_bytes files name ≡ Some bytes) × IsFileOf bytes file)
-
--- the manifest's window was taken, its line written, and the run goes on from there
+-- the manifest was taken, and its line written
 pub record Goes (mapping : Mapping) (hashes : Hashes) (files : List NamedFile) (name : List ℕ) (p : Progress) (loading : Loading) (said says : Option (List ℕ)) : Type 0 where
-  pub loaded_is : IsLoaded mapping hashes loading (after_manifest mapping hashes files name p)
   pub line : List ℕ
-  pub lines_are : (after_manifest mapping hashes files name p).lines ≡ p.lines ++ line
+  pub takes : Takes mapping hashes name (arrival files name) p loading line
   pub said_is : says ≡ after said line
-  pub goes : (rest : Progress → Tried) → came mapping hashes files name (manifest_bytes files name) p rest ≡ rest (after_manifest mapping hashes files name p)
 
--- how the taking of a manifest may end the command
-abbrev pub ManifestStops : Mapping → Hashes → List NamedFile → List ℕ → Progress → ℕ → ℕ → Status → List ℕ → Type 0
-ManifestStops mapping hashes files name p before now ReadFault text =
-    ((rest : Progress → Tried) → came mapping hashes files name (manifest_bytes files name) p rest ≡ ended ReadFault (p.lines ++ text))
-    ⊎ ((file : List ℕ) × IsReadFor files name file × (text ≡ read_fault_line file) × Rose before now)
-ManifestStops mapping hashes files name p before now Memory text =
-    (text ≡ MEMORY.now)
-    ⊎ ((line : List ℕ) × ((after_manifest mapping hashes files name p).lines ≡ p.lines ++ line) × (text ≡ line ++ MEMORY.now))
-ManifestStops mapping hashes files name p before now _ text = ⊥
+-- a manifest's line was written
+abbrev pub WroteLine : List ℕ → Bool → Bool → Option (List ℕ) → Option (List ℕ) → Type 0
+WroteLine name was is said says = (line : List ℕ) × IsLine name was is line × (says ≡ after said line)
+
+-- only a front of a manifest's line was written
+pub record ManifestCut (mapping : Mapping) (hashes : Hashes) (files : List NamedFile) (name : List ℕ) (p : Progress) (said says : Option (List ℕ)) : Type 0 where
+  pub next : Progress
+  pub step_is : step mapping hashes files name p ≡ Ok next
+  pub line : List ℕ
+  pub lines_are : next.lines ≡ p.lines ++ line
+  pub got : GotPrefix said says line
+
+-- why a manifest wasn't taken, or its line not written
+abbrev pub ManifestStops : Mapping → Hashes → List NamedFile → List ℕ → Progress → Option (List ℕ) → Option (List ℕ) → Stop → Type 0
+ManifestStops mapping hashes files name p said says (stops.Ended ending) = BringEnds files name ending
+ManifestStops mapping hashes files name p said says stops.Unwritten = ManifestCut mapping hashes files name p said says
 
 -- ---- the manifests
 
--- the run after the first manifests
-abbrev pub after_some : Mapping → Hashes → List NamedFile → List (List ℕ) → ℕ → Progress
-after_some mapping hashes files names k = progressed mapping hashes files start (take k names)
+-- the first k manifests were taken, and their lines written
+pub record SoFar (mapping : Mapping) (hashes : Hashes) (files : List NamedFile) (names : List (List ℕ)) (k : ℕ) (said says : Option (List ℕ)) : Type 0 where
+  pub progress : Progress
+  pub steps_are : steps mapping hashes files start (take k names) ≡ Ok progress
+  pub said_is : says ≡ after said progress.lines
 
--- the first manifests were taken, their lines written, and the run goes on from there
-pub record SoFar (mapping : Mapping) (hashes : Hashes) (files : List NamedFile) (names : List (List ℕ)) (k : ℕ) (loading : Loading) (said says : Option (List ℕ)) : Type 0 where
-  pub loaded_is : IsLoaded mapping hashes loading (after_some mapping hashes files names k)
-  pub said_is : says ≡ after said (lines_of mapping hashes files names k)
-  pub goes : (what : What) (date : ℕ)
-      → tried_from mapping hashes files what date start names ≡ tried_from mapping hashes files what date (after_some mapping hashes files names k) (drop k names)
+-- and that is what the code has
+abbrev pub LoadsFirst : Mapping → Hashes → List NamedFile → List (List ℕ) → ℕ → Loading → Option (List ℕ) → Option (List ℕ) → Type 0
+LoadsFirst mapping hashes files names k loading said says =
+    (so_far : SoFar mapping hashes files names k said says) × IsLoaded mapping hashes loading so_far.progress
 
--- all manifests were taken
+-- all manifests were taken, and their lines written
 pub record LoadsAll (mapping : Mapping) (hashes : Hashes) (files : List NamedFile) (names : List (List ℕ)) (loading : Loading) (said says : Option (List ℕ)) : Type 0 where
-  pub count : ℕ
-  pub loaded_is : IsLoaded mapping hashes loading (after_some mapping hashes files names count)
-  pub said_is : says ≡ after said (lines_of mapping hashes files names count)
-  pub goes : (what : What) (date : ℕ)
-      → tried_from mapping hashes files what date start names ≡ at_end mapping hashes what date (after_some mapping hashes files names count)
+  pub progress : Progress
+  pub steps_are : steps mapping hashes files start names ≡ Ok progress
+  pub said_is : says ≡ after said progress.lines
+  pub loaded_is : IsLoaded mapping hashes loading progress
 
--- a file that is read behind the first manifests: the next one, or one that it names
-abbrev pub IsReadNext : List NamedFile → List (List ℕ) → ℕ → List ℕ → Type 0
-IsReadNext files names k file = (name : List ℕ) × (slice_get names k ≡ Some name) × IsReadFor files name file
+-- why not all manifests were taken, where these lines were written
+abbrev pub LoadEnds : Mapping → Hashes → List NamedFile → List (List ℕ) → ℕ → List ℕ → Ending → Type 0
+LoadEnds mapping hashes files names k lines (endings.Absent file) = steps mapping hashes files start names ≡ Err (lines ++ absent_line file)
+LoadEnds mapping hashes files names k lines (endings.Unread file) = IsReadNext files names k file
+LoadEnds mapping hashes files names k lines endings.Memory = Unit {0}
+LoadEnds mapping hashes files names k lines ending = ⊥
 
--- how the taking of the manifests may end the command
-abbrev pub LoadStops : Mapping → Hashes → List NamedFile → List (List ℕ) → ℕ → ℕ → Status → List ℕ → Type 0
-LoadStops mapping hashes files names before now ReadFault text =
-    ((what : What) (date : ℕ) → tried_from mapping hashes files what date start names ≡ ended ReadFault text)
-    ⊎ ((k : ℕ) × (file : List ℕ) × IsReadNext files names k file × (text ≡ lines_of mapping hashes files names k ++ read_fault_line file) × Rose before now)
-LoadStops mapping hashes files names before now Memory text = (k : ℕ) × (text ≡ lines_of mapping hashes files names k ++ MEMORY.now)
-LoadStops mapping hashes files names before now _ text = ⊥
+abbrev pub LoadStops : Mapping → Hashes → List NamedFile → List (List ℕ) → Option (List ℕ) → Option (List ℕ) → Stop → Type 0
+LoadStops mapping hashes files names said says (stops.Ended ending) =
+    (k : ℕ) × (so_far : SoFar mapping hashes files names k said says) × LoadEnds mapping hashes files names k so_far.progress.lines ending
+LoadStops mapping hashes files names said says stops.Unwritten =
+    (k : ℕ) × (next : Progress) × (steps mapping hashes files start (take k names) ≡ Ok next) × GotPrefix said says next.lines
 
--- ---- what comes before and behind the manifests
+-- a text with the line of a window that was refused
+abbrev pub HasRefusal : List ℕ → Type 0
+HasRefusal text =
+    (front : List ℕ) × (name : List ℕ) × (rule : Rule) × (behind : List ℕ) × (text ≡ front ++ window_line name (refusal_text rule) ++ behind)
+
+-- the lines of manifests were written; where a window was refused, one of them says so
+pub record WroteLines (refused : Bool) (said says : Option (List ℕ)) : Type 0 where
+  pub lines : List ℕ
+  pub said_is : says ≡ after said lines
+  pub refusal : refused ≡ true → HasRefusal lines
+
+-- lines were written
+abbrev pub HasLines : Option (List ℕ) → Option (List ℕ) → Type 0
+HasLines said says = (lines : List ℕ) × (says ≡ after said lines)
+
+-- ---- the whole command
 
 -- what is asked of a mapping is in order, and the manifests are to be taken
 pub record Begins (t : Trial) (mapping : Mapping) (what : What) (date : ℕ) : Type 0 where
-  pub tried_is : tried_of t ≡ tried_from mapping t.hashes t.files what date start t.names
-  pub lines_are : (k : ℕ) → lines_before t k ≡ lines_of mapping t.hashes t.files t.names k
+  pub tried_is : tried_of t ≡ at_end mapping t.hashes what date (steps mapping t.hashes t.files start t.names)
+  pub lines_are : (k : ℕ) → lines_before t k ≡ lines_of (steps mapping t.hashes t.files start (take k t.names))
 
--- all that comes before the mart's text is done, and its lines are written
-pub record Reached (t : Trial) (mapping : Mapping) (what : What) (date : ℕ) (loading : Loading) (said says : Option (List ℕ)) : Type 0 where
-  pub progress : Progress
-  pub loaded_is : IsLoaded mapping t.hashes loading progress
-  pub count : ℕ
-  pub lines_are : progress.lines ≡ lines_before t count
-  pub said_is : says ≡ after said progress.lines
-  pub tried_is : tried_of t ≡ at_end mapping t.hashes what date progress
+-- what standard error has, and what the last line makes of it
+pub record HasEnd (t : Trial) (before now : ℕ) (said says : Option (List ℕ)) (ending : Ending) : Type 0 where
+  pub lines : List ℕ
+  pub said_is : says ≡ after said lines
+  pub ended : IsEnded t before now (status_of ending) (lines ++ line_of_ending ending)
+  pub memory : IsMemory t (lines ++ memory_line)
 
--- the end of a run whose lines are written already
-abbrev pub end_of : Mapping → Hashes → What → ℕ → Progress → Tried
-end_of mapping hashes what date p = at_end mapping hashes what date (record p { lines = [] })
-
--- behind the lines, the mart's text
-abbrev pub FinishSays : Mapping → Hashes → What → ℕ → Progress → Heard → Status → Type 0
-FinishSays mapping hashes what date p heard Done = Gives (end_of mapping hashes what date p) heard Done
-FinishSays mapping hashes what date p heard Refused = Gives (end_of mapping hashes what date p) heard Refused
-FinishSays mapping hashes what date p heard Memory = Broke (end_of mapping hashes what date p) heard (λ text. text ≡ MEMORY.now)
-FinishSays mapping hashes what date p heard WriteFault =
-    CutShort (end_of mapping hashes what date p) heard (λ text. (text ≡ []) ⊎ (text ≡ MEMORY.now))
-FinishSays mapping hashes what date p heard _ = ⊥
+-- why `try` stops, by what standard output and standard error have then
+abbrev pub TryStops : Trial → ℕ → ℕ → Heard → Stop → Type 0
+TryStops t before now heard (stops.Ended ending) = (heard.out ≡ heard.out_old) × HasEnd t before now heard.err_old heard.err ending
+TryStops t before now heard stops.Unwritten = CutShort (tried_of t) heard (IsCutLines t before now)

@@ -1,40 +1,39 @@
 -- What `try` writes for a folder's files, and its status.
-use Rattle.std.specs.Prelude.{ℕ, ◌+◌, ◌-◌, Bool, true, false, ◌||◌, List, [], ◌∷◌, ◌++◌, Option, Some, None, Result, Ok, Err, codes, length, min, nat_lt, take, unwrap_or, option_map, if◌then◌else◌}
+use Rattle.std.specs.Prelude.{ℕ, ◌+◌, Bool, true, false, ◌||◌, List, [], ◌∷◌, ◌++◌, Option, Some, None, Result, Ok, Err, codes, length, map, nat_lt, unwrap_or, option_map, if◌then◌else◌}
 use Rattle.std.specs.Fmt.{decimal}
 use Rattle.dv_text.specs.Keys.{Hashes}
 use Rattle.dv_text.specs.Stamps.{stamp_of}
 use Rattle.dv_catalog.specs.Built.{built_mapping}
 use Rattle.dv_catalog.specs.Entries.{Mapping}
-use Rattle.dv_catalog.specs.MapTexts.{map_error_text}
+use Rattle.dv_mapfile.specs.Manifests.{manifest_in}
 use Rattle.dv_catalog.specs.Printed.{printed}
 use Rattle.dv_catalog.specs.RuleTexts.{rule_text}
 use Rattle.dv_catalog.specs.Windows.{window_of}
+use Rattle.dv_mapfile.specs.declared.manifests.Manifest.{Manifest}
+use Rattle.dv_mapfile.specs.declared.manifests.ManifestExtract.{ManifestExtract}
 use Rattle.dv_catalog.specs.declared.map_error.MapError.{MapError}
 use Rattle.dv_catalog.specs.declared.rules.Rule.{Rule}
 use Rattle.dv_catalog.specs.declared.rules.Rule.TheVariants.{Manifest as ManifestRule}
 use Rattle.dv_catalog.specs.declared.windows.ExtractIn.{ExtractIn}
 use Rattle.dv_catalog.specs.declared.windows.WindowIn.{WindowIn}
 use Rattle.dv_mart.specs.MartTexts.{mart_text}
-use Rattle.dv_mart.specs.QueryTexts.{query_text}
 use Rattle.dv_mart.specs.Whats.{offered_what}
-use Rattle.dv_mart.specs.declared.query_rules.QueryRule.{QueryRule}
 use Rattle.dv_mart.specs.declared.query_rules.QueryRule.TheVariants.{UnknownMart, BadDate}
 use Rattle.dv_mart.specs.declared.whats.What.{What}
 use Rattle.dv_outside.specs.Ends.{line_of}
+use Rattle.dv_outside.specs.Files.{file_at}
 use Rattle.dv_outside.specs.declared.folders.NamedFile.{NamedFile}
 use Rattle.dv_outside.specs.declared.statuses.Status.{Status}
 use Rattle.dv_outside.specs.declared.statuses.Status.TheVariants as statuses
 use Rattle.dv_records.specs.Loads.{loaded}
-use Rattle.dv_records.specs.Outcomes.{most_bytes, most_window_bytes, outcome}
+use Rattle.dv_records.specs.Outcomes.{outcome}
+use Rattle.dv_records.specs.Limits.{most_extract_bytes, most_window_bytes}
 use Rattle.dv_records.specs.States.{State, beginning}
 use Rattle.dv_records.specs.Steps.{sealed_with}
 use Rattle.dv_records.specs.declared.answers.Outcome.{Outcome}
 use Rattle.dv_records.specs.declared.answers.Outcome.TheVariants as outcomes
-use Rattle.dv_app.specs.declared.lines.TheConstants.{MAPPING_NAME, MAPPING_REFUSED, PROGRAM}
-use Rattle.dv_catalog.specs.declared.manifests.Manifest.{Manifest}
-use Rattle.dv_catalog.specs.declared.manifests.ManifestExtract.{ManifestExtract}
-use Rattle.dv_app.specs.Given.{absent_line, given}
-use Rattle.dv_catalog.specs.Manifests.{manifest_in}
+use Rattle.dv_app.specs.Given.{absent_line, given, query_line, refused_mapping_line}
+use Rattle.dv_app.specs.Lines.{mapping_file}
 
 -- what a run writes to standard output and to standard error, and its status
 pub record Tried : Type 0 where
@@ -54,60 +53,52 @@ pub data Arrival : Type 0 where
   Broken : (rule : Rule) → Arrival
   Brought : (given : WindowIn) → Arrival
 
--- how far the reading of a manifest's extracts has come: the extracts so far, how many bytes are left of a window's, and whether one of
--- the extracts has too many
-pub record Reading : Type 0 where
-  pub extracts : List ExtractIn
-  pub left : ℕ
-  pub is_over : Bool
+-- an extract with all bytes of its file; none where the folder hasn't it
+abbrev pub whole_extract : List NamedFile → ManifestExtract → ExtractIn
+whole_extract files extract = record { feed = extract.feed; bytes = unwrap_or (file_at files extract.file) [] }
 
-abbrev pub no_reading : Reading
-no_reading = record { extracts = []; left = most_window_bytes; is_over = false }
+-- the window of a manifest, with all bytes of its files
+abbrev pub whole_window : List NamedFile → Manifest → WindowIn
+whole_window files manifest = record { load = manifest.load; extracts = map (whole_extract files) manifest.extracts }
 
--- how many bytes the next extract may have: not more than an extract may, and not more than are left of a window's
-abbrev pub allowed : ℕ → ℕ
-allowed left = min most_bytes left
+-- an extract of so many bytes, behind so many of its window, is too long, or makes the window too long
+abbrev pub is_past : ℕ → ℕ → Bool
+is_past bytes count = nat_lt most_extract_bytes count || nat_lt most_window_bytes (bytes + count)
 
--- the next extract, with its bytes
-abbrev pub with_extract : List ℕ → List ℕ → Reading → Reading
-with_extract feed bytes r = record {
-  extracts = r.extracts ++ record { feed = feed; bytes = bytes } ∷ [];
-  left = r.left - length bytes;
-  is_over = r.is_over || nat_lt (allowed r.left) (length bytes);
-}
+-- the first file that the folder hasn't, of extracts behind so many bytes of their window; behind an extract that is too long no
+-- file is wanted
+abbrev pub absent_or : ℕ → List ℕ → Option (List ℕ) → (ℕ → Option (List ℕ)) → Option (List ℕ)
+absent_or bytes file None rest = Some file
+absent_or bytes file (Some whole) rest = if is_past bytes (length whole) then None else rest (bytes + length whole)
 
--- the first bytes of an extract's file, one more than it may have; behind an extract with too many no file is read, and none stand there
-abbrev pub extract_bytes : List NamedFile → Reading → List ℕ → Option (List ℕ)
-extract_bytes files r file = if r.is_over then Some [] else given (allowed r.left + 1) files file
+abbrev pub first_absent : List NamedFile → ℕ → List ManifestExtract → Option (List ℕ)
+first_absent files bytes [] = None
+first_absent files bytes (extract ∷ extracts) =
+    absent_or bytes extract.file (file_at files extract.file) (λ more. first_absent files more extracts)
 
--- the next extract is read; the name of its file, where the folder hasn't it
-abbrev pub read_more : ManifestExtract → Option (List ℕ) → Reading → Result Reading (List ℕ)
-read_more extract None r = Err extract.file
-read_more extract (Some bytes) r = Ok (with_extract extract.feed bytes r)
-
-abbrev pub read_next : List NamedFile → ManifestExtract → Reading → Result Reading (List ℕ)
-read_next files extract r = read_more extract (extract_bytes files r extract.file) r
-
-abbrev pub read_on : Result Reading (List ℕ) → (Reading → Result (List ExtractIn) (List ℕ)) → Result (List ExtractIn) (List ℕ)
-read_on (Err file) rest = Err file
-read_on (Ok r) rest = rest r
-
--- the extracts are read one after another
-abbrev pub read_from : List NamedFile → Reading → List ManifestExtract → Result (List ExtractIn) (List ℕ)
-read_from files r [] = Ok r.extracts
-read_from files r (extract ∷ extracts) = read_on (read_next files extract r) (λ q. read_from files q extracts)
-
-abbrev pub brought_with : ℕ → Result (List ExtractIn) (List ℕ) → Arrival
-brought_with load (Err file) = Absent file
-brought_with load (Ok extracts) = Brought (record { load = load; extracts = extracts })
+abbrev pub brought_with : WindowIn → Option (List ℕ) → Arrival
+brought_with whole None = Brought whole
+brought_with whole (Some file) = Absent file
 
 abbrev pub brought_if : List NamedFile → Result Manifest (List ℕ) → Arrival
 brought_if files (Err place) = Broken (ManifestRule place)
-brought_if files (Ok manifest) = brought_with manifest.load (read_from files no_reading manifest.extracts)
+brought_if files (Ok manifest) = brought_with (whole_window files manifest) (first_absent files 0 manifest.extracts)
 
 -- what a manifest of these bytes brings
 abbrev pub brought : List NamedFile → List ℕ → Arrival
 brought files bytes = brought_if files (manifest_in bytes)
+
+-- the first bytes of a manifest: one more than it may have
+abbrev pub manifest_bytes : List NamedFile → List ℕ → Option (List ℕ)
+manifest_bytes files name = given 65537 files name
+
+abbrev pub arrival_by : List NamedFile → List ℕ → Option (List ℕ) → Arrival
+arrival_by files name None = Absent name
+arrival_by files name (Some bytes) = brought files bytes
+
+-- what the manifest of a name brings
+abbrev pub arrival : List NamedFile → List ℕ → Arrival
+arrival files name = arrival_by files name (manifest_bytes files name)
 
 -- ---- the run over manifests
 
@@ -143,90 +134,62 @@ is_refused outcomes.Load = false
 is_refused outcomes.Repeated = false
 is_refused (outcomes.Refused rule) = true
 
--- the run after a window that was brought
-abbrev pub with_window : Mapping → Hashes → List ℕ → WindowIn → Progress → Progress
-with_window mapping hashes name given p = record {
-  state = state_after mapping given (outcome mapping hashes p.state given) p.state;
-  refused = p.refused || is_refused (outcome mapping hashes p.state given);
-  lines = p.lines ++ window_line name (outcome_text mapping hashes p.state given (outcome mapping hashes p.state given));
+-- the run after a window of which this came
+abbrev pub with_outcome : Mapping → Hashes → List ℕ → WindowIn → Progress → Outcome → Progress
+with_outcome mapping hashes name given p o = record {
+  state = state_after mapping given o p.state;
+  refused = p.refused || is_refused o;
+  lines = p.lines ++ window_line name (outcome_text mapping hashes p.state given o);
 }
 
 -- the run after a manifest that breaks a rule before the load
 abbrev pub with_refusal : List ℕ → Rule → Progress → Progress
 with_refusal name rule p = record { state = p.state; refused = true; lines = p.lines ++ window_line name (refusal_text rule) }
 
--- a file that the folder hasn't ends the run
-abbrev pub ended_absent : List ℕ → Progress → Tried
-ended_absent file p = ended statuses.ReadFault (p.lines ++ absent_line file)
+-- the run after what a manifest brings; a file that the folder hasn't ends it, with these lines
+abbrev pub step_by : Mapping → Hashes → List ℕ → Arrival → Progress → Result Progress (List ℕ)
+step_by mapping hashes name (Absent file) p = Err (p.lines ++ absent_line file)
+step_by mapping hashes name (Broken rule) p = Ok (with_refusal name rule p)
+step_by mapping hashes name (Brought given) p = Ok (with_outcome mapping hashes name given p (outcome mapping hashes p.state given))
 
-abbrev pub status_of : Progress → Status
-status_of p = if p.refused then statuses.Refused else statuses.Done
+-- the run after a manifest
+abbrev pub step : Mapping → Hashes → List NamedFile → List ℕ → Progress → Result Progress (List ℕ)
+step mapping hashes files name p = step_by mapping hashes name (arrival files name) p
+
+abbrev pub step_on : Result Progress (List ℕ) → (Progress → Result Progress (List ℕ)) → Result Progress (List ℕ)
+step_on (Err lines) rest = Err lines
+step_on (Ok p) rest = rest p
+
+-- the run after manifests, which are taken one after another
+abbrev pub steps : Mapping → Hashes → List NamedFile → Progress → List (List ℕ) → Result Progress (List ℕ)
+steps mapping hashes files p [] = Ok p
+steps mapping hashes files p (name ∷ names) = step_on (step mapping hashes files name p) (λ q. steps mapping hashes files q names)
+
+abbrev pub status_for : Bool → Status
+status_for refused = if refused then statuses.Refused else statuses.Done
 
 -- at the end comes the mart's text
-abbrev pub at_end : Mapping → Hashes → What → ℕ → Progress → Tried
-at_end mapping hashes what date p =
-    record { out = mart_text mapping hashes p.state.sealed what date; err = p.lines; status = status_of p }
-
--- the run after what a manifest brings, and the rest of it
-abbrev pub goes_on : Mapping → Hashes → List ℕ → Arrival → Progress → (Progress → Tried) → Tried
-goes_on mapping hashes name (Absent file) p rest = ended_absent file p
-goes_on mapping hashes name (Broken rule) p rest = rest (with_refusal name rule p)
-goes_on mapping hashes name (Brought given) p rest = rest (with_window mapping hashes name given p)
-
-abbrev pub came : Mapping → Hashes → List NamedFile → List ℕ → Option (List ℕ) → Progress → (Progress → Tried) → Tried
-came mapping hashes files name None p rest = ended_absent name p
-came mapping hashes files name (Some bytes) p rest = goes_on mapping hashes name (brought files bytes) p rest
-
--- the first bytes of a manifest: one more than it may have
-abbrev pub manifest_bytes : List NamedFile → List ℕ → Option (List ℕ)
-manifest_bytes files name = given 65537 files name
-
--- the manifests are taken one after another
-abbrev pub tried_from : Mapping → Hashes → List NamedFile → What → ℕ → Progress → List (List ℕ) → Tried
-tried_from mapping hashes files what date p [] = at_end mapping hashes what date p
-tried_from mapping hashes files what date p (name ∷ names) =
-    came mapping hashes files name (manifest_bytes files name) p (λ q. tried_from mapping hashes files what date q names)
-
--- the run after a manifest, and after manifests, while none of their files is absent
-abbrev pub went_on : Mapping → Hashes → List ℕ → Arrival → Progress → Progress
-went_on mapping hashes name (Absent file) p = p
-went_on mapping hashes name (Broken rule) p = with_refusal name rule p
-went_on mapping hashes name (Brought given) p = with_window mapping hashes name given p
-
-abbrev pub after_manifest : Mapping → Hashes → List NamedFile → List ℕ → Progress → Progress
-after_manifest mapping hashes files name p = went_on mapping hashes name (brought files (unwrap_or (manifest_bytes files name) [])) p
-
-abbrev pub progressed : Mapping → Hashes → List NamedFile → Progress → List (List ℕ) → Progress
-progressed mapping hashes files p [] = p
-progressed mapping hashes files p (name ∷ names) = progressed mapping hashes files (after_manifest mapping hashes files name p) names
-
--- the lines of the first k manifests
-abbrev pub lines_of : Mapping → Hashes → List NamedFile → List (List ℕ) → ℕ → List ℕ
-lines_of mapping hashes files names k = (progressed mapping hashes files start (take k names)).lines
+abbrev pub at_end : Mapping → Hashes → What → ℕ → Result Progress (List ℕ) → Tried
+at_end mapping hashes what date (Err lines) = ended statuses.ReadFault lines
+at_end mapping hashes what date (Ok p) =
+    record { out = mart_text mapping hashes p.state.sealed what date; err = p.lines; status = status_for p.refused }
 
 -- ---- the whole command
 
-abbrev pub refused_mapping_line : MapError → List ℕ
-refused_mapping_line e = line_of MAPPING_REFUSED.now (map_error_text e)
-
--- a query's rule, as the last line
-abbrev pub query_line : QueryRule → List ℕ
-query_line rule = line_of PROGRAM.now (query_text rule)
-
 -- the mapping's file, read
 abbrev pub mapping_at : List NamedFile → Option (Result Mapping MapError)
-mapping_at files = option_map built_mapping (given 1048577 files MAPPING_NAME.now)
+mapping_at files = option_map built_mapping (given 1048577 files mapping_file)
 
 abbrev pub tried_at : Mapping → Hashes → List NamedFile → What → List ℕ → List (List ℕ) → Option ℕ → Tried
 tried_at mapping hashes files what date names None = ended statuses.Refused (query_line (BadDate date))
-tried_at mapping hashes files what date names (Some at) = tried_from mapping hashes files what at start names
+tried_at mapping hashes files what date names (Some at) = at_end mapping hashes what at (steps mapping hashes files start names)
 
 abbrev pub tried_for : Mapping → Hashes → List NamedFile → List ℕ → List ℕ → List (List ℕ) → Option What → Tried
 tried_for mapping hashes files word date names None = ended statuses.Refused (query_line (UnknownMart word))
 tried_for mapping hashes files word date names (Some what) = tried_at mapping hashes files what date names (stamp_of date)
 
 abbrev pub tried_with : Hashes → List NamedFile → List ℕ → List ℕ → List (List ℕ) → Option (Result Mapping MapError) → Tried
-tried_with hashes files what date names None = ended statuses.ReadFault (absent_line MAPPING_NAME.now)
+tried_with hashes files what date names None = ended statuses.ReadFault (absent_line mapping_file)
 tried_with hashes files what date names (Some (Err e)) = ended statuses.Mapping (refused_mapping_line e)
 tried_with hashes files what date names (Some (Ok mapping)) = tried_for mapping hashes files what date names (offered_what mapping what)
 

@@ -1,17 +1,16 @@
 // What a manifest and its files bring.
-ghost use Rattle.std.specs.Prelude.{◌≡◌, ◌≤◌, Ok, Some, IfOk, OnOk, IfErr, IsErrOf};
-ghost use Rattle.dv_text.specs.Causes.{Rose};
+ghost use Rattle.std.specs.Prelude.{◌≡◌, ◌≤◌, Ok, Some, IfOk, OnOk, IfErr};
 ghost use Rattle.dv_text.specs.Told.{Told};
-ghost use Rattle.dv_outside.specs.Ends.{Stops};
-ghost use Rattle.dv_app.specs.Parts.{arrival_of, reading_of, BringStops, ExtractStops, ExtractsStop};
-ghost use Rattle.dv_app.specs.Tried as spec;
-ghost use Rattle.dv_app.specs.Tried.{brought};
-ghost use Rattle.dv_app.specs.WholeWindows.{HasWholeOutcome};
+ghost use Rattle.dv_app.specs.Endings.{BringEnds, ExtractEnds, ExtractsEnd, FilesEnd, IsReadCause};
+ghost use Rattle.dv_app.specs.Readings as spec;
+ghost use Rattle.dv_app.specs.Readings.{reading_of, Brings};
+ghost use Rattle.dv_app.specs.Tried.{arrival, brought};
 
-use crate::lines::MEMORY;
+use crate::endings::Ending;
 use crate::reads::read_named;
-use dv_catalog::{ExtractIn, Manifest, ManifestExtract, ManifestFault, Rule, WindowIn};
-use dv_outside::{Folder, Sink, Status, end};
+use dv_catalog::{ExtractIn, Rule, WindowIn};
+use dv_mapfile::{Manifest, ManifestExtract, ManifestFault};
+use dv_outside::Folder;
 use dv_text::{Duplicate, List, Memory, Text};
 use std::alloc::Global;
 
@@ -39,8 +38,8 @@ struct Reading {
 
 impl Reading {
     ghost use Rattle.std.specs.Prelude.{◌≡◌, ◌≤◌, IfOk, OnOk};
-    ghost use Rattle.dv_app.specs.Parts.{reading_of};
-    ghost use Rattle.dv_app.specs.Tried as spec;
+    ghost use Rattle.dv_app.specs.Readings as spec;
+    ghost use Rattle.dv_app.specs.Readings.{reading_of};
 
     fn new(alloc: Global) -> Reading
         ensures { reading_of result ≡ spec.no_reading }
@@ -76,112 +75,98 @@ impl Reading {
 
 // The first bytes of an extract's file, one more than it may have. Behind an extract with too many no file
 // is read, and there are none.
-fn extract_bytes<F: Folder, E: Sink>(
+fn extract_bytes<F: Folder>(
     alloc: Global,
     folder: &mut F,
-    err: &mut E,
     reading: &Reading,
-    file: &Text,
-) -> Result<List<u8>, Status>
-    ensures ok { IfOk result (λ bytes. Told (F.files folder.old) (λ files. spec.extract_bytes files (reading_of reading.now) file.now ≡ Some bytes)) }
-    ensures quiet { OnOk result (E.contents err.new ≡ E.contents err.old) }
-    ensures stops { IfErr result (λ status. Told (F.files folder.old) (λ files.
-        Stops (ExtractStops files (reading_of reading.now) file.now (F.faults folder.old) (F.faults folder.new))
-        (E.contents err.old) (E.contents err.new) (E.faults err.old) (E.faults err.new) status)) }
-    ensures write { IsErrOf result Status.WriteFault → Rose (E.faults err.old) (E.faults err.new) }
-    ensures usage { IsErrOf result Status.Usage → ⊥ }
-    ensures keeper { IsErrOf result Status.KeeperFault → ⊥ }
+    extract: &ManifestExtract,
+) -> Result<List<u8>, Ending>
+    ensures ok { IfOk result (λ bytes. Told (F.files folder.old) (λ files. spec.extract_bytes files (reading_of reading.now) extract.now.file ≡ Some bytes)) }
+    ensures ends { IfErr result (λ ending. Told (F.files folder.old) (λ files. ExtractEnds files (reading_of reading.now) extract.now ending)) }
+    ensures cause { IfErr result (IsReadCause (F.faults folder.old) (F.faults folder.new)) }
     ensures kept { F.files folder.new ≡ F.files folder.old }
-    ensures later { (F.faults folder.old ≤ F.faults folder.new) × (E.faults err.old ≤ E.faults err.new) }
+    ensures later { F.faults folder.old ≤ F.faults folder.new }
 {
     if reading.is_over {
         return Ok(List::new(alloc));
     }
-    read_named(alloc, folder, err, file, reading.allowed() + 1)
+    read_named(alloc, folder, &extract.file, reading.allowed() + 1)
 }
 
 // The next extract of a manifest, with the bytes of its file.
-fn read_extract<F: Folder, E: Sink>(
+fn read_extract<F: Folder>(
     alloc: Global,
     folder: &mut F,
-    err: &mut E,
     reading: &mut Reading,
     extract: &ManifestExtract,
-) -> Result<(), Status>
+) -> Result<(), Ending>
     ensures ok { OnOk result (Told (F.files folder.old) (λ files. spec.read_next files extract.now (reading_of reading.old) ≡ Ok (reading_of reading.new))) }
-    ensures quiet { OnOk result (E.contents err.new ≡ E.contents err.old) }
-    ensures stops { IfErr result (λ status. Told (F.files folder.old) (λ files.
-        Stops (ExtractStops files (reading_of reading.old) extract.now.file (F.faults folder.old) (F.faults folder.new))
-        (E.contents err.old) (E.contents err.new) (E.faults err.old) (E.faults err.new) status)) }
-    ensures write { IsErrOf result Status.WriteFault → Rose (E.faults err.old) (E.faults err.new) }
-    ensures usage { IsErrOf result Status.Usage → ⊥ }
-    ensures keeper { IsErrOf result Status.KeeperFault → ⊥ }
+    ensures ends { IfErr result (λ ending. Told (F.files folder.old) (λ files. ExtractEnds files (reading_of reading.old) extract.now ending)) }
+    ensures cause { IfErr result (IsReadCause (F.faults folder.old) (F.faults folder.new)) }
     ensures kept { F.files folder.new ≡ F.files folder.old }
-    ensures later { (F.faults folder.old ≤ F.faults folder.new) × (E.faults err.old ≤ E.faults err.new) }
+    ensures later { F.faults folder.old ≤ F.faults folder.new }
 {
-    let bytes = extract_bytes(alloc, folder, err, reading, &extract.file)?;
+    let bytes = extract_bytes(alloc, folder, reading, extract)?;
     match reading.add(&extract.feed, bytes) {
         Ok(()) => Ok(()),
-        Err(Memory) => Err(end(err, MEMORY, Status::Memory)),
+        Err(Memory) => Err(Ending::Memory),
     }
 }
 
 // The extracts of a manifest in its order, with the bytes of their files.
-fn read_extracts<F: Folder, E: Sink>(
+fn read_extracts<F: Folder>(
     alloc: Global,
     folder: &mut F,
-    err: &mut E,
     extracts: &[ManifestExtract],
-) -> Result<List<ExtractIn>, Status>
+) -> Result<List<ExtractIn>, Ending>
     ensures ok { IfOk result (λ read. Told (F.files folder.old) (λ files. spec.read_from files spec.no_reading extracts.now ≡ Ok read)) }
-    ensures quiet { OnOk result (E.contents err.new ≡ E.contents err.old) }
-    ensures stops { IfErr result (λ status. Told (F.files folder.old) (λ files.
-        Stops (ExtractsStop files extracts.now (F.faults folder.old) (F.faults folder.new))
-        (E.contents err.old) (E.contents err.new) (E.faults err.old) (E.faults err.new) status)) }
-    ensures write { IsErrOf result Status.WriteFault → Rose (E.faults err.old) (E.faults err.new) }
-    ensures usage { IsErrOf result Status.Usage → ⊥ }
-    ensures keeper { IsErrOf result Status.KeeperFault → ⊥ }
+    ensures ends { IfErr result (λ ending. Told (F.files folder.old) (λ files. ExtractsEnd files extracts.now ending)) }
+    ensures cause { IfErr result (IsReadCause (F.faults folder.old) (F.faults folder.new)) }
     ensures kept { F.files folder.new ≡ F.files folder.old }
-    ensures later { (F.faults folder.old ≤ F.faults folder.new) × (E.faults err.old ≤ E.faults err.new) }
+    ensures later { F.faults folder.old ≤ F.faults folder.new }
 {
     let mut reading = Reading::new(alloc);
     for extract in extracts {
-        read_extract(alloc, folder, err, &mut reading, extract)?;
+        read_extract(alloc, folder, &mut reading, extract)?;
     }
     Ok(reading.extracts)
 }
 
-/// What the manifest of these bytes brings, with the files that it names. That a file past its limit, and the
-/// files behind it, are not read whole changes no outcome. At an `Err` the last line was
-/// written, and the command ends with that status.
-pub(crate) fn bring<F: Folder, E: Sink>(
-    alloc: Global,
-    folder: &mut F,
-    err: &mut E,
-    bytes: &[u8],
-) -> Result<Arrived, Status>
-    ensures ok { IfOk result (λ arrived. Told (F.files folder.old) (λ files. brought files bytes.now ≡ arrival_of arrived)) }
-    ensures whole { IfOk result (λ arrived. Told (F.files folder.old) (λ files. HasWholeOutcome files bytes.now (arrival_of arrived))) }
-    ensures quiet { OnOk result (E.contents err.new ≡ E.contents err.old) }
-    ensures stops { IfErr result (λ status. Told (F.files folder.old) (λ files.
-        Stops (BringStops files bytes.now (F.faults folder.old) (F.faults folder.new))
-        (E.contents err.old) (E.contents err.new) (E.faults err.old) (E.faults err.new) status)) }
-    ensures write { IsErrOf result Status.WriteFault → Rose (E.faults err.old) (E.faults err.new) }
-    ensures usage { IsErrOf result Status.Usage → ⊥ }
-    ensures keeper { IsErrOf result Status.KeeperFault → ⊥ }
+// What the manifest of these bytes brings, with the files that it names. Of a file past its limit one byte
+// more is read, and the files behind it are not: that changes no outcome, and no window that is loaded.
+fn bring_files<F: Folder>(alloc: Global, folder: &mut F, bytes: &[u8]) -> Result<Arrived, Ending>
+    ensures ok { IfOk result (λ arrived. Told (F.files folder.old) (λ files. Brings (brought files bytes.now) arrived)) }
+    ensures ends { IfErr result (λ ending. Told (F.files folder.old) (λ files. FilesEnd files bytes.now ending)) }
+    ensures cause { IfErr result (IsReadCause (F.faults folder.old) (F.faults folder.new)) }
     ensures kept { F.files folder.new ≡ F.files folder.old }
-    ensures later { (F.faults folder.old ≤ F.faults folder.new) × (E.faults err.old ≤ E.faults err.new) }
+    ensures later { F.faults folder.old ≤ F.faults folder.new }
 {
     let manifest = match Manifest::read(alloc, bytes) {
         Ok(manifest) => manifest,
-        Err(ManifestFault::Memory) => return Err(end(err, MEMORY, Status::Memory)),
+        Err(ManifestFault::Memory) => return Err(Ending::Memory),
         Err(ManifestFault::Broken { place }) => {
             return Ok(Arrived::Broken(Rule::Manifest { place }));
         }
     };
-    let extracts = read_extracts(alloc, folder, err, manifest.extracts.items())?;
+    let extracts = read_extracts(alloc, folder, manifest.extracts.items())?;
     Ok(Arrived::Brought(WindowIn {
         load: manifest.load,
         extracts,
     }))
+}
+
+/// What the manifest of a name brings.
+pub(crate) fn bring<F: Folder>(
+    alloc: Global,
+    folder: &mut F,
+    name: &Text,
+) -> Result<Arrived, Ending>
+    ensures ok { IfOk result (λ arrived. Told (F.files folder.old) (λ files. Brings (arrival files name.now) arrived)) }
+    ensures ends { IfErr result (λ ending. Told (F.files folder.old) (λ files. BringEnds files name.now ending)) }
+    ensures cause { IfErr result (IsReadCause (F.faults folder.old) (F.faults folder.new)) }
+    ensures kept { F.files folder.new ≡ F.files folder.old }
+    ensures later { F.faults folder.old ≤ F.faults folder.new }
+{
+    let bytes = read_named(alloc, folder, name, 65_537)?;
+    bring_files(alloc, folder, bytes.items())
 }

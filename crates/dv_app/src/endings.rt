@@ -1,62 +1,100 @@
-// How a command ends where what was asked is refused: with the refusal's line, or for want of memory.
-ghost use Rattle.std.specs.Prelude.{◌≡◌, ◌≤◌, ◌⊎◌};
-ghost use Rattle.dv_outside.specs.Ends.{EndsWith, Stops};
-ghost use Rattle.dv_app.specs.Parts.{MapErrorStops, QueryStops};
+// Why a command ends before its mart's text, and how it ends then: with the last line and a status.
+ghost use Rattle.std.specs.Prelude.{◌≡◌, ◌≤◌, IfOk, OnErr};
+ghost use Rattle.dv_outside.specs.Ends.{line_of, Ends};
+ghost use Rattle.dv_app.specs.Endings.{line_of_ending, status_of, EndsOrMemory, StopsBy};
+ghost use Rattle.dv_app.specs.Lines.{memory_line};
 
-use crate::lines::{MAPPING_REFUSED, MEMORY, PROGRAM};
-use dv_catalog::MapError;
+use crate::lines::{ABSENT, MAPPING_REFUSED, MEMORY, PROGRAM, READ_FAULT};
+use dv_catalog::{MapError, printed};
 use dv_mart::QueryRule;
 use dv_outside::{Sink, Status, end, end_named};
-use dv_text::{Duplicate, Memory, Text};
+use dv_text::{Memory, Text};
 use std::alloc::Global;
 
-/// The end where the mapping file is refused, or could not be read for want of memory.
-pub(crate) fn end_mapping<E: Sink>(alloc: Global, err: &mut E, e: &MapError) -> Status
-    ensures stops { Stops (MapErrorStops e.now) (E.contents err.old) (E.contents err.new) (E.faults err.old) (E.faults err.new) result }
-    ensures status { EndsWith Status.Mapping (E.faults err.old) (E.faults err.new) result ⊎ EndsWith Status.Memory (E.faults err.old) (E.faults err.new) result }
+/// Why a command ends before its mart's text.
+#[derive(Debug, Drop)]
+pub(crate) enum Ending {
+    /// The mapping's file is refused.
+    BadMapping(MapError),
+    /// What is asked for is refused.
+    BadQuery(QueryRule),
+    /// The folder has no file of the name.
+    Absent(Text),
+    /// The file of the name could not be read.
+    Unread(Text),
+    /// Memory ran out.
+    Memory,
+}
+
+/// Why `try` stops before its end.
+#[derive(Debug, Drop)]
+pub(crate) enum Stop {
+    /// It ends with a line of its own.
+    Ended(Ending),
+    /// A text or a line could not be written.
+    Unwritten,
+}
+
+impl From<Ending> for Stop {
+    ghost use Rattle.std.specs.Prelude.{◌≡◌};
+    ghost use Rattle.dv_app.specs.declared.endings.Stop.TheVariants as variants;
+
+    ghost from_gives = { λ ending stop. stop ≡ variants.Ended ending };
+
+    fn from(ending: Ending) -> Stop {
+        Stop::Ended(ending)
+    }
+}
+
+// Writes the last line with a text that was printed, or the one for memory where it could not be printed.
+fn end_printed<E: Sink>(
+    err: &mut E,
+    front: &[u8],
+    text: Result<Text, Memory>,
+    status: Status,
+) -> Status
+    ensures ok { IfOk text (λ text. Ends status (line_of front.now text) (E.contents err.old) (E.contents err.new) (E.faults err.old) (E.faults err.new) result) }
+    ensures memory { OnErr text (Ends Status.Memory memory_line (E.contents err.old) (E.contents err.new) (E.faults err.old) (E.faults err.new) result) }
     ensures later { E.faults err.old ≤ E.faults err.new }
 {
-    if *e == MapError::Memory {
-        return end(err, MEMORY, Status::Memory);
-    }
-    match e.printed(alloc) {
-        Ok(text) => end_named(err, MAPPING_REFUSED, text.bytes(), Status::Mapping),
+    match text {
+        Ok(text) => end_named(err, front, text.bytes(), status),
         Err(Memory) => end(err, MEMORY, Status::Memory),
     }
 }
 
-/// The end where a query is refused.
-pub(crate) fn end_query<E: Sink>(alloc: Global, err: &mut E, rule: &QueryRule) -> Status
-    ensures stops { Stops (QueryStops rule.now) (E.contents err.old) (E.contents err.new) (E.faults err.old) (E.faults err.new) result }
-    ensures status { EndsWith Status.Refused (E.faults err.old) (E.faults err.new) result ⊎ EndsWith Status.Memory (E.faults err.old) (E.faults err.new) result }
+// Writes the line of what ends a command, and answers its status.
+fn end_with_line<E: Sink>(alloc: Global, err: &mut E, ending: &Ending) -> Status
+    ensures says { EndsOrMemory (status_of ending.now) (line_of_ending ending.now) (E.contents err.old) (E.contents err.new) (E.faults err.old) (E.faults err.new) result }
     ensures later { E.faults err.old ≤ E.faults err.new }
 {
-    match rule.printed(alloc) {
-        Ok(text) => end_named(err, PROGRAM, text.bytes(), Status::Refused),
-        Err(Memory) => end(err, MEMORY, Status::Memory),
+    match ending {
+        Ending::BadMapping(e) => {
+            end_printed(err, MAPPING_REFUSED, e.printed(alloc), Status::Mapping)
+        }
+        Ending::BadQuery(rule) => end_printed(err, PROGRAM, rule.printed(alloc), Status::Refused),
+        Ending::Absent(name) => {
+            end_printed(err, ABSENT, printed(alloc, name.bytes()), Status::ReadFault)
+        }
+        Ending::Unread(name) => {
+            end_printed(
+                err,
+                READ_FAULT,
+                printed(alloc, name.bytes()),
+                Status::ReadFault,
+            )
+        }
+        Ending::Memory => end(err, MEMORY, Status::Memory),
     }
 }
 
-/// The end where a word names no mart that is offered.
-pub(crate) fn end_unknown<E: Sink>(alloc: Global, err: &mut E, word: &Text) -> Status
-    ensures stops { Stops (QueryStops (QueryRule.UnknownMart word.now)) (E.contents err.old) (E.contents err.new) (E.faults err.old) (E.faults err.new) result }
-    ensures status { EndsWith Status.Refused (E.faults err.old) (E.faults err.new) result ⊎ EndsWith Status.Memory (E.faults err.old) (E.faults err.new) result }
+/// Ends a command that stops: with the last line, where it has one, and a status.
+pub(crate) fn end_command<E: Sink>(alloc: Global, err: &mut E, stop: &Stop) -> Status
+    ensures says { StopsBy stop.now (E.contents err.old) (E.contents err.new) (E.faults err.old) (E.faults err.new) result }
     ensures later { E.faults err.old ≤ E.faults err.new }
 {
-    match word.copy() {
-        Ok(name) => end_query(alloc, err, &QueryRule::UnknownMart { name }),
-        Err(Memory) => end(err, MEMORY, Status::Memory),
-    }
-}
-
-/// The end where a date is no stamp.
-pub(crate) fn end_bad_date<E: Sink>(alloc: Global, err: &mut E, date: &Text) -> Status
-    ensures stops { Stops (QueryStops (QueryRule.BadDate date.now)) (E.contents err.old) (E.contents err.new) (E.faults err.old) (E.faults err.new) result }
-    ensures status { EndsWith Status.Refused (E.faults err.old) (E.faults err.new) result ⊎ EndsWith Status.Memory (E.faults err.old) (E.faults err.new) result }
-    ensures later { E.faults err.old ≤ E.faults err.new }
-{
-    match date.copy() {
-        Ok(text) => end_query(alloc, err, &QueryRule::BadDate { text }),
-        Err(Memory) => end(err, MEMORY, Status::Memory),
+    match stop {
+        Stop::Ended(ending) => end_with_line(alloc, err, ending),
+        Stop::Unwritten => Status::WriteFault,
     }
 }

@@ -6,7 +6,6 @@ mod checks;
 mod endings;
 mod lines;
 mod reads;
-mod rule_texts;
 mod takings;
 mod top;
 mod tries;
@@ -14,6 +13,3 @@ mod words;
 
 pub use dv_digest::Md5Keys;
 pub use top::run;
-
-#[cfg(test)]
-mod tests;

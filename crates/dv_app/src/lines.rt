@@ -1,4 +1,4 @@
-// The fixed parts of the lines that a command writes to standard error.
+// The fixed parts of the lines that a command writes to standard error, and the mapping file's name.
 
 pub(crate) const MEMORY: &[u8] = b"vaultdesk: out of memory\n";
 

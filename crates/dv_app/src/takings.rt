@@ -1,19 +1,16 @@
 // One manifest is taken: its window is loaded, repeated or refused, and its line is made.
 ghost use Rattle.std.specs.Prelude.{◌≡◌, ◌++◌, IfOk, OnOk, Ok};
-ghost use Rattle.dv_text.specs.Keys.{Hashes, hashes_of};
+ghost use Rattle.dv_text.specs.Keys.{hashes_of};
 ghost use Rattle.dv_catalog.specs.Built.{built_mapping};
 ghost use Rattle.dv_catalog.specs.Entries.{Mapping};
 ghost use Rattle.dv_records.specs.MemoryKeepers.{empty_store, keeper_store};
 ghost use Rattle.dv_records.specs.Stores.{with_mapping};
-ghost use Rattle.dv_window.specs.Offices.{StandsFor};
-ghost use Rattle.dv_app.specs.Loadings as spec;
-ghost use Rattle.dv_app.specs.Loadings.{arrival_line, taken_text, IsLoaded, IsMappingText, IsReady, TakenAs, TakenWindow};
-ghost use Rattle.dv_app.specs.Parts.{arrival_of};
-ghost use Rattle.dv_app.specs.Tried.{start, window_line as line_of_window, went_on, Progress};
+ghost use Rattle.dv_app.specs.Loadings.{outcome_of, taken_text, IsLine, IsLoaded, IsMappingText, IsReady, Takes, TakesArrival, TakesWindow};
+ghost use Rattle.dv_app.specs.Readings.{arrival_of};
+ghost use Rattle.dv_app.specs.Tried.{is_refused, start, window_line as line_of_window, Progress};
 
 use crate::arrivals::Arrived;
-use crate::rule_texts::rule_text;
-use dv_catalog::{Rule, WindowIn, printed};
+use dv_catalog::{Rule, WindowIn, printed, rule_text};
 use dv_outside::Gate;
 use dv_records::{Keeper, LoadAnswer, MemoryKeeper};
 use dv_text::{KeyDigest, List, Memory, Text};
@@ -56,8 +53,8 @@ pub(crate) fn begin_loading<H: KeyDigest>(
 ) -> Result<Loading, Memory>
     requires { IsMappingText mapping.now }
     ensures ready { IfOk result (IsReady (hashes_of H.digest_of H.size)) }
-    ensures mapping { IfOk result (λ loading. built_mapping mapping.now ≡ Ok loading.office.mapping) }
-    ensures loaded { IfOk result (λ loading. IsLoaded loading.office.mapping (hashes_of H.digest_of H.size) loading start) }
+    ensures mapping { IfOk result (λ loading. built_mapping mapping.now ≡ Ok loading.office.vault.mapping) }
+    ensures loaded { IfOk result (λ loading. IsLoaded loading.office.vault.mapping (hashes_of H.digest_of H.size) loading start) }
 {
     let mut keeper = new_keeper(alloc, mapping)?;
     match Office::start(alloc, &mut keeper, digest) {
@@ -67,18 +64,6 @@ pub(crate) fn begin_loading<H: KeyDigest>(
             refused: false,
         }),
         Err(_) => Err(Memory),
-    }
-}
-
-// What came of a window, by the office's answer; nothing is known where its keeper failed or memory ran out.
-fn taken_of(answer: LoadAnswer) -> Option<Taken>
-    ensures { result ≡ spec.taken_of answer }
-{
-    match answer {
-        LoadAnswer::Loaded { rows } => Some(Taken::Loaded { rows }),
-        LoadAnswer::Repeated => Some(Taken::Repeated),
-        LoadAnswer::Refused(rule) => Some(Taken::Refused(rule)),
-        LoadAnswer::KeeperFault | LoadAnswer::Memory => None,
     }
 }
 
@@ -92,11 +77,9 @@ fn load_window<H: KeyDigest, G: Gate>(
 ) -> Result<Taken, Memory>
     requires { IsReady (hashes_of H.digest_of H.size) loading.old }
     ensures ready { OnOk result (IsReady (hashes_of H.digest_of H.size) loading.new) }
-    ensures taken { (mapping : Mapping) (p : Progress) → IsLoaded mapping (hashes_of H.digest_of H.size) loading.old p
-        → IfOk result (TakenWindow mapping (hashes_of H.digest_of H.size) given.now p.state) }
-    ensures stands { (mapping : Mapping) (p : Progress) → IsLoaded mapping (hashes_of H.digest_of H.size) loading.old p
-        → IfOk result (λ taken. StandsFor (hashes_of H.digest_of H.size) (spec.state_taken mapping given.now taken p.state) loading.new.office) }
-    ensures mapping { loading.new.office.mapping ≡ loading.old.office.mapping }
+    ensures takes { (mapping : Mapping) (p : Progress) → IsLoaded mapping (hashes_of H.digest_of H.size) loading.old p
+        → IfOk result (TakesWindow mapping (hashes_of H.digest_of H.size) given.now p.state loading.new.office) }
+    ensures mapping { loading.new.office.vault.mapping ≡ loading.old.office.vault.mapping }
     ensures refused { loading.new.refused ≡ loading.old.refused }
 {
     let answer = loading.office.load(
@@ -108,9 +91,11 @@ fn load_window<H: KeyDigest, G: Gate>(
         digest,
         gate,
     );
-    match taken_of(answer) {
-        Some(taken) => Ok(taken),
-        None => Err(Memory),
+    match answer {
+        LoadAnswer::Loaded { rows } => Ok(Taken::Loaded { rows }),
+        LoadAnswer::Repeated => Ok(Taken::Repeated),
+        LoadAnswer::Refused(rule) => Ok(Taken::Refused(rule)),
+        LoadAnswer::KeeperFault | LoadAnswer::Memory => Err(Memory),
     }
 }
 
@@ -124,19 +109,14 @@ fn load_arrived<H: KeyDigest, G: Gate>(
 ) -> Result<Taken, Memory>
     requires { IsReady (hashes_of H.digest_of H.size) loading.old }
     ensures ready { OnOk result (IsReady (hashes_of H.digest_of H.size) loading.new) }
-    ensures taken { (mapping : Mapping) (p : Progress) → IsLoaded mapping (hashes_of H.digest_of H.size) loading.old p
-        → IfOk result (TakenAs mapping (hashes_of H.digest_of H.size) (arrival_of arrived) p.state) }
-    ensures stands { (mapping : Mapping) (p : Progress) → IsLoaded mapping (hashes_of H.digest_of H.size) loading.old p
-        → OnOk result (StandsFor (hashes_of H.digest_of H.size) (spec.arrival_state mapping (hashes_of H.digest_of H.size) (arrival_of arrived) p.state) loading.new.office) }
-    ensures mapping { loading.new.office.mapping ≡ loading.old.office.mapping }
+    ensures takes { (mapping : Mapping) (p : Progress) → IsLoaded mapping (hashes_of H.digest_of H.size) loading.old p
+        → IfOk result (TakesArrival mapping (hashes_of H.digest_of H.size) (arrival_of arrived) p.state loading.new.office) }
+    ensures mapping { loading.new.office.vault.mapping ≡ loading.old.office.vault.mapping }
     ensures refused { loading.new.refused ≡ loading.old.refused }
 {
     match arrived {
         Arrived::Broken(rule) => Ok(Taken::Refused(rule)),
-        Arrived::Brought(given) => {
-            let taken = load_window(alloc, loading, &given, digest, gate)?;
-            Ok(taken)
-        }
+        Arrived::Brought(given) => load_window(alloc, loading, &given, digest, gate),
     }
 }
 
@@ -173,7 +153,7 @@ fn window_line(alloc: Global, name: &Text, taken: &Taken) -> Result<Text, Memory
 
 // Whether a window was refused.
 fn is_refusal(taken: &Taken) -> bool
-    ensures { result ≡ spec.is_refusal taken.now }
+    ensures { result ≡ is_refused (outcome_of taken.now) }
 {
     match taken {
         Taken::Loaded { .. } | Taken::Repeated => false,
@@ -192,11 +172,10 @@ pub(crate) fn take<H: KeyDigest, G: Gate>(
 ) -> Result<Text, Memory>
     requires { IsReady (hashes_of H.digest_of H.size) loading.old }
     ensures ready { OnOk result (IsReady (hashes_of H.digest_of H.size) loading.new) }
-    ensures line { (mapping : Mapping) (p : Progress) → IsLoaded mapping (hashes_of H.digest_of H.size) loading.old p
-        → IfOk result (λ line. line ≡ arrival_line mapping (hashes_of H.digest_of H.size) name.now (arrival_of arrived) p.state) }
-    ensures loaded { (mapping : Mapping) (p : Progress) → IsLoaded mapping (hashes_of H.digest_of H.size) loading.old p
-        → OnOk result (IsLoaded mapping (hashes_of H.digest_of H.size) loading.new (went_on mapping (hashes_of H.digest_of H.size) name.now (arrival_of arrived) p)) }
-    ensures mapping { loading.new.office.mapping ≡ loading.old.office.mapping }
+    ensures line { IfOk result (IsLine name.now loading.old.refused loading.new.refused) }
+    ensures takes { (mapping : Mapping) (p : Progress) → IsLoaded mapping (hashes_of H.digest_of H.size) loading.old p
+        → IfOk result (Takes mapping (hashes_of H.digest_of H.size) name.now (arrival_of arrived) p loading.new) }
+    ensures mapping { loading.new.office.vault.mapping ≡ loading.old.office.vault.mapping }
 {
     let taken = load_arrived(alloc, loading, arrived, digest, gate)?;
     let line = window_line(alloc, name, &taken)?;

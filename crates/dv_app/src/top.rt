@@ -1,8 +1,6 @@
-ghost use Rattle.std.specs.Prelude.{◌≡◌, ◌≤◌, ◌⊎◌, map, string_bytes};
-ghost use Rattle.dv_text.specs.Causes.{Rose};
+ghost use Rattle.std.specs.Prelude.{◌≡◌, ◌≤◌, map, string_bytes};
 ghost use Rattle.dv_text.specs.Keys.{hashes_of};
-ghost use Rattle.dv_app.specs.Run.{NoFault, RunCompletes, RunSays};
-ghost use Rattle.dv_app.specs.Words.{NoCommand, asked};
+ghost use Rattle.dv_app.specs.Run.{IsCaused, NoFault, RunCompletes, RunSays};
 
 use crate::lines::{MEMORY, USAGE};
 use crate::tries::try_command;
@@ -27,7 +25,7 @@ pub fn run<F: Folder, K: Keeper, O: Sink, E: Sink, H: KeyDigest, G: Gate>(
 ) -> Status
     // What is written, and the status, by what the words ask for.
     ensures says { RunSays (map string_bytes words.now) (hashes_of H.digest_of H.size) (F.files folder.old)
-        (record { folder_before = F.faults folder.old; folder = F.faults folder.new; err_before = E.faults err.old; err = E.faults err.new })
+        (record { folder_before = F.faults folder.old; folder = F.faults folder.new; out_before = O.faults out.old; out = O.faults out.new; err_before = E.faults err.old; err = E.faults err.new })
         (record { out_old = O.contents out.old; out = O.contents out.new; err_old = E.contents err.old; err = E.contents err.new }) result }
 
     // With no fault and memory enough, it is what the definitions say.
@@ -35,10 +33,10 @@ pub fn run<F: Folder, K: Keeper, O: Sink, E: Sink, H: KeyDigest, G: Gate>(
         → (result ≡ Status.Memory → ⊥) → RunCompletes (map string_bytes words.now) (hashes_of H.digest_of H.size) (F.files folder.old)
         (record { out_old = O.contents out.old; out = O.contents out.new; err_old = E.contents err.old; err = E.contents err.new }) result }
 
-    // Each fault has its cause, whatever the objects tell.
-    ensures usage { result ≡ Status.Usage → asked (map string_bytes words.now) ≡ NoCommand }
-    ensures write { result ≡ Status.WriteFault → Rose (O.faults out.old) (O.faults out.new) ⊎ Rose (E.faults err.old) (E.faults err.new) }
-    ensures keeper { result ≡ Status.KeeperFault → ⊥ }
+    // Each status has its cause, and its line, whatever the objects tell of their contents.
+    ensures causes { IsCaused (map string_bytes words.now)
+        (record { folder_before = F.faults folder.old; folder = F.faults folder.new; out_before = O.faults out.old; out = O.faults out.new; err_before = E.faults err.old; err = E.faults err.new })
+        (E.contents err.old) (E.contents err.new) result }
 
     // The keeper is untouched, and so are the folder's files; no count falls.
     ensures untouched { keeper.new ≡ keeper.old }

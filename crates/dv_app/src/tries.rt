@@ -1,24 +1,24 @@
 // `try`: the windows of manifests are loaded into a keeper of its own, and a mart's text is written.
-ghost use Rattle.std.specs.Prelude.{◌≡◌, ◌≤◌, ◌⊎◌, Some, Ok, IfOk, OnOk, IfErr, IsErrOf};
+ghost use Rattle.std.specs.Prelude.{◌≡◌, ◌≤◌, ◌⊎◌, ℕ, List, IfOk, OnOk, IfErr};
 ghost use Rattle.dv_text.specs.Causes.{Rose};
 ghost use Rattle.dv_text.specs.Keys.{hashes_of};
 ghost use Rattle.dv_text.specs.Told.{Told};
 ghost use Rattle.dv_catalog.specs.Entries.{Mapping};
 ghost use Rattle.dv_mart.specs.OfferedMarts.{IsOffered};
-ghost use Rattle.dv_outside.specs.Ends.{Stops};
-ghost use Rattle.dv_app.specs.Loadings.{trial_of, Begins, FinishSays, Goes, IsLoaded, IsReady, LoadsAll, LoadStops, ManifestStops, Reached};
-ghost use Rattle.dv_app.specs.Says.{IsEnded, TrySays};
-ghost use Rattle.dv_app.specs.Tried.{start, Progress};
+ghost use Rattle.dv_app.specs.Endings.{line_of_ending, status_of, IsReadCause, IsStopCause};
+ghost use Rattle.dv_app.specs.Loadings.{trial_of, Begins, Goes, HasLines, IsLoaded, IsReady, LoadStops, LoadsAll, ManifestStops, TryStops, WroteLine, WroteLines};
+ghost use Rattle.dv_app.specs.Run.{IsCaused};
+ghost use Rattle.dv_app.specs.Says.{tried_of, Gives, IsEnded, TrySays};
+ghost use Rattle.dv_app.specs.Tried.{start, status_for, Progress};
 
 use crate::arrivals::bring;
 use crate::checks::{check_date, check_what, open_loading};
-use crate::lines::MEMORY;
-use crate::reads::read_named;
+use crate::endings::{Ending, Stop, end_command};
 use crate::takings::{Loading, take};
 use crate::words::Asked;
 use dv_mart::{What, mart_text};
-use dv_outside::{Failed, Folder, Gate, Sink, Status, end, write_all};
-use dv_text::{KeyDigest, Memory, Stamp, Text};
+use dv_outside::{Failed, Folder, Gate, Sink, Status, write_all};
+use dv_text::{KeyDigest, Stamp, Text};
 use std::alloc::Global;
 
 /// A mart that is asked for, and what is loaded for it.
@@ -38,29 +38,26 @@ fn load_one<F: Folder, E: Sink, H: KeyDigest, G: Gate>(
     err: &mut E,
     digest: &H,
     gate: &G,
-) -> Result<(), Status>
+) -> Result<(), Stop>
     requires { IsReady (hashes_of H.digest_of H.size) loading.old }
     ensures ready { OnOk result (IsReady (hashes_of H.digest_of H.size) loading.new) }
     ensures ok { OnOk result (Told (F.files folder.old) (λ files. (mapping : Mapping) (p : Progress) → IsLoaded mapping (hashes_of H.digest_of H.size) loading.old p
         → Goes mapping (hashes_of H.digest_of H.size) files name.now p loading.new (E.contents err.old) (E.contents err.new))) }
-    ensures mapping { loading.new.office.mapping ≡ loading.old.office.mapping }
-    ensures stops { IfErr result (λ status. Told (F.files folder.old) (λ files. (mapping : Mapping) (p : Progress) → IsLoaded mapping (hashes_of H.digest_of H.size) loading.old p
-        → Stops (ManifestStops mapping (hashes_of H.digest_of H.size) files name.now p (F.faults folder.old) (F.faults folder.new))
-        (E.contents err.old) (E.contents err.new) (E.faults err.old) (E.faults err.new) status)) }
-    ensures write { IsErrOf result Status.WriteFault → Rose (E.faults err.old) (E.faults err.new) }
-    ensures usage { IsErrOf result Status.Usage → ⊥ }
-    ensures keeper { IsErrOf result Status.KeeperFault → ⊥ }
+    ensures wrote { OnOk result (WroteLine name.now loading.old.refused loading.new.refused (E.contents err.old) (E.contents err.new)) }
+    ensures mapping { loading.new.office.vault.mapping ≡ loading.old.office.vault.mapping }
+    ensures stops { IfErr result (λ stop. Told (F.files folder.old) (λ files. (mapping : Mapping) (p : Progress) → IsLoaded mapping (hashes_of H.digest_of H.size) loading.old p
+        → ManifestStops mapping (hashes_of H.digest_of H.size) files name.now p (E.contents err.old) (E.contents err.new) stop)) }
+    ensures cause { IfErr result (IsStopCause (F.faults folder.old) (F.faults folder.new) (Rose (E.faults err.old) (E.faults err.new)) (E.contents err.new ≡ E.contents err.old)) }
     ensures kept { F.files folder.new ≡ F.files folder.old }
     ensures later { (F.faults folder.old ≤ F.faults folder.new) × (E.faults err.old ≤ E.faults err.new) }
 {
-    let bytes = read_named(alloc, folder, err, name, 65_537)?;
-    let arrived = bring(alloc, folder, err, bytes.items())?;
+    let arrived = bring(alloc, folder, name)?;
     let Ok(line) = take(alloc, loading, name, arrived, digest, gate) else {
-        return Err(end(err, MEMORY, Status::Memory));
+        return Err(Stop::Ended(Ending::Memory));
     };
     match write_all(err, line.bytes()) {
         Ok(()) => Ok(()),
-        Err(Failed) => Err(Status::WriteFault),
+        Err(Failed) => Err(Stop::Unwritten),
     }
 }
 
@@ -73,17 +70,16 @@ fn load_all<F: Folder, E: Sink, H: KeyDigest, G: Gate>(
     err: &mut E,
     digest: &H,
     gate: &G,
-) -> Result<(), Status>
-    requires { IsReady (hashes_of H.digest_of H.size) loading.old }
-    ensures ok { OnOk result (Told (F.files folder.old) (λ files. (mapping : Mapping) → IsLoaded mapping (hashes_of H.digest_of H.size) loading.old start
-        → LoadsAll mapping (hashes_of H.digest_of H.size) files names.now loading.new (E.contents err.old) (E.contents err.new))) }
-    ensures mapping { loading.new.office.mapping ≡ loading.old.office.mapping }
-    ensures stops { IfErr result (λ status. Told (F.files folder.old) (λ files. (mapping : Mapping) → IsLoaded mapping (hashes_of H.digest_of H.size) loading.old start
-        → Stops (LoadStops mapping (hashes_of H.digest_of H.size) files names.now (F.faults folder.old) (F.faults folder.new))
-        (E.contents err.old) (E.contents err.new) (E.faults err.old) (E.faults err.new) status)) }
-    ensures write { IsErrOf result Status.WriteFault → Rose (E.faults err.old) (E.faults err.new) }
-    ensures usage { IsErrOf result Status.Usage → ⊥ }
-    ensures keeper { IsErrOf result Status.KeeperFault → ⊥ }
+) -> Result<(), Stop>
+    requires ready { IsReady (hashes_of H.digest_of H.size) loading.old }
+    requires loaded { IsLoaded loading.old.office.vault.mapping (hashes_of H.digest_of H.size) loading.old start }
+    ensures ok { OnOk result (Told (F.files folder.old) (λ files.
+        LoadsAll loading.old.office.vault.mapping (hashes_of H.digest_of H.size) files names.now loading.new (E.contents err.old) (E.contents err.new))) }
+    ensures wrote { OnOk result (WroteLines loading.new.refused (E.contents err.old) (E.contents err.new)) }
+    ensures mapping { loading.new.office.vault.mapping ≡ loading.old.office.vault.mapping }
+    ensures stops { IfErr result (λ stop. Told (F.files folder.old) (λ files.
+        LoadStops loading.old.office.vault.mapping (hashes_of H.digest_of H.size) files names.now (E.contents err.old) (E.contents err.new) stop)) }
+    ensures cause { IfErr result (IsStopCause (F.faults folder.old) (F.faults folder.new) (Rose (E.faults err.old) (E.faults err.new)) (HasLines (E.contents err.old) (E.contents err.new))) }
     ensures kept { F.files folder.new ≡ F.files folder.old }
     ensures later { (F.faults folder.old ≤ F.faults folder.new) × (E.faults err.old ≤ E.faults err.new) }
 {
@@ -94,31 +90,26 @@ fn load_all<F: Folder, E: Sink, H: KeyDigest, G: Gate>(
 }
 
 // All that comes before the manifests.
-fn begin<F: Folder, E: Sink, H: KeyDigest>(
+fn begin<F: Folder, H: KeyDigest>(
     alloc: Global,
     asked: &Asked<'_>,
     folder: &mut F,
-    err: &mut E,
     digest: &H,
-) -> Result<Readied, Status>
+) -> Result<Readied, Ending>
     ensures ok { IfOk result (λ readied. Told (F.files folder.old) (λ files.
-        Begins (trial_of (hashes_of H.digest_of H.size) files asked.now) readied.loading.office.mapping readied.what readied.date)) }
+        Begins (trial_of (hashes_of H.digest_of H.size) files asked.now) readied.loading.office.vault.mapping readied.what readied.date)) }
     ensures ready { IfOk result (λ readied. IsReady (hashes_of H.digest_of H.size) readied.loading) }
-    ensures loaded { IfOk result (λ readied. IsLoaded readied.loading.office.mapping (hashes_of H.digest_of H.size) readied.loading start) }
-    ensures offered { IfOk result (λ readied. IsOffered readied.loading.office.mapping readied.what) }
-    ensures quiet { OnOk result (E.contents err.new ≡ E.contents err.old) }
-    ensures stops { IfErr result (λ status. Told (F.files folder.old) (λ files.
-        Stops (IsEnded (trial_of (hashes_of H.digest_of H.size) files asked.now) (F.faults folder.old) (F.faults folder.new))
-        (E.contents err.old) (E.contents err.new) (E.faults err.old) (E.faults err.new) status)) }
-    ensures write { IsErrOf result Status.WriteFault → Rose (E.faults err.old) (E.faults err.new) }
-    ensures usage { IsErrOf result Status.Usage → ⊥ }
-    ensures keeper { IsErrOf result Status.KeeperFault → ⊥ }
+    ensures loaded { IfOk result (λ readied. IsLoaded readied.loading.office.vault.mapping (hashes_of H.digest_of H.size) readied.loading start) }
+    ensures offered { IfOk result (λ readied. IsOffered readied.loading.office.vault.mapping readied.what) }
+    ensures ends { IfErr result (λ ending. Told (F.files folder.old) (λ files.
+        IsEnded (trial_of (hashes_of H.digest_of H.size) files asked.now) (F.faults folder.old) (F.faults folder.new) (status_of ending) (line_of_ending ending))) }
+    ensures cause { IfErr result (IsReadCause (F.faults folder.old) (F.faults folder.new)) }
     ensures kept { F.files folder.new ≡ F.files folder.old }
-    ensures later { (F.faults folder.old ≤ F.faults folder.new) × (E.faults err.old ≤ E.faults err.new) }
+    ensures later { F.faults folder.old ≤ F.faults folder.new }
 {
-    let loading = open_loading(alloc, folder, err, digest)?;
-    let what = check_what(alloc, err, loading.office.catalog(), asked.what)?;
-    let date = check_date(alloc, err, asked.date)?;
+    let loading = open_loading(alloc, folder, digest)?;
+    let what = check_what(alloc, loading.office.catalog(), asked.what)?;
+    let date = check_date(asked.date)?;
     Ok(Readied {
         what,
         date,
@@ -126,66 +117,60 @@ fn begin<F: Folder, E: Sink, H: KeyDigest>(
     })
 }
 
-// All that comes before the mart's text.
-fn ready<F: Folder, E: Sink, H: KeyDigest, G: Gate>(
+// All but the last line and the status: whether a window was refused.
+fn try_all<F: Folder, O: Sink, E: Sink, H: KeyDigest, G: Gate>(
     alloc: Global,
     asked: &Asked<'_>,
     folder: &mut F,
+    out: &mut O,
     err: &mut E,
     digest: &H,
     gate: &G,
-) -> Result<Readied, Status>
-    ensures ok { IfOk result (λ readied. Told (F.files folder.old) (λ files.
-        Reached (trial_of (hashes_of H.digest_of H.size) files asked.now) readied.loading.office.mapping readied.what readied.date readied.loading (E.contents err.old) (E.contents err.new))) }
-    ensures offered { IfOk result (λ readied. IsOffered readied.loading.office.mapping readied.what) }
-    ensures stops { IfErr result (λ status. Told (F.files folder.old) (λ files.
-        Stops (IsEnded (trial_of (hashes_of H.digest_of H.size) files asked.now) (F.faults folder.old) (F.faults folder.new))
-        (E.contents err.old) (E.contents err.new) (E.faults err.old) (E.faults err.new) status)) }
-    ensures write { IsErrOf result Status.WriteFault → Rose (E.faults err.old) (E.faults err.new) }
-    ensures usage { IsErrOf result Status.Usage → ⊥ }
-    ensures keeper { IsErrOf result Status.KeeperFault → ⊥ }
+) -> Result<bool, Stop>
+    ensures ok { IfOk result (λ refused. Told (F.files folder.old) (λ files.
+        Gives (tried_of (trial_of (hashes_of H.digest_of H.size) files asked.now))
+        (record { out_old = O.contents out.old; out = O.contents out.new; err_old = E.contents err.old; err = E.contents err.new }) (status_for refused))) }
+    ensures wrote { IfOk result (λ refused. WroteLines refused (E.contents err.old) (E.contents err.new)) }
+    ensures stops { IfErr result (λ stop. Told (F.files folder.old) (λ files.
+        TryStops (trial_of (hashes_of H.digest_of H.size) files asked.now) (F.faults folder.old) (F.faults folder.new)
+        (record { out_old = O.contents out.old; out = O.contents out.new; err_old = E.contents err.old; err = E.contents err.new }) stop)) }
+    ensures cause { IfErr result (IsStopCause (F.faults folder.old) (F.faults folder.new) (Rose (O.faults out.old) (O.faults out.new) ⊎ Rose (E.faults err.old) (E.faults err.new))
+        (HasLines (E.contents err.old) (E.contents err.new))) }
     ensures kept { F.files folder.new ≡ F.files folder.old }
-    ensures later { (F.faults folder.old ≤ F.faults folder.new) × (E.faults err.old ≤ E.faults err.new) }
+    ensures later { (F.faults folder.old ≤ F.faults folder.new) × (O.faults out.old ≤ O.faults out.new) × (E.faults err.old ≤ E.faults err.new) }
 {
-    let mut readied = begin(alloc, asked, folder, err, digest)?;
-    let names = asked.manifests;
+    let mut readied = begin(alloc, asked, folder, digest)?;
     load_all(
         alloc,
         &mut readied.loading,
-        names,
+        asked.manifests,
         folder,
         err,
         digest,
         gate,
     )?;
-    Ok(readied)
-}
-
-// The mart's text is written.
-fn finish<O: Sink, E: Sink, H: KeyDigest>(
-    alloc: Global,
-    readied: &Readied,
-    out: &mut O,
-    err: &mut E,
-    _digest: &H,
-) -> Status
-    requires offered { IsOffered readied.now.loading.office.mapping readied.now.what }
-    ensures says { (p : Progress) → IsLoaded readied.now.loading.office.mapping (hashes_of H.digest_of H.size) readied.now.loading p
-        → FinishSays readied.now.loading.office.mapping (hashes_of H.digest_of H.size) readied.now.what readied.now.date p
-        (record { out_old = O.contents out.old; out = O.contents out.new; err_old = E.contents err.old; err = E.contents err.new }) result }
-    ensures write { result ≡ Status.WriteFault → Rose (O.faults out.old) (O.faults out.new) ⊎ Rose (E.faults err.old) (E.faults err.new) }
-    ensures read { result ≡ Status.ReadFault → ⊥ }
-    ensures usage { result ≡ Status.Usage → ⊥ }
-    ensures keeper { result ≡ Status.KeeperFault → ⊥ }
-    ensures later { (O.faults out.old ≤ O.faults out.new) × (E.faults err.old ≤ E.faults err.new) }
-{
-    let Ok(text) = mart_text(alloc, &readied.loading.office, &readied.what, readied.date) else {
-        return end(err, MEMORY, Status::Memory);
+    let Ok(text) = mart_text(
+        alloc,
+        readied.loading.office.vault(),
+        &readied.what,
+        readied.date,
+    ) else {
+        return Err(Stop::Ended(Ending::Memory));
     };
     match write_all(out, text.bytes()) {
-        Ok(()) if readied.loading.refused => Status::Refused,
-        Ok(()) => Status::Done,
-        Err(Failed) => Status::WriteFault,
+        Ok(()) => Ok(readied.loading.refused),
+        Err(Failed) => Err(Stop::Unwritten),
+    }
+}
+
+// The status of a run that wrote all, by whether a window was refused.
+fn status_at_end(refused: bool) -> Status
+    ensures { result ≡ status_for refused }
+{
+    if refused {
+        Status::Refused
+    } else {
+        Status::Done
     }
 }
 
@@ -202,14 +187,14 @@ pub(crate) fn try_command<F: Folder, O: Sink, E: Sink, H: KeyDigest, G: Gate>(
     ensures says { Told (F.files folder.old) (λ files.
         TrySays (trial_of (hashes_of H.digest_of H.size) files asked.now) (F.faults folder.old) (F.faults folder.new)
         (record { out_old = O.contents out.old; out = O.contents out.new; err_old = E.contents err.old; err = E.contents err.new }) result) }
-    ensures write { result ≡ Status.WriteFault → Rose (O.faults out.old) (O.faults out.new) ⊎ Rose (E.faults err.old) (E.faults err.new) }
-    ensures usage { result ≡ Status.Usage → ⊥ }
-    ensures keeper { result ≡ Status.KeeperFault → ⊥ }
+    ensures causes { (words : List (List ℕ)) → IsCaused words
+        (record { folder_before = F.faults folder.old; folder = F.faults folder.new; out_before = O.faults out.old; out = O.faults out.new; err_before = E.faults err.old; err = E.faults err.new })
+        (E.contents err.old) (E.contents err.new) result }
     ensures kept { F.files folder.new ≡ F.files folder.old }
     ensures later { (F.faults folder.old ≤ F.faults folder.new) × (O.faults out.old ≤ O.faults out.new) × (E.faults err.old ≤ E.faults err.new) }
 {
-    match ready(alloc, asked, folder, err, digest, gate) {
-        Ok(readied) => finish(alloc, &readied, out, err, digest),
-        Err(status) => status,
+    match try_all(alloc, asked, folder, out, err, digest, gate) {
+        Ok(refused) => status_at_end(refused),
+        Err(stop) => end_command(alloc, err, &stop),
     }
 }

@@ -1,17 +1,24 @@
-use Rattle.std.proofs.Common.{sym, ◌∙◌, ap}
+use Rattle.std.proofs.Common.{Some, sym, ◌∙◌, ap}
 use Rattle.std.proofs.lemmas.Result.{err_from_is_err_and}
-use Rattle.dv_outside.proofs.Ending.{stops_weaker}
-use Rattle.dv_app.specs.Tried.{no_reading, read_from}
-use Rattle.dv_app.proofs.ExtractSteps.{extracts_unread}
-use Rattle.dv_app.proofs.WholeSteps.{whole_outcome}
+use Rattle.dv_app.proofs.EndSteps.{if_err_so, if_ok_so, read_cause_so}
+use Rattle.dv_app.proofs.ExtractSteps.{files_read, files_unread, manifest_unread}
 use Rattle.dv_app.proofs.arrivals.bring.Goals as goal
 
-pub returns-in_err-extracts-clause-stops : goal.returns-in_err-extracts-clause-stops
-returns-in_err-extracts-clause-stops g c =
+pub returns-in_err-bytes-clause-ends : goal.returns-in_err-bytes-clause-ends
+returns-in_err-bytes-clause-ends g c =
     let p = err_from_is_err_and c.from_residual.result c.from_residual.ensures.1 in
-    rw (p.1, p.2) (λ files told. stops_weaker _ _ _ _ _ _ _ (c.in_err-extracts.ensures.stops files told)
-    (extracts_unread files c.args.bytes.now c.in-Ok.manifest c.in-Ok.ensures.ok _ c.items.ensures _ _))
+    rw (p.1, p.2) (λ files told. manifest_unread files c.args.name.now _ (c.in_err-bytes.ensures.ends files told))
 
-pub returns-clause-whole : goal.returns-clause-whole
-returns-clause-whole g c = λ files told.
-    whole_outcome files c.args.bytes.now c.in-Ok.manifest c.in-Ok.ensures.ok _ (ap (read_from files no_reading) (sym c.items.ensures) ∙ c.in_ok-extracts.ensures.ok files told)
+pub returns-clause-ok : goal.returns-clause-ok
+returns-clause-ok g c =
+    if_ok_so (λ came brings files told. files_read files c.args.name.now _ (c.in_ok-bytes.ensures.ok files told ∙ ap Some (sym c.items.ensures)) came (brings files (c.in_ok-bytes.ensures.kept ∙ told)))
+    c.bring_files.result c.bring_files.ensures.ok
+
+pub returns-clause-ends : goal.returns-clause-ends
+returns-clause-ends g c =
+    if_err_so (λ ending ends files told. files_unread files c.args.name.now _ (c.in_ok-bytes.ensures.ok files told ∙ ap Some (sym c.items.ensures)) ending (ends files (c.in_ok-bytes.ensures.kept ∙ told)))
+    c.bring_files.result c.bring_files.ensures.ends
+
+pub returns-clause-cause : goal.returns-clause-cause
+returns-clause-cause g c =
+    if_err_so (read_cause_so _ _ _ c.in_ok-bytes.ensures.later) c.bring_files.result c.bring_files.ensures.cause

@@ -8,6 +8,7 @@ pub returns-in-Ok-clause-ready : goal.returns-in-Ok-clause-ready
 returns-in-Ok-clause-ready g c = record {
   state = beginning;
   stands = c.in-Ok.ensures.stands (hashes_of g.H.KeyDigest.digest_of g.H.KeyDigest.size);
+  rest = c.in-Ok.ensures.rest;
   agrees = c.in-Ok.ensures.agrees;
 }
 

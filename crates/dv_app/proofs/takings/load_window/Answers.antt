@@ -1,9 +1,22 @@
-use Rattle.std.proofs.Common.{sym, ◌∙◌}
-use Rattle.dv_app.proofs.OfficeSteps.{follows}
+use Rattle.std.proofs.Common.{Some, subst}
+use Rattle.dv_text.specs.Keys.{hashes_of}
+use Rattle.dv_records.specs.MemoryKeepers.{keeper_store}
+use Rattle.dv_window.specs.Offices.{OfficeAfter, StoreAfter}
+use Rattle.dv_app.proofs.OfficeSteps.{ready_still}
 use Rattle.dv_app.proofs.takings.load_window.Goals as goal
 
-pub returns-in-Some-clause-ready : goal.returns-in-Some-clause-ready
-returns-in-Some-clause-ready g c =
+pub returns-in-Repeated-clause-ready : goal.returns-in-Repeated-clause-ready
+returns-in-Repeated-clause-ready g c =
     let r = c.requires in
-    let next = follows _ c.args.given.now _ _ c.in-Some.taken _ _ r.state r.stands r.agrees c.load-answer.result (sym c.taken_of.ensures ∙ c.in-Some.is) (c.load-answer.ensures.office r.state r.stands) c.load-answer.ensures.store in
-    record { state = next.0; stands = next.1; agrees = next.2 }
+    let hashes = hashes_of g.H.KeyDigest.digest_of g.H.KeyDigest.size in
+    ready_still hashes _ _ r
+    (subst (λ a. OfficeAfter hashes r.state c.args.given.now c.args.loading.now.office a c.load-answer.new.self) c.in-Repeated.is (c.load-answer.ensures.office r.state r.stands r.rest))
+    (subst (λ a. StoreAfter c.load-answer.new.self (Some (keeper_store c.args.loading.now.keeper)) a (Some (keeper_store c.load-answer.new.keeper))) c.in-Repeated.is c.load-answer.ensures.store)
+
+pub returns-in-Refused-clause-ready : goal.returns-in-Refused-clause-ready
+returns-in-Refused-clause-ready g c =
+    let r = c.requires in
+    let hashes = hashes_of g.H.KeyDigest.digest_of g.H.KeyDigest.size in
+    ready_still hashes _ _ r
+    (subst (λ a. OfficeAfter hashes r.state c.args.given.now c.args.loading.now.office a c.load-answer.new.self) c.in-Refused.is (c.load-answer.ensures.office r.state r.stands r.rest))
+    (subst (λ a. StoreAfter c.load-answer.new.self (Some (keeper_store c.args.loading.now.keeper)) a (Some (keeper_store c.load-answer.new.keeper))) c.in-Refused.is c.load-answer.ensures.store)

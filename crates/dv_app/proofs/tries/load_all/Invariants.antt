@@ -1,9 +1,7 @@
 use Rattle.std.proofs.Common.{◌≡◌, ◌≤◌}
 use Rattle.dv_text.specs.Keys.{hashes_of}
 use Rattle.dv_text.specs.Told.{Told}
-use Rattle.dv_catalog.specs.Entries.{Mapping}
-use Rattle.dv_app.specs.Loadings.{IsLoaded, IsReady, SoFar}
-use Rattle.dv_app.specs.Tried.{start}
+use Rattle.dv_app.specs.Loadings.{IsReady, LoadsFirst, WroteLines}
 use Rattle.dv_app.proofs.tries.load_all.Given as goal
 
 -- the manifests so far were taken
@@ -11,9 +9,9 @@ abbrev pub invariant-loop-name : goal.invariant-loop-name
 invariant-loop-name g l = record {
   ready : IsReady (hashes_of g.H.KeyDigest.digest_of g.H.KeyDigest.size) l.loading;
   told : Told (g.F.Folder.files l.fn.folder) (λ files.
-      (mapping : Mapping) → IsLoaded mapping (hashes_of g.H.KeyDigest.digest_of g.H.KeyDigest.size) l.fn.loading start
-      → SoFar mapping (hashes_of g.H.KeyDigest.digest_of g.H.KeyDigest.size) files l.names l.name-index l.loading (g.E.Sink.contents l.fn.err) (g.E.Sink.contents l.err));
-  mapping : l.loading.office.mapping ≡ l.fn.loading.office.mapping;
+      LoadsFirst l.fn.loading.office.vault.mapping (hashes_of g.H.KeyDigest.digest_of g.H.KeyDigest.size) files l.names l.name-index l.loading (g.E.Sink.contents l.fn.err) (g.E.Sink.contents l.err));
+  wrote : WroteLines l.loading.refused (g.E.Sink.contents l.fn.err) (g.E.Sink.contents l.err);
+  mapping : l.loading.office.vault.mapping ≡ l.fn.loading.office.vault.mapping;
   kept : g.F.Folder.files l.folder ≡ g.F.Folder.files l.fn.folder;
   folder_later : g.F.Folder.faults l.fn.folder ≤ g.F.Folder.faults l.folder;
   err_later : g.E.Sink.faults l.fn.err ≤ g.E.Sink.faults l.err;

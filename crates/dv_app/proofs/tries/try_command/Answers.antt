@@ -1,14 +1,18 @@
 use Rattle.dv_text.specs.Keys.{hashes_of}
 use Rattle.dv_app.specs.Loadings.{trial_of}
-use Rattle.dv_app.proofs.Parts.{finish_says, stopped_says}
+use Rattle.dv_app.proofs.EndSteps.{done_caused, done_says, stop_caused, stop_says}
 use Rattle.dv_app.proofs.tries.try_command.Goals as goal
 
 pub returns-in-Ok-clause-says : goal.returns-in-Ok-clause-says
 returns-in-Ok-clause-says g c = λ files told.
-    let reached = c.in-Ok.ensures.ok files told in
-    finish_says (trial_of (hashes_of g.H.KeyDigest.digest_of g.H.KeyDigest.size) files c.args.asked.now) _ _ _ _ _ _ _ _ _ _ _ reached c.finish.result
-    (c.finish.ensures.says reached.progress reached.loaded_is)
+    done_says (trial_of (hashes_of g.H.KeyDigest.digest_of g.H.KeyDigest.size) files c.args.asked.now) _ _ _ _ c.in-Ok.refused c.status_at_end.ensures (c.in-Ok.ensures.ok files told)
+
+pub returns-in-Ok-clause-causes : goal.returns-in-Ok-clause-causes
+returns-in-Ok-clause-causes g c = λ words. done_caused words _ _ _ _ c.in-Ok.refused c.status_at_end.ensures c.in-Ok.ensures.wrote
 
 pub returns-in-Err-clause-says : goal.returns-in-Err-clause-says
 returns-in-Err-clause-says g c = λ files told.
-    stopped_says (trial_of (hashes_of g.H.KeyDigest.digest_of g.H.KeyDigest.size) files c.args.asked.now) _ _ _ _ _ _ _ c.in-Err.status (c.in-Err.ensures.stops files told)
+    stop_says (trial_of (hashes_of g.H.KeyDigest.digest_of g.H.KeyDigest.size) files c.args.asked.now) _ _ _ _ _ _ _ _ _ _ c.in-Err.stop (c.in-Err.ensures.stops files told) c.end_command.ensures.says
+
+pub returns-in-Err-clause-causes : goal.returns-in-Err-clause-causes
+returns-in-Err-clause-causes g c = λ words. stop_caused words _ _ _ _ _ c.try_all.ensures.later.2 _ c.end_command.ensures.later c.in-Err.stop c.in-Err.ensures.cause c.end_command.ensures.says

@@ -1,0 +1,109 @@
+-- How the parts of `try` are parts of what it says.
+use Rattle.std.proofs.Common.{◌≡◌, ℕ, ◌≤◌, List, [], ◌++◌, Option, Some, Ok, length, take, inl, inr, refl, sym, ◌∙◌, ap, subst, arith}
+use Rattle.std.proofs.lemmas.List.{take_all}
+use Rattle.dv_text.specs.Keys.{Hashes}
+use Rattle.dv_catalog.specs.Entries.{Mapping}
+use Rattle.dv_mart.specs.MartTexts.{mart_text}
+use Rattle.dv_mart.specs.declared.whats.What.{What}
+use Rattle.dv_outside.proofs.Told.{after-nil, got_all, got_longer, got_nothing}
+use Rattle.dv_outside.specs.Bytes.{after, GotPrefix}
+use Rattle.dv_outside.specs.declared.statuses.Status.TheVariants as statuses
+use Rattle.dv_records.specs.States.{State}
+use Rattle.dv_vault.specs.Vaults.{HasSealed, RawVault}
+use Rattle.dv_text.specs.declared.rows.Window.{Window}
+use Rattle.dv_app.specs.declared.endings.Ending.{Ending}
+use Rattle.dv_app.specs.declared.endings.Ending.TheVariants.{BadMapping, BadQuery, Absent, Unread, Memory}
+use Rattle.dv_app.specs.declared.endings.Stop.{Stop}
+use Rattle.dv_app.specs.declared.endings.Stop.TheVariants.{Ended, Unwritten}
+use Rattle.dv_app.specs.declared.takings.Loading.{Loading}
+use Rattle.dv_app.specs.Endings.{IsReadCause, IsStopCause, line_of_ending, status_of}
+use Rattle.dv_app.specs.Lines.{memory_line}
+use Rattle.dv_app.specs.Loadings.{Begins, HasEnd, LoadEnds, LoadStops, LoadsAll, SoFar, TryStops}
+use Rattle.dv_app.specs.Says.{Gives, Heard, IsEnded, Trial, lines_before, lines_of, tried_of}
+use Rattle.dv_app.specs.Tried.{Progress, Tried, at_end, start, status_for, steps}
+use Rattle.dv_app.proofs.EndSteps.{read_cause_so}
+use Rattle.dv_app.proofs.MappingSteps.{no_line_yet}
+
+-- the command ends before the manifests
+pub begin_ends : (t : Trial) (before now : ℕ) (err : Option (List ℕ)) (ending : Ending) → IsEnded t before now (status_of ending) (line_of_ending ending) → HasEnd t before now err err ending
+begin_ends t before now err ending is_end =
+    record { lines = []; said_is = sym (after-nil err); ended = is_end; memory = (0, [], no_line_yet t before now, refl) }
+
+module _ (t : Trial) (before now : ℕ) (mapping : Mapping) (what : What) (at : ℕ) (begins : Begins t mapping what at) (said says : Option (List ℕ)) where
+  abbrev First : ℕ → Type 0
+  First k = SoFar mapping t.hashes t.files t.names k said says
+
+  lines_so : (k : ℕ) (p : Progress) → steps mapping t.hashes t.files start (take k t.names) ≡ Ok p → lines_before t k ≡ Some p.lines
+  lines_so k p is = begins.lines_are k ∙ ap lines_of is
+
+  halted : (k : ℕ) (so_far : First k) (ending : Ending) → IsEnded t before now (status_of ending) (so_far.progress.lines ++ line_of_ending ending) → HasEnd t before now said says ending
+  halted k so_far ending is_end = record {
+    lines = so_far.progress.lines;
+    said_is = so_far.said_is;
+    ended = is_end;
+    memory = (k, so_far.progress.lines, lines_so k so_far.progress so_far.steps_are, refl);
+  }
+
+  -- it ends before all manifests are taken
+  load_ends : (k : ℕ) (so_far : First k) (ending : Ending) → IsReadCause before now ending → LoadEnds mapping t.hashes t.files t.names k so_far.progress.lines ending → HasEnd t before now said says ending
+  load_ends k so_far (Absent file) cause ends = halted k so_far (Absent file) (inl (begins.tried_is ∙ ap (at_end mapping t.hashes what at) ends))
+  load_ends k so_far (Unread file) cause ends =
+      halted k so_far (Unread file) (inr ((k, so_far.progress.lines, file, lines_so k so_far.progress so_far.steps_are, inr ends, refl), cause))
+  load_ends k so_far Memory cause ends = halted k so_far Memory (k, so_far.progress.lines, lines_so k so_far.progress so_far.steps_are, refl)
+  load_ends k so_far (BadMapping e) cause none = absurd none
+  load_ends k so_far (BadQuery rule) cause none = absurd none
+
+  pub load_stops : (then : ℕ) → before ≤ then → (W P : Type 0) (out : Option (List ℕ)) (stop : Stop) → IsStopCause then now W P stop → LoadStops mapping t.hashes t.files t.names said says stop
+      → TryStops t before now (record { out_old = out; out = out; err_old = said; err = says }) stop
+  load_stops then later W P out (Ended ending) cause ends = (refl, load_ends ends.0 ends.1 ending (read_cause_so before then now later ending cause.0) ends.2)
+  load_stops then later W P out Unwritten cause ends = record {
+    out = got_nothing out out _ refl;
+    text = ends.1.lines ++ memory_line;
+    is_text = inr (statuses.Memory, (ends.0, ends.1.lines, lines_so ends.0 ends.1 ends.2, refl));
+    err = got_longer said says ends.1.lines memory_line ends.3;
+  }
+
+  module _ (loading : Loading) (loads : LoadsAll mapping t.hashes t.files t.names loading said says) where
+    abbrev p : Progress
+    p = loads.progress
+
+    tried_is : tried_of t ≡ at_end mapping t.hashes what at (Ok p)
+    tried_is = begins.tried_is ∙ ap (at_end mapping t.hashes what at) loads.steps_are
+
+    abbrev all_first : First (length t.names)
+    all_first = record {
+      progress = p;
+      steps_are = ap (steps mapping t.hashes t.files start) (take_all (length t.names) t.names (omega arith)) ∙ loads.steps_are;
+      said_is = loads.said_is;
+    }
+
+    -- memory runs out before the mart's text
+    pub no_text : HasEnd t before now said says Memory
+    no_text = halted (length t.names) all_first Memory (length t.names, p.lines, lines_so (length t.names) p all_first.steps_are, refl)
+
+    module _ (out_old out : Option (List ℕ)) (made : List ℕ) (vault : RawVault) (vault_is : vault ≡ loading.office.vault)
+        (makes : (hashes : Hashes) (sealed : List Window) → HasSealed hashes sealed vault → made ≡ mart_text vault.mapping hashes sealed what at) where
+      abbrev heard : Heard
+      heard = record { out_old = out_old; out = out; err_old = said; err = says }
+
+      made_is : made ≡ (tried_of t).out
+      made_is =
+          makes t.hashes p.state.sealed (subst (HasSealed t.hashes p.state.sealed) (sym vault_is) loads.loaded_is.stands.sealed_are)
+          ∙ ap (λ (v : RawVault). mart_text v.mapping t.hashes p.state.sealed what at) vault_is ∙ ap (λ m. mart_text m t.hashes p.state.sealed what at) loads.loaded_is.mapping_is ∙ ap (λ (r : Tried). r.out) (sym tried_is)
+
+      -- all is written
+      pub gives_all : out ≡ after out_old made → Gives (tried_of t) heard (status_for loading.refused)
+      gives_all written = record {
+        out = written ∙ ap (after out_old) made_is;
+        err = loads.said_is ∙ ap (λ (r : Tried). after said r.err) (sym tried_is);
+        status_is = ap (λ (r : Tried). r.status) tried_is ∙ ap status_for (sym loads.loaded_is.refused_is);
+      }
+
+      -- or a front of it is written
+      pub text_cut : GotPrefix out_old out made → TryStops t before now heard Unwritten
+      text_cut got = record {
+        out = subst (GotPrefix out_old out) made_is got;
+        text = p.lines;
+        is_text = inl (ap (λ (r : Tried). r.err) (sym tried_is));
+        err = got_all said says p.lines loads.said_is;
+      }

@@ -1,8 +1,0 @@
-use Rattle.std.proofs.Common.{◌≡◌, ◌∷◌, ◌++◌, [], take}
-use Rattle.std.specs.List.{flat_map}
-use Rattle.dv_catalog.specs.Printed.{printed}
-use Rattle.dv_app.proofs.rule_texts.key_shown.Given as goal
-
--- the parts so far
-abbrev pub invariant-loop-part : goal.invariant-loop-part
-invariant-loop-part l = l.shown.items ≡ flat_map (λ part. 91 ∷ printed part ++ 93 ∷ []) (take l.part-index l.part-items)

@@ -1,7 +1,0 @@
-use Rattle.std.proofs.Common.{◌≡◌, map, take}
-use Rattle.dv_catalog.specs.RuleTexts.{key_shown}
-use Rattle.dv_app.proofs.rule_texts.keys_shown.Given as goal
-
--- the keys so far
-abbrev pub invariant-loop-key : goal.invariant-loop-key
-invariant-loop-key l = l.shown ≡ map key_shown (take l.key-index l.keys)

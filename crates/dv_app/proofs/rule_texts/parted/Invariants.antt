@@ -1,7 +1,0 @@
-use Rattle.std.proofs.Common.{◌≡◌, ◌∷◌, take}
-use Rattle.std.specs.List.{join_with_byte}
-use Rattle.dv_app.proofs.rule_texts.parted.Given as goal
-
--- the texts so far, parted
-abbrev pub invariant-loop-text : goal.invariant-loop-text
-invariant-loop-text l = l.made.items ≡ join_with_byte 47 (l.initial.made.items ∷ take l.text-index l.rest)

@@ -1,0 +1,124 @@
+use dv_app::{Md5Keys, run};
+use dv_outside::{MemoryFolder, MemorySink, NamedFile, OpenGate, Status};
+use dv_records::MemoryKeeper;
+use dv_text::{KeyDigest, List, Memory, Text};
+use std::alloc::Global;
+use std::process::Abort;
+use std::str;
+use std::test::Fail;
+
+mod ends;
+mod large;
+mod mappings;
+mod marts;
+mod rules;
+
+/// A trial: the words, the files of the folder, and what has to come of it.
+#[derive(Clone, Copy)]
+struct Case {
+    words: &'static [&'static str],
+    files: &'static [(&'static [u8], &'static [u8])],
+    out: &'static str,
+    err: &'static str,
+    status: Status,
+}
+
+/// What was written, and the status.
+#[derive(Drop)]
+struct Heard {
+    out: MemorySink,
+    err: MemorySink,
+    status: Status,
+}
+
+/// Which calls of the folder and of the sinks fail, by their numbers from 1.
+#[derive(Clone, Copy)]
+struct Faults {
+    reads: &'static [u64],
+    out: &'static [u64],
+    err: &'static [u64],
+}
+
+const NO_FAULTS: Faults = Faults {
+    reads: &[],
+    out: &[],
+    err: &[],
+};
+
+fn numbers(alloc: Global, numbers: &[u64]) -> Result<List<u64>, Memory> {
+    Ok(List::from_vec(Vec::from_slice(alloc, numbers)?))
+}
+
+fn file(alloc: Global, name: &[u8], bytes: &[u8]) -> Result<NamedFile, Memory> {
+    Ok(NamedFile {
+        name: Text::of(alloc, name)?,
+        bytes: List::from_vec(Vec::from_slice(alloc, bytes)?),
+    })
+}
+
+fn files(
+    alloc: Global,
+    given: &[(&'static [u8], &'static [u8])],
+) -> Result<List<NamedFile>, Memory> {
+    let mut all = List::new(alloc);
+    for (name, bytes) in given {
+        all.push(file(alloc, name, bytes)?)?;
+    }
+    Ok(all)
+}
+
+fn texts(alloc: Global, words: &[&str]) -> Result<Vec<String>, Memory> {
+    let mut all = Vec::new(alloc);
+    for word in words {
+        all.push(String::from_str(alloc, word)?)?;
+    }
+    Ok(all)
+}
+
+// Runs the words over files, under a digest, where these calls fail.
+fn run_over<H: KeyDigest>(
+    alloc: Global,
+    words: &[&str],
+    files: List<NamedFile>,
+    faults: Faults,
+    digest: &H,
+) -> Result<Heard, Memory> {
+    let mut folder = MemoryFolder::new(files, numbers(alloc, faults.reads)?);
+    let mut out = MemorySink::new(alloc, 4_000, numbers(alloc, faults.out)?)?;
+    let mut err = MemorySink::new(alloc, 4_000, numbers(alloc, faults.err)?)?;
+    let mut keeper = MemoryKeeper::new(alloc, List::new(alloc));
+    let words = texts(alloc, words)?;
+    let status = run(
+        alloc,
+        words.as_slice(),
+        &mut folder,
+        &mut keeper,
+        &mut out,
+        &mut err,
+        digest,
+        &OpenGate,
+    );
+    Ok(Heard { out, err, status })
+}
+
+// What a sink has, as text.
+fn shown(sink: &MemorySink) -> &str {
+    str::from_utf8(sink.written()).unwrap_or("no text")
+}
+
+// What was heard is this.
+fn is_heard(rt: &impl Abort, heard: &Heard, out: &str, err: &str, status: Status) {
+    assert_eq!(rt; shown(&heard.err), err);
+    assert_eq!(rt; shown(&heard.out), out, "for {err}");
+    assert_eq!(rt; heard.status, status, "for {err}");
+}
+
+// The cases, under MD5.
+fn hold(rt: &impl Abort, alloc: Global, cases: &[Case]) -> Result<(), Memory> {
+    for case in cases {
+        let files = files(alloc, case.files)?;
+        let heard = run_over(alloc, case.words, files, NO_FAULTS, &Md5Keys)?;
+        is_heard(rt, &heard, case.out, case.err, case.status);
+    }
+    Ok(())
+}
