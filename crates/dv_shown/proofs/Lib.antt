@@ -1,0 +1,4 @@
+mod ByteLimits
+mod FaultlessLaw
+mod Literals
+mod RecordLaw

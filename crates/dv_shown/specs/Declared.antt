@@ -9,14 +9,14 @@ use Rattle.dv_catalog.specs.declared.entries.Parent.TheVariants.{Link}
 use Rattle.dv_catalog.specs.declared.tables.TableId.{TableId}
 use Rattle.dv_catalog.specs.declared.tables.TableId.TheVariants.{Hub as HubTable, Link as LinkTable, Sat, Multi, Status, Effect}
 use Rattle.dv_catalog.specs.Built.{built_mapping, unbuilt, unbuilt_feed}
-use Rattle.dv_catalog.specs.CheckExamples.{a_with_b, customer_feed, hubs, names, pairs, three_hubs, with_sub}
+use Rattle.dv_shown.specs.CheckExamples.{a_with_b, customer_feed, hubs, names, pairs, three_hubs, with_sub}
 use Rattle.dv_catalog.specs.Checks.{fault_of}
 use Rattle.dv_catalog.specs.Mappings.{is_valid, is_valid_driver, mapping_of}
 use Rattle.dv_catalog.specs.MappingFiles.{read_mapping}
 use Rattle.dv_catalog.specs.TableLookups.{is_table_of}
 use Rattle.dv_shown.specs.Mappings.{bare, customers, with_channels, with_customers_and_sites, with_drivers, with_names, with_orders, with_paths, with_placements, with_sites, with_staff}
 use Rattle.dv_shown.specs.Stepped.{bare_file, other_file}
-use Rattle.dv_catalog.specs.SampleOutlines.{customers_with, hub, hub_feed, link, link_feed, outline, path, placements_then_lines, sold_by}
+use Rattle.dv_shown.specs.SampleOutlines.{customers_with, hub, hub_feed, link, link_feed, outline, path, placements_then_lines, sold_by}
 
 -- a hub of two parts, and a feed of it with these key columns
 abbrev pub sites_by : List (List ℕ) → Outline

@@ -1,5 +1,7 @@
 pub mod Answered
 pub mod Brought
+pub mod CatalogLaws
+pub mod CheckExamples
 pub mod Collided
 pub mod Contents
 pub mod Counts
@@ -8,12 +10,15 @@ pub mod Digested
 pub mod Kept
 pub mod Limited
 pub mod Listed
+pub mod MappingExamples
 pub mod Mappings
 pub mod Normals
 pub mod Printed
 pub mod Read
 pub mod ReadBacks
+pub mod ReadingExamples
 pub mod Restored
+pub mod SampleOutlines
 pub mod Selected
 pub mod Snapped
 pub mod Stepped

@@ -102,7 +102,7 @@ pub record LimitsKept : Type 0 where
       (mapping : Mapping) (feed : FeedDef) (rows : List NRow) → length rows ≤ 200000
       → are_rows_of mapping feed rows
       ≡ (pointwise row_eq (sorted_by row_cmp rows) rows && list_all (is_row_of mapping feed) rows && holds_of_each_two is_one_row rows
-      && ((length feed.driver == 0) || holds_of_each_two (is_one_partner feed.driver) rows))
+      && ((length feed.driver == 0) || holds_of_each_two (is_one_partner feed) rows))
   pub window_within :
       (mapping : Mapping) (window : Window) → sum_by (λ staged. length staged.rows) window.extracts ≤ 400000
       → is_window mapping window

@@ -1,8 +1,8 @@
 -- What manifests say.
 use Rattle.std.specs.Prelude.{◌≡◌, ℕ, ◌<◌, ◌≤◌, List, [], ◌∷◌, ◌++◌, Result, Ok, Err, codes, length}
-use Rattle.dv_catalog.specs.declared.manifests.Manifest.{Manifest}
+use Rattle.dv_mapfile.specs.declared.manifests.Manifest.{Manifest}
 use Rattle.dv_catalog.specs.Documents.{document_of}
-use Rattle.dv_catalog.specs.Manifests.{manifest_in, manifest_or_text}
+use Rattle.dv_mapfile.specs.Manifests.{manifest_in, manifest_or_text}
 use Rattle.dv_shown.specs.Words.{day}
 
 -- the load date of the first day

@@ -2,7 +2,7 @@
 use Rattle.std.specs.Prelude.{◌≡◌, [], ◌∷◌, Some, codes}
 use Rattle.dv_catalog.specs.declared.rules.Rule.TheVariants.{ColumnTwice, NoHeader, EmptyKey, TooManyRows, TwoDrivers}
 use Rattle.dv_catalog.specs.Readings.Read.{Broken, Taken}
-use Rattle.dv_catalog.specs.ReadingExamples.{named_customers, phones, read_for, row, two_feeds}
+use Rattle.dv_shown.specs.ReadingExamples.{named_customers, phones, read_for, row, two_feeds}
 use Rattle.dv_catalog.specs.Records.{record_rule}
 use Rattle.dv_catalog.specs.Windows.{reads_after, window_of}
 use Rattle.dv_shown.specs.Mappings.{with_teams}

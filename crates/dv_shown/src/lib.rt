@@ -23,6 +23,11 @@ ghost use Rattle.dv_shown.specs.Tables.{EffectsHold, HubsHold, LinksHold, Satell
 ghost use Rattle.dv_shown.specs.Vaults.{VaultsHold};
 ghost use Rattle.dv_shown.specs.Written.{BridgeWritten, EffectWritten, LinkWritten, MartsWritten, MultiWritten, PitWritten, StatusWritten, TablesWritten, WordsHold};
 
+pub mod catalog_laws;
+pub mod check_examples;
+pub mod file_examples;
+pub mod reading_examples;
+
 /// Normal forms of keys and attributes.
 pub fn normals_hold()
     ensures { NormalsHold }

@@ -3,7 +3,7 @@ use Rattle.std.specs.Option.{option_to_list}
 use Rattle.dv_catalog.specs.declared.rules.Rule.TheVariants.{NoExtracts}
 use Rattle.dv_records.specs.declared.answers.Outcome.TheVariants.{Load, Repeated, Refused}
 use Rattle.dv_records.specs.States.{State}
-use Rattle.dv_catalog.proofs.Literals.{extracts_on_literals}
+use Rattle.dv_shown.proofs.Literals.{extracts_on_literals}
 use Rattle.dv_shown.proofs.loads_step.Goals as goal
 
 -- how many windows a state has sealed, and how many it has open

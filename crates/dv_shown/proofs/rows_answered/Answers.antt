@@ -1,5 +1,5 @@
 use Rattle.std.proofs.Common.{refl}
-use Rattle.dv_catalog.proofs.Literals.{extracts_on_literals}
+use Rattle.dv_shown.proofs.Literals.{extracts_on_literals}
 use Rattle.dv_shown.proofs.rows_answered.Goals as goal
 
 pub returns : goal.returns
