@@ -75,7 +75,7 @@ def main():
     given = parser.parse_args()
     folder = (given.keep or pathlib.Path(tempfile.mkdtemp())).resolve()
     folder.mkdir(parents=True, exist_ok=True)
-    program = build_program(folder, HERE / "program", "stage_bench", ["dv_stage", "dv_catalog", "dv_text", "anyhow"])
+    program = build_program(folder, HERE / "program", "stage_bench", ["dv_stage", "dv_mapfile", "dv_catalog", "dv_text", "anyhow"])
     commands = [[program], [build_peer(folder, HERE / "peer.rs")], [sys.executable, HERE / "peer.py"]]
     counts = sorted(map(int, given.records.split(",")))
     print(f"load average before: {os.getloadavg()[0]:.1f} on {os.cpu_count()} processors")
