@@ -1,18 +1,8 @@
 -- Each step keeps the rule.
-use Rattle.std.proofs.Common.{◌≡◌, ◌≢◌, ℕ, ◌+◌, ◌-◌, ◌%◌, ◌^◌, ◌<◌, ◌≤◌, min, List, [], ◌∷◌, ◌++◌, length, set, Bool, true, false, cond, nat_lt, nat_eq, true≢false, refl, sym, ap, ◌∙◌, subst, ⊎_elim, arith}
-use Rattle.std.specs.Prelude.{slice_index, ◌||◌}
-use mathlib.Core.Option.{some, some-ne-none, some-injective}
-use lib.ListN.{get_elem?}
-use Rattle.std.proofs.Math.Nat.{mod-eq_of_lt}
-use Rattle.std.proofs.lemmas.Bool.{cases_Bool}
-use Rattle.atomic_table.specs.Table.{State, Me, Allows, Splits, Joins}
-use Rattle.atomic_table.specs.Table.Act.{keeps}
-use Rattle.atomic_table.proofs.Lists.{at_set, at_snoc}
+use Rattle.dv_board.proofs.Vocabulary.{◌≡◌, ◌≢◌, ℕ, ◌+◌, ◌-◌, ◌%◌, ◌^◌, ◌<◌, ◌≤◌, min, List, [], ◌∷◌, ◌++◌, length, set, Bool, true, false, cond, nat_lt, nat_eq, true≢false, refl, sym, ap, ◌∙◌, subst, ⊎_elim, arith, slice_index, ◌||◌, some, some-ne-none, some-injective, get_elem?, mod-eq_of_lt}
+use Rattle.dv_board.proofs.Vocabulary.{cases_Bool, State, Me, Allows, Splits, Joins, keeps, at_set, at_snoc, total, times, once_below, Sizes, BoardView, nobody, noted, drawn, less, portion, both_of}
 use Rattle.dv_board.proofs.Sums.{total_set, total_snoc, total_at, times-append, sole}
-use Rattle.dv_board.specs.Counting.{total, times, once_below}
-use Rattle.dv_board.specs.declared.views.Sizes.{Sizes}
-use Rattle.dv_board.specs.declared.views.BoardView.{BoardView}
-use Rattle.dv_board.specs.BoardRule.{nobody, noted, Fits, Holds, drawn, less, portion, both_of}
+use Rattle.dv_board.specs.BoardRule.{Fits, Holds}
 
 off : false ≡ true → ⊥
 off e = true≢false (sym e)

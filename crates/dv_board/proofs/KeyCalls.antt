@@ -1,22 +1,11 @@
 -- What the steps of a key table ask: an exchange and a `fetch_min` of an offer, a split and a join.
-use Rattle.std.proofs.Common.{◌≡◌, ◌≢◌, ◌⊎◌, ℕ, zero, suc, ◌+◌, ◌-◌, ◌*◌, ◌<◌, ◌≤◌, min, List, [], ◌∷◌, ◌++◌, length, replicate, set, get_or, true, false, cond, true≢false, refl, sym, ap, ◌∙◌, subst, ⊎_elim, inl, inr, arith, eqb, ne_eqb, eq-eqb}
-use Rattle.std.specs.Prelude.{◌==◌}
-use mathlib.Core.Option.{some, some-injective, some-ne-none}
-use lib.ListN.{get_elem?}
-use prog.Atomic.{either}
-use Rattle.std.proofs.lemmas.List.{set-get_or}
-use Rattle.std.proofs.lemmas.Bool.{cases_Bool, cases_eq, cases_lt}
-use Rattle.atomic_table.specs.Table.{State, Me, Allows, Splits, Joins}
-use Rattle.atomic_table.specs.Table.Act.{keeps}
-use Rattle.atomic_table.proofs.Lists.{at_set, at_snoc, at_longer, set_here, set_else}
+use Rattle.dv_board.proofs.Vocabulary.{◌≡◌, ◌≢◌, ◌⊎◌, ℕ, zero, suc, ◌+◌, ◌-◌, ◌*◌, ◌<◌, ◌≤◌, min, List, [], ◌∷◌, ◌++◌, length, replicate, set, get_or, true, false, cond, true≢false, refl, sym, ap, ◌∙◌, subst, ⊎_elim, inl, inr, arith, eqb, ne_eqb, eq-eqb, ◌==◌, some, some-injective, some-ne-none}
+use Rattle.dv_board.proofs.Vocabulary.{get_elem?, either, set-get_or, cases_Bool, cases_eq, cases_lt, State, Me, Allows, Splits, Joins, keeps, at_set, at_snoc, at_longer, set_here, set_else, times, class_of, home_of, AreLawful, Keys, KeyView, word_at, AreOthers, IsOffered, Fits, IsUnderWay}
+use Rattle.dv_board.proofs.Vocabulary.{Holds, IsKept, fresh_view, offered, begun, met_by, Tells}
 use Rattle.dv_board.proofs.Sums.{total_set, total_snoc, times-append}
 use Rattle.dv_board.proofs.KeyMoves.{off, in_range, fits_set, offered_set, wins, lowers, begins}
 use Rattle.dv_board.proofs.KeyRoom.{room_left}
-use Rattle.dv_board.specs.Counting.{times}
-use Rattle.dv_board.specs.Items.{class_of, home_of, AreLawful}
-use Rattle.dv_board.specs.declared.views.Keys.{Keys}
-use Rattle.dv_board.specs.declared.views.KeyView.{KeyView}
-use Rattle.dv_board.specs.KeyRule.{word_at, AreOthers, IsOffered, nobody, Fits, IsUnderWay, Holds, IsKept, fresh_view, offered, begun, met_by, Tells, less, portion, both_of}
+use Rattle.dv_board.specs.KeyRule.{nobody, less, portion, both_of}
 
 set_set : (views : List KeyView) (i : ℕ) (a b : KeyView) → set (set views i a) i b ≡ set views i b
 set_set [] i a b = refl

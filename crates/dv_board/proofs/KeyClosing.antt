@@ -1,22 +1,10 @@
 -- A key table at its beginning and at its end.
-use Rattle.std.proofs.Common.{◌≡◌, ◌≢◌, ℕ, zero, suc, ◌+◌, ◌-◌, ◌*◌, ◌<◌, ◌≤◌, Bool, true, List, [], ◌∷◌, length, set, replicate, refl, sym, ap, ◌∙◌, subst, ⊎_elim, inr, arith}
-use mathlib.Core.Option.{Option, some, some-ne-none, some-injective}
-use lib.ListN.{get_elem?}
-use Rattle.std.proofs.lemmas.Bool.{cases_Bool, cases_eq, cases_lt}
-use Rattle.std.proofs.lemmas.List.{get_or_past, length-replicate, set-get_or}
-use Rattle.atomic_table.specs.Table.{State, Me, Allows}
-use Rattle.atomic_table.specs.Table.Act.{keeps}
+use Rattle.dv_board.proofs.Vocabulary.{◌≡◌, ◌≢◌, ℕ, zero, suc, ◌+◌, ◌-◌, ◌*◌, ◌<◌, ◌≤◌, Bool, true, List, [], ◌∷◌, length, set, replicate, refl, sym, ap, ◌∙◌, subst, ⊎_elim, inr, arith, Option, some, some-ne-none, some-injective, get_elem?, cases_Bool, cases_eq, cases_lt, get_or_past}
+use Rattle.dv_board.proofs.Vocabulary.{length-replicate, set-get_or, State, Me, Allows, keeps, times, class_of, AreLawful, IsLeastOffered, AreLeastOffered, AreMarked, marked, Keys, KeyView, word_at, IsOffered, Fits, Holds, IsKept, fresh_view, first_view, whole_share}
 use Rattle.dv_board.proofs.Sums.{total_at, sole}
 use Rattle.dv_board.proofs.KeyMoves.{off}
 use Rattle.dv_board.proofs.KeyRoom.{slots_apart}
 use Rattle.dv_board.proofs.Listed.{zero_there, marked_ascends, is_marked, marked_has}
-use Rattle.dv_board.specs.Counting.{times}
-use Rattle.dv_board.specs.Items.{class_of, AreLawful}
-use Rattle.dv_board.specs.KeyTables.{IsLeastOffered, AreLeastOffered}
-use Rattle.dv_board.specs.Listing.{AreMarked, marked}
-use Rattle.dv_board.specs.declared.views.Keys.{Keys}
-use Rattle.dv_board.specs.declared.views.KeyView.{KeyView}
-use Rattle.dv_board.specs.KeyRule.{word_at, IsOffered, Fits, Holds, IsKept, fresh_view, first_view, whole_share}
 
 first_only : (views : List KeyView) (P : KeyView → Type 0) (v : KeyView) → views ≡ v ∷ [] → P v → (id : ℕ) (u : KeyView) → get_elem? views id ≡ some u → P u
 first_only views P v is p id u at = only id (subst (λ l. get_elem? l id ≡ some u) is at)

@@ -1,17 +1,7 @@
 -- The two steps of an offer keep the rule: it takes an empty slot, or lowers the slot that it met.
-use Rattle.std.proofs.Common.{◌≡◌, ◌≢◌, ◌⊎◌, ℕ, zero, suc, ◌+◌, ◌-◌, ◌%◌, ◌<◌, ◌≤◌, List, [], ◌∷◌, length, length-set, set, true, false, true≢false, refl, sym, ap, ◌∙◌, subst, ⊎_elim, arith}
-use mathlib.Core.Option.{some, some-ne-none, some-injective}
-use lib.ListN.{get_elem?}
-use Rattle.std.proofs.lemmas.List.{get_or-set_same, get_or-set_other}
-use Rattle.std.proofs.lemmas.Bool.{cases_eq, cases_lt}
-use Rattle.atomic_table.specs.Table.{State}
-use Rattle.atomic_table.proofs.Lists.{at_set, set_here, set_else}
+use Rattle.dv_board.proofs.Vocabulary.{◌≡◌, ◌≢◌, ◌⊎◌, ℕ, zero, suc, ◌+◌, ◌-◌, ◌%◌, ◌<◌, ◌≤◌, List, [], ◌∷◌, length, length-set, set, true, false, true≢false, refl, sym, ap, ◌∙◌, subst, ⊎_elim, arith, some, some-ne-none, some-injective, get_elem?, get_or-set_same, get_or-set_other, cases_eq}
+use Rattle.dv_board.proofs.Vocabulary.{cases_lt, State, at_set, set_here, set_else, times, class_of, home_of, AreLawful, Keys, KeyView, word_at, AreOthers, IsOffered, HasSlot, Fits, IsTaken, IsUnderWay, Holds, offered}
 use Rattle.dv_board.proofs.Sums.{total_set, times-append, times_one}
-use Rattle.dv_board.specs.Counting.{times}
-use Rattle.dv_board.specs.Items.{class_of, home_of, AreLawful}
-use Rattle.dv_board.specs.declared.views.Keys.{Keys}
-use Rattle.dv_board.specs.declared.views.KeyView.{KeyView}
-use Rattle.dv_board.specs.KeyRule.{word_at, AreOthers, IsOffered, HasSlot, Fits, IsTaken, IsUnderWay, Holds, offered}
 
 pub off : false ≡ true → ⊥
 off e = true≢false (sym e)

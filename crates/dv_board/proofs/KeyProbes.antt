@@ -1,10 +1,6 @@
 -- What an exchange and a `fetch_min` leave of the seat that offers.
-use Rattle.std.proofs.Common.{◌≡◌, ◌≢◌, ℕ, ◌+◌, ◌-◌, List, get_or, true, false, cond, ap, ◌∙◌, ⊎_elim, ne_eqb}
-use Rattle.std.specs.Prelude.{◌==◌}
-use Rattle.std.proofs.lemmas.Bool.{cases_Bool}
+use Rattle.dv_board.proofs.Vocabulary.{◌≡◌, ◌≢◌, ℕ, ◌+◌, ◌-◌, List, get_or, true, false, cond, ap, ◌∙◌, ⊎_elim, ne_eqb, ◌==◌, cases_Bool, KeyView, offered, begun, met_by}
 use Rattle.dv_board.proofs.KeyCalls.{begun_same}
-use Rattle.dv_board.specs.declared.views.KeyView.{KeyView}
-use Rattle.dv_board.specs.KeyRule.{offered, begun, met_by}
 
 begun_on : (v : KeyView) (a : ℕ) → (begun v a).is_probing ≡ true
 begun_on v a =

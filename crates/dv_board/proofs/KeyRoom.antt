@@ -1,15 +1,7 @@
 -- A probe has passed fewer slots than there are items, since the slots that it passed are of different classes.
-use Rattle.std.proofs.Common.{◌≡◌, ◌≢◌, ℕ, zero, suc, ◌+◌, ◌-◌, ◌<◌, ◌≤◌, List, [], ◌∷◌, length, true, false, refl, sym, subst, ⊎_elim, arith, eqb, ne_eqb}
-use Rattle.std.proofs.lemmas.Bool.{cases_eq}
-use Rattle.std.specs.List.{list_any, IsDistinct, AllByRecursion}
-use Rattle.std.specs.Prelude.{◌||◌}
-use Rattle.std.proofs.lemmas.Map.Steps.{length-le_from_distinct_below}
-use Rattle.atomic_table.specs.Table.{State}
+use Rattle.dv_board.proofs.Vocabulary.{◌≡◌, ◌≢◌, ℕ, zero, suc, ◌+◌, ◌-◌, ◌<◌, ◌≤◌, List, [], ◌∷◌, length, true, false, refl, sym, subst, ⊎_elim, arith, eqb, ne_eqb, cases_eq, list_any, IsDistinct, AllByRecursion, ◌||◌, length-le_from_distinct_below, State, class_of, home_of, AreLawful, Keys}
+use Rattle.dv_board.proofs.Vocabulary.{KeyView, word_at, AreOthers, Holds}
 use Rattle.dv_board.proofs.KeyMoves.{off, one_home, class_below}
-use Rattle.dv_board.specs.Items.{class_of, home_of, AreLawful}
-use Rattle.dv_board.specs.declared.views.Keys.{Keys}
-use Rattle.dv_board.specs.declared.views.KeyView.{KeyView}
-use Rattle.dv_board.specs.KeyRule.{word_at, AreOthers, Holds}
 
 -- the classes of m slots from one on
 seq : Keys → List ℕ → ℕ → ℕ → List ℕ

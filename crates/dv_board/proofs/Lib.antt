@@ -7,3 +7,4 @@ pub mod KeyRoom
 pub mod Listed
 pub mod OneList
 pub mod Sums
+pub mod Vocabulary

@@ -1,18 +1,6 @@
 -- Marks of numbers, and the list of the marked ones.
-use Rattle.std.proofs.Common.{◌≡◌, ◌≢◌, ◌⊎◌, ℕ, zero, suc, ◌+◌, ◌-◌, ◌<◌, ◌≤◌, Bool, true, false, cond, true≢false, List, [], ◌∷◌, ◌++◌, length, get_or, set, take, replicate, filter, Contains, refl, sym, ap, ◌∙◌, subst, ⊎_elim, inl, inr, arith}
-use mathlib.Core.Option.{some, some-ne-none, some-injective}
-use lib.ListN.{get_elem?}
-use Rattle.std.specs.declared.cmp.Ordering.TheVariants.{Less}
-use Rattle.std.specs.List.{range_with_len, AllByRecursion}
-use Rattle.std.specs.List.Sorted.{IsStrictlySortedBy}
-use Rattle.std.specs.Ordering.{nat_cmp}
-use Rattle.std.specs.Cmp.{nat_cmp_is}
-use Rattle.std.proofs.lemmas.Bool.{cases_eq, cases_lt, cases_Bool}
-use Rattle.std.proofs.lemmas.List.{get_or-set_same, get_or-set_other, take_more_set}
-use Rattle.std.proofs.lemmas.List.Elements.{filter-append}
-use Rattle.std.proofs.lemmas.List.Kept.{IsStrictlySortedBy-filter}
-use Rattle.dv_board.specs.KeyRule.{word_at}
-use Rattle.dv_board.specs.Listing.{AreMarked, marked}
+use Rattle.dv_board.proofs.Vocabulary.{◌≡◌, ◌≢◌, ◌⊎◌, ℕ, zero, suc, ◌+◌, ◌-◌, ◌<◌, ◌≤◌, Bool, true, false, cond, true≢false, List, [], ◌∷◌, ◌++◌, length, get_or, set, take, replicate, filter, Contains, refl, sym, ap, ◌∙◌, subst, ⊎_elim, inl, inr, arith, some, some-ne-none, some-injective}
+use Rattle.dv_board.proofs.Vocabulary.{get_elem?, Less, range_with_len, AllByRecursion, IsStrictlySortedBy, nat_cmp, nat_cmp_is, cases_eq, cases_lt, cases_Bool, get_or-set_same, get_or-set_other, take_more_set, filter-append, IsStrictlySortedBy-filter, word_at, AreMarked, marked}
 
 off : false ≡ true → ⊥
 off e = true≢false (sym e)

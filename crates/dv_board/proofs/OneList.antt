@@ -1,12 +1,5 @@
 -- Two ascending lists with the same numbers are one list.
-use Rattle.std.proofs.Common.{◌≡◌, ◌⊎◌, ℕ, zero, suc, ◌<◌, List, [], ◌∷◌, Contains, refl, sym, subst, ⊎_elim, inl, inr, arith}
-use Rattle.std.specs.declared.cmp.Ordering.TheVariants.{Less}
-use Rattle.std.specs.List.{AllByRecursion}
-use Rattle.std.specs.List.Sorted.{IsStrictlySortedBy}
-use Rattle.std.specs.Ordering.{nat_cmp}
-use Rattle.dv_board.specs.KeyTables.{AreLeastOffered}
-use Rattle.dv_board.specs.Laws.{HasEach, LeastIsOneList}
-use Rattle.dv_board.specs.declared.views.Keys.{Keys}
+use Rattle.dv_board.proofs.Vocabulary.{◌≡◌, ◌⊎◌, ℕ, zero, suc, ◌<◌, List, [], ◌∷◌, Contains, refl, sym, subst, ⊎_elim, inl, inr, arith, Less, AllByRecursion, IsStrictlySortedBy, nat_cmp, AreLeastOffered, HasEach, LeastIsOneList, Keys}
 
 less_below : (x y : ℕ) → nat_cmp x y ≡ Less → x < y
 less_below x y e = grind (arith, e)

@@ -1,10 +1,5 @@
 -- Joined texts as the first one and the others, each behind the byte between them.
-use Rattle.std.proofs.Common.{◌≡◌, ◌≤◌, ◌<◌, ◌+◌, ◌∷◌, ◌++◌, [], ℕ, List, length, map, take, get_or, flat_map, append-nil, append_assoc, length-append, ap, sym, ◌∙◌, refl, arith}
-use Rattle.std.proofs.lemmas.List.{take_all}
-use Rattle.std.proofs.lemmas.List.Folds.{flat_map-map, length-flat_map-take}
-use Rattle.std.specs.List.{join_with_byte}
-use Rattle.dv_text.specs.declared.rows.Key.{Key}
-use Rattle.dv_text.specs.Keys.{joined, key_text, refs_text}
+use Rattle.dv_digest.proofs.Vocabulary.{◌≡◌, ◌≤◌, ◌<◌, ◌+◌, ◌∷◌, ◌++◌, [], ℕ, List, length, map, take, get_or, flat_map, append-nil, append_assoc, length-append, ap, sym, ◌∙◌, refl, arith, take_all, flat_map-map, length-flat_map-take, join_with_byte, Key, joined, key_text, refs_text}
 
 join-cons : (c : ℕ) (x : List ℕ) (xs : List (List ℕ)) → join_with_byte c (x ∷ xs) ≡ x ++ flat_map (λ y. c ∷ y) xs
 join-cons c x [] = sym (append-nil x)

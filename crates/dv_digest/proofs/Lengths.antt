@@ -1,12 +1,6 @@
 -- How long joined texts are, and that those of a staged row fit.
-use Rattle.std.proofs.Common.{◌≡◌, ◌≤◌, ◌+◌, ◌-◌, ◌*◌, ◌∷◌, [], ℕ, List, Bool, true, false, ◌&&◌, length, map, nat_le, arith, length-append, leb-true, le-leb, refl, suc-mul, mul-le-mul_right}
-use Rattle.std.specs.List.{join_with_byte, list_all}
-use Rattle.std.proofs.lemmas.Bool.{and_parts}
-use Rattle.std.proofs.lemmas.List.{length-map}
-use Rattle.dv_text.specs.declared.rows.Key.{Key}
-use Rattle.dv_text.specs.Keys.{joined, key_text, refs_text}
-use Rattle.dv_digest.specs.declared.rooms.TheConstants.{ROOM_SIZE}
-use Rattle.dv_digest.specs.Fits.{attrs_fit, refs_fit, texts_fit}
+use Rattle.dv_digest.proofs.Vocabulary.{◌≡◌, ◌≤◌, ◌+◌, ◌-◌, ◌*◌, ◌∷◌, [], ℕ, List, Bool, true, length, map, nat_le, arith, length-append, leb-true, le-leb, refl, suc-mul, mul-le-mul_right, join_with_byte, list_all, and_parts, length-map, Key, joined, key_text, refs_text, ROOM_SIZE, attrs_fit}
+use Rattle.dv_digest.proofs.Vocabulary.{longest_text, refs_fit, texts_fit}
 
 -- texts of at most so many bytes
 abbrev are_short : ℕ → List (List ℕ) → Bool
@@ -32,8 +26,8 @@ length-joined count most (x ∷ xs) few h =
 
 texts_fit-length : (count : ℕ) (texts : List (List ℕ)) → texts_fit count texts ≡ true → length (joined texts) ≤ count * 4097 - 1
 texts_fit-length count texts h =
-    let parts = and_parts (nat_le (length texts) count) (are_short 4096 texts) h in
-    length-joined count 4096 texts (leb-true (length texts) count parts.0) parts.1
+    let parts = and_parts (nat_le (length texts) count) (are_short longest_text texts) h in
+    length-joined count longest_text texts (leb-true (length texts) count parts.0) parts.1
 
 -- each key's text is at most 16,387 bytes long
 short_keys : (refs : List Key) → list_all (λ key. texts_fit 4 key.parts) refs ≡ true → are_short 16387 (map key_text refs) ≡ true

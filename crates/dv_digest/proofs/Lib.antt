@@ -1,2 +1,3 @@
-pub mod Lengths
 pub mod Joins
+pub mod Lengths
+pub mod Vocabulary

@@ -7,10 +7,13 @@ ghost use Rattle.dv_digest.specs.declared.rooms.TheConstants.{ROOM_SIZE};
 
 use dv_text::{Key, List, Text};
 
+// A text that is hashed has at most so many bytes.
+const LONGEST_TEXT: usize = 4096;
+
 fn are_short(texts: &[Text]) -> bool
-    ensures { result ≡ list_all (λ text. nat_le (length text) 4096) texts.now }
+    ensures { result ≡ list_all (λ text. nat_le (length text) spec.longest_text) texts.now }
 {
-    texts.iter().all(|text| text.bytes().len() <= 4096)
+    texts.iter().all(|text| text.bytes().len() <= LONGEST_TEXT)
 }
 
 fn texts_fit(most: usize, texts: &[Text]) -> bool

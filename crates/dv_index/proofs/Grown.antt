@@ -1,12 +1,6 @@
 -- An index of the first rows and the numbers of the others are the numbers of all rows.
-use Rattle.std.proofs.Common.{◌≡◌, ℕ, ◌+◌, ◌-◌, ◌≤◌, List, [], ◌++◌, length, get_or, take, arith, ap, subst, sym, ◌∙◌}
-use Rattle.std.specs.List.{range_with_len}
-use Rattle.std.specs.List.Sorted.{IsPermutation, IsSorted}
-use Rattle.std.proofs.lemmas.List.{get_or-take, length-append, length-map, length-take-le, map-append, take_at}
-use Rattle.std.proofs.lemmas.List.FromFn.{length-range_with_len}
-use Rattle.std.proofs.lemmas.List.Sorted.{IsPermutation-append_left, IsPermutation-append_right, IsPermutation-trans, length_permutation}
-use Rattle.dv_index.specs.Places.{Place}
-use Rattle.dv_index.specs.Numbers.{IsIndex, number_cmp, parents_of}
+use Rattle.dv_index.proofs.Vocabulary.{◌≡◌, ℕ, ◌+◌, ◌-◌, ◌≤◌, List, [], ◌++◌, length, get_or, take, arith, ap, subst, sym, ◌∙◌, length-append, range_with_len, IsPermutation, IsSorted, get_or-take, length-map, length-take-le, map-append, take_at, length-range_with_len, IsPermutation-append_left}
+use Rattle.dv_index.proofs.Vocabulary.{IsPermutation-append_right, IsPermutation-trans, length_permutation, Place, IsIndex, number_cmp, parents_of}
 use Rattle.dv_index.proofs.Order.{within}
 use Rattle.dv_index.proofs.Ranges.{range_split}
 

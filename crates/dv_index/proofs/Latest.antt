@@ -1,17 +1,6 @@
 -- The row before the point up to which an index is reached is a parent's latest one, where it is the parent's.
-use Rattle.std.proofs.Common.{◌≡◌, ℕ, ◌-◌, ◌<◌, ◌≤◌, inl, inr, Bool, true, false, ◌&&◌, List, Some, None, length, get_or, refl, sym, ◌∙◌, arith, nat_le}
-use Rattle.std.specs.declared.cmp.Ordering.{Ordering}
-use Rattle.std.specs.declared.cmp.Ordering.TheVariants.{Less, Equal, Greater}
-use Rattle.std.specs.List.Sorted.{IsPartitionPoint}
-use Rattle.std.specs.Str.{bytes_eq}
-use Rattle.std.proofs.lemmas.Bool.{and_from, and_parts, cases_lt, false_from_ne_true, false≢true, le-leb, leb-true}
-use Rattle.std.proofs.lemmas.Cmp.{nat_list_cmp_total, tied_itself}
-use Rattle.std.proofs.lemmas.List.{get_or_default, get_or-map, length-map}
-use Rattle.std.proofs.lemmas.Slice.Eq.{bytes_eq-Decides}
-use Rattle.dv_text.specs.Exact.{text_cmp-IsAntisymmetric}
-use Rattle.dv_text.specs.Orders.{text_cmp}
-use Rattle.dv_index.specs.Places.{Place, latest_at}
-use Rattle.dv_index.specs.Numbers.{IsIndex, is_reached, is_reached_by, load_at, loads_of, parent_at, parents_of}
+use Rattle.dv_index.proofs.Vocabulary.{◌≡◌, ℕ, ◌-◌, ◌<◌, ◌≤◌, inl, inr, Bool, true, false, ◌&&◌, List, Some, None, length, get_or, refl, sym, ◌∙◌, arith, nat_le, Ordering, Less, Equal, Greater, IsPartitionPoint, bytes_eq, and_from, and_parts, cases_lt, false_from_ne_true, false≢true, le-leb}
+use Rattle.dv_index.proofs.Vocabulary.{leb-true, nat_list_cmp_total, tied_itself, get_or_default, get_or-map, length-map, bytes_eq-Decides, text_cmp-IsAntisymmetric, text_cmp, Place, latest_at, IsIndex, is_reached, is_reached_by, load_at, loads_of, parent_at, parents_of}
 use Rattle.dv_index.proofs.LastFound.{last_none, last_found}
 use Rattle.dv_index.proofs.Order.{in_order, le_from_not_lt, number_there, within}
 

@@ -5,4 +5,5 @@ pub mod Merging
 pub mod Moves
 pub mod Order
 pub mod Ranges
+pub mod Vocabulary
 pub mod Walk

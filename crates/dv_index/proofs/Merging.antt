@@ -1,15 +1,8 @@
 -- Merging from the back: what was moved so far, and that it stands in order.
-use Rattle.std.proofs.Common.{◌≡◌, ℕ, ◌+◌, ◌<◌, ◌≤◌, inl, inr, Bool, true, false, List, [], ◌∷◌, ◌++◌, length, get_or, take, drop, refl, sym, ◌∙◌, ap, subst, arith, append_assoc, append-nil, length-append}
-use Rattle.std.specs.Prelude.{Contains, not}
-use Rattle.std.specs.Cmp.{IsStrictWeakOrder}
-use Rattle.std.specs.List.{AllPairs}
-use Rattle.std.specs.List.Sorted.{IsPartitionPoint, IsPartitionedBy, IsPermutation, IsSortedBy}
-use Rattle.std.proofs.lemmas.Bool.{not_from_false, not-false, not-true}
-use Rattle.std.proofs.lemmas.List.{drop_all, drop_at, drop_more, get_or-append-add, get_or_append_left, get_or_default, length-take-le, take-append-drop, take-take, take_all, take_at, take_more}
-use Rattle.std.proofs.lemmas.List.Elements.{Contains-append_cases, Contains-append_left, Contains-append_right, Contains-get_or}
-use Rattle.std.proofs.lemmas.List.Kept.{AllPairs-cons}
-use Rattle.std.proofs.lemmas.List.Sorted.{IsPermutation-append_right, IsPermutation-cons, IsPermutation-middle, IsPermutation-refl, IsPermutation-trans, sorted_far}
-use Rattle.dv_text.proofs.Members.{Contains-cons_cases, Contains-cons_here, Contains-cons_there}
+use Rattle.dv_index.proofs.Vocabulary.{◌≡◌, ℕ, ◌+◌, ◌<◌, ◌≤◌, inl, inr, Bool, true, false, List, [], ◌∷◌, ◌++◌, length, get_or, take, drop, refl, sym, ◌∙◌, ap, subst, arith, append_assoc, append-nil, length-append, Contains, not, IsStrictWeakOrder, AllPairs, IsPartitionPoint, IsPartitionedBy}
+use Rattle.dv_index.proofs.Vocabulary.{IsPermutation, IsSortedBy, not_from_false, not-false, not-true, drop_all, drop_at, drop_more, get_or-append-add, get_or_append_left, get_or_default, length-take-le, take-append-drop, take-take, take_all, take_at, take_more, Contains-append_cases}
+use Rattle.dv_index.proofs.Vocabulary.{Contains-append_left, Contains-append_right, Contains-get_or, AllPairs-cons, IsPermutation-append_right, IsPermutation-cons, IsPermutation-middle, IsPermutation-refl, IsPermutation-trans, sorted_far, Contains-cons_cases, Contains-cons_here}
+use Rattle.dv_index.proofs.Vocabulary.{Contains-cons_there}
 
 -- no item stands behind one that comes after it
 abbrev pub Rising : {X : Type 0} → (X → X → Bool) → List X → Type 0
@@ -201,7 +194,9 @@ module _ (lt : ℕ → ℕ → Bool) (o : IsStrictWeakOrder lt) (old new : List 
   pub ends : (index : List ℕ) (end : ℕ) → IsMerging index end 0 → IsPermutation (old ++ new) index × IsSortedBy lt index
   ends index end m = (
     subst (IsPermutation (old ++ new)) whole
-        (rw (before) (subst (λ l. IsPermutation l (take end old ++ drop (end + 0) index)) (sym (append_assoc (take end old) (drop end old) new)) (IsPermutation-append_right (take end old) (drop end old ++ new) (drop (end + 0) index) m.moved))),
+        (rw before
+        (subst (λ l. IsPermutation l (take end old ++ drop (end + 0) index)) (sym (append_assoc (take end old) (drop end old) new))
+        (IsPermutation-append_right (take end old) (drop end old ++ new) (drop (end + 0) index) m.moved))),
     subst (IsSortedBy lt) whole (sorted_from_rising lt (take end old ++ drop (end + 0) index) m.olds),
   )
     where

@@ -1,8 +1,5 @@
 -- A part of a list moved back, and an item put before it.
-use Rattle.std.proofs.Common.{◌≡◌, ℕ, ◌+◌, ◌-◌, ◌<◌, ◌≤◌, List, ◌∷◌, ◌++◌, length, take, drop, set, refl, sym, ◌∙◌, ap, arith, append_assoc}
-use Rattle.std.proofs.Math.Seq.{paste}
-use Rattle.std.proofs.lemmas.List.{drop_at, drop-set, drop-take, length-drop, length-take-le}
-use Rattle.std.proofs.lemmas.List.Edits.{length-paste}
+use Rattle.dv_index.proofs.Vocabulary.{◌≡◌, ℕ, ◌+◌, ◌-◌, ◌<◌, ◌≤◌, List, ◌∷◌, ◌++◌, length, take, drop, set, refl, sym, ◌∙◌, ap, arith, append_assoc, paste, drop_at, drop-set, drop-take, length-drop, length-take-le, length-paste}
 
 pub put_back : (xs ys : List ℕ) (place end free x : ℕ) → place ≤ end → end + free < length xs → ys ≡ paste xs (place + free + 1) (drop place xs) (end - place)
     → drop (place + free) (set ys (place + free) x) ≡ x ∷ (drop place (take end xs) ++ drop (end + free + 1) xs)

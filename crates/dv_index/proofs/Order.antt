@@ -1,27 +1,7 @@
 -- The order of an index, and what it says of load dates.
-use Rattle.std.proofs.Common.{◌≡◌, ℕ, zero, suc, ◌<◌, ◌≤◌, Bool, true, false, List, [], ◌∷◌, length, get_or, map, refl, sym, ◌∙◌, subst, arith, nat_le}
-use Rattle.std.specs.declared.cmp.Ordering.{Ordering}
-use Rattle.std.specs.declared.cmp.Ordering.TheVariants.{Less, Equal, Greater}
-use Rattle.std.specs.Cmp.{IsStrictWeakOrder, IsTotalOrder}
-use Rattle.std.specs.List.{list_all, All, range_with_len}
-use Rattle.std.specs.List.Sorted.{IsPartitionedBy}
-use Rattle.std.specs.Ordering.{is_lt, nat_cmp, ordering_then}
-use Rattle.std.specs.Prelude.{Contains}
-use Rattle.std.proofs.lemmas.Bool.{and_parts, false≢true, le-leb, leb-true}
-use Rattle.std.proofs.lemmas.Bool.Decides.{nat_tests}
-use Rattle.std.proofs.lemmas.Cmp.{then_total, on_total, nat_list_cmp_total, nat_cmp_total}
-use Rattle.std.proofs.lemmas.List.{length-map}
-use Rattle.std.proofs.lemmas.List.Elements.{All-get_or, All-from_get_or, Contains-get_or}
-use Rattle.std.proofs.lemmas.List.FromFn.{length-range_with_len, get_or-range_with_len}
-use Rattle.std.proofs.lemmas.List.Sorted.{All-permutation, Contains-permutation, ranks_by, sorted_far}
-use Rattle.dv_text.proofs.Members.{Contains-range}
-use Rattle.dv_text.proofs.Orderings.{turned}
-use Rattle.dv_text.proofs.Passing.{passes_at}
-use Rattle.std.proofs.lemmas.List.Folds.{list_all-map}
-use Rattle.dv_text.specs.Exact.{text_cmp-IsAntisymmetric}
-use Rattle.dv_text.specs.Orders.{text_cmp}
-use Rattle.dv_index.specs.Places.{Place, are_in_load_order}
-use Rattle.dv_index.specs.Numbers.{IsIndex, is_reached, is_reached_by, load_at, loads_of, number_cmp, parent_at, parents_of}
+use Rattle.dv_index.proofs.Vocabulary.{◌≡◌, ℕ, zero, suc, ◌<◌, ◌≤◌, Bool, true, false, List, [], ◌∷◌, length, get_or, map, refl, sym, ◌∙◌, subst, arith, nat_le, Ordering, Less, Equal, Greater, IsStrictWeakOrder, IsTotalOrder, list_all, All, range_with_len, IsPartitionedBy, is_lt, nat_cmp}
+use Rattle.dv_index.proofs.Vocabulary.{ordering_then, Contains, and_parts, false≢true, le-leb, leb-true, nat_tests, then_total, on_total, nat_list_cmp_total, nat_cmp_total, length-map, All-get_or, All-from_get_or, Contains-get_or, length-range_with_len, get_or-range_with_len, All-permutation}
+use Rattle.dv_index.proofs.Vocabulary.{Contains-permutation, ranks_by, sorted_far, Contains-range, turned, passes_at, list_all-map, text_cmp-IsAntisymmetric, text_cmp, Place, are_in_load_order, IsIndex, is_reached, is_reached_by, load_at, loads_of, number_cmp, parent_at, parents_of}
 
 module _ (parents : List (List ℕ)) where
   pub number_total : IsTotalOrder (number_cmp parents)
@@ -73,7 +53,8 @@ pub le_from_not_lt : (a b : ℕ) → is_lt (nat_cmp b a) ≡ false → a ≤ b
 le_from_not_lt a b e = grind (arith, nat_tests)
 
 -- what comes before a row that is reached is reached, too
-pub reached_before : (pa pb parent : List ℕ) (a b la lb date : ℕ) → is_lt (ordering_then (text_cmp pb pa) (nat_cmp b a)) ≡ false → (a ≤ b → la ≤ lb) → is_reached_by (text_cmp pb parent) (nat_le lb date) ≡ true → is_reached_by (text_cmp pa parent) (nat_le la date) ≡ true
+pub reached_before : (pa pb parent : List ℕ) (a b la lb date : ℕ) → is_lt (ordering_then (text_cmp pb pa) (nat_cmp b a)) ≡ false → (a ≤ b → la ≤ lb)
+    → is_reached_by (text_cmp pb parent) (nat_le lb date) ≡ true → is_reached_by (text_cmp pa parent) (nat_le la date) ≡ true
 reached_before pa pb parent a b la lb date behind loads reached = by (text_cmp pb pa) refl (text_cmp pb parent) refl
   where
     by : (r : Ordering) → text_cmp pb pa ≡ r → (s : Ordering) → text_cmp pb parent ≡ s → is_reached_by (text_cmp pa parent) (nat_le la date) ≡ true

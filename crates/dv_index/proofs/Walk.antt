@@ -1,30 +1,9 @@
 -- The rows that a walk over an index finds are the latest ones of each parent.
-use Rattle.std.proofs.Common.{◌≡◌, ℕ, zero, suc, ◌+◌, ◌-◌, ◌<◌, ◌≤◌, Bool, true, false, ◌&&◌, List, [], ◌++◌, Option, Some, None, length, get_or, refl, sym, ◌∙◌, ap, subst, arith, reverse}
-use Rattle.std.specs.Prelude.{Contains, not, slice_get, if◌then◌else◌, nat_le}
-use Rattle.std.specs.declared.cmp.Ordering.{Ordering}
-use Rattle.std.specs.declared.cmp.Ordering.TheVariants.{Less, Equal, Greater}
-use Rattle.std.specs.Cmp.{on_total}
-use Rattle.std.specs.List.{filter_map, prefix_len, range_with_len}
-use Rattle.std.specs.List.Sorted.{IsPartitionPoint, IsPartitionedBy, IsStrictlySortedBy}
-use Rattle.std.specs.Option.{option_to_list}
-use Rattle.std.specs.Str.{bytes_eq}
-use Rattle.std.proofs.lemmas.Bool.{and_from, and_parts, false_from_ne_true, false≢true, not_from_false, not-true}
-use Rattle.std.proofs.lemmas.Cmp.{nat_list_cmp_total}
-use Rattle.std.proofs.lemmas.List.{get_or_default, get_or-map, length-map}
-use Rattle.std.proofs.lemmas.List.Elements.{filter_map-append}
-use Rattle.std.proofs.lemmas.List.FromFn.{length-range_with_len, get_or-range_with_len}
-use Rattle.std.proofs.lemmas.List.Sums.{prefix_len-le-length, prefix_len_passes, prefix_len_stops}
-use Rattle.std.proofs.lemmas.Option.{get_or_from_slice_get, none-some, same_Some, slice_get-get_or, slice_get_within}
-use Rattle.std.proofs.lemmas.Slice.Eq.{bytes_eq-Decides}
-use Rattle.dv_text.specs.Exact.{text_cmp-IsAntisymmetric}
-use Rattle.dv_text.specs.Orders.{text_cmp}
-use Rattle.dv_text.specs.Sorting.{sorted_by}
-use Rattle.dv_text.proofs.Orderings.{turned}
-use Rattle.dv_text.proofs.Passing.{found_member}
-use Rattle.dv_text.proofs.Members.{all_members, Contains-range, filter_map_member, member_of_filter_map, IsStrictlySortedBy-filter_map}
-use Rattle.dv_text.proofs.SortedLists.{ascending-sorted_by, member_after_sort, same_ascending}
-use Rattle.dv_index.specs.Places.{Place, are_in_load_order, latest_at, latest_of_each}
-use Rattle.dv_index.specs.Numbers.{IsIndex, is_last, is_reached, is_reached_if, last_row, loads_of, parent_at, parents_of}
+use Rattle.dv_index.proofs.Vocabulary.{◌≡◌, ℕ, zero, suc, ◌+◌, ◌-◌, ◌<◌, ◌≤◌, Bool, true, false, ◌&&◌, List, [], ◌++◌, Option, Some, None, length, get_or, refl, sym, ◌∙◌, ap, subst, arith, reverse, nat_le, Contains, not, slice_get, if◌then◌else◌, Ordering, Less, Equal, Greater, on_total}
+use Rattle.dv_index.proofs.Vocabulary.{nat_list_cmp_total, filter_map, prefix_len, range_with_len, IsPartitionPoint, IsPartitionedBy, IsStrictlySortedBy, option_to_list, bytes_eq, and_from, and_parts, false_from_ne_true, false≢true, not_from_false, not-true, get_or_default, get_or-map}
+use Rattle.dv_index.proofs.Vocabulary.{length-map, filter_map-append, length-range_with_len, get_or-range_with_len, prefix_len-le-length, prefix_len_passes, prefix_len_stops, get_or_from_slice_get, none-some, same_Some, slice_get-get_or, slice_get_within, bytes_eq-Decides}
+use Rattle.dv_index.proofs.Vocabulary.{text_cmp-IsAntisymmetric, text_cmp, sorted_by, turned, found_member, all_members, Contains-range, filter_map_member, member_of_filter_map, IsStrictlySortedBy-filter_map, ascending-sorted_by, member_after_sort, same_ascending, Place, are_in_load_order}
+use Rattle.dv_index.proofs.Vocabulary.{latest_at, latest_of_each, IsIndex, is_last, is_reached, is_reached_if, last_row, loads_of, parent_at, parents_of}
 use Rattle.dv_index.proofs.Latest.{latest_at_start, latest_found, latest_missing}
 use Rattle.dv_index.proofs.Order.{in_order, reached_first, within}
 use Rattle.dv_index.proofs.Ranges.{range_more}
@@ -187,7 +166,8 @@ module _ {X : Type 0} (place : X → Place) (rows : List X) (index : List ℕ) (
   walk_is =
       same_ascending by_parent (on_total (λ row. (place row).parent) nat_list_cmp_total) _ _
       (ascending_walk by_parent (last_row place rows index date) (length index) (λ j k x y before under f g. greater_parent j k x y before (found_at j x (omega arith) f) (found_at k y under g)) (length index) 0 (omega arith))
-      (IsStrictlySortedBy-filter_map text_cmp (λ parent. latest_at place rows parent date) (λ row. (place row).parent) (λ parent row e. own parent row e) (sorted_by text_cmp (parents_of place rows)) (ascending-sorted_by text_cmp nat_list_cmp_total (parents_of place rows)))
+      (IsStrictlySortedBy-filter_map text_cmp (λ parent. latest_at place rows parent date) (λ row. (place row).parent) own
+      (sorted_by text_cmp (parents_of place rows)) (ascending-sorted_by text_cmp nat_list_cmp_total (parents_of place rows)))
       there back
     where
       own : (parent : List ℕ) (row : X) → latest_at place rows parent date ≡ Some row → (place row).parent ≡ parent

@@ -1,19 +1,6 @@
 -- The days of the years from 1900 to 9998.
-use Rattle.std.proofs.Common.{◌≡◌, ℕ, ◌+◌, ◌*◌, ◌<◌, refl, ap, arith, ℤ, pos, neg_ℤ, ◌+ℤ◌, ◌-ℤ◌, ◌*ℤ◌, ◌<ℤ◌, ◌≤ℤ◌}
-use Rattle.jiff_core.specs.Calendar.{day_count, days_from_civil, days_of_years, days_of_months, IsCivilDate}
-use Rattle.jiff_core.specs.declared.civil.date.Date.{Date}
-use Rattle.jiff_core.specs.declared.civil.datetime.DateTime.{DateTime}
-use Rattle.jiff_core.specs.Date.{epoch_day}
-use Rattle.jiff_core.specs.DateTime.{civil_nanos, civil_seconds}
-use Rattle.jiff_core.specs.Time.{time_seconds}
-use Rattle.jiff_core.specs.Timestamp.{IsTimestampNanos}
-use Rattle.jiff_core.proofs.CalendarLemmas.{days_from_civil-day_count, day_count-lt_year, day_count-day_of_year}
-use Rattle.std.specs.Prelude.{int_div}
-use Rattle.std.proofs.lemmas.Int.{by_lt_z}
-use Rattle.jiff_core.proofs.DateTimeLemmas.{civil_nanos-civil_seconds}
-use Rattle.jiff_core.proofs.DateLemmas.{civil}
-use Rattle.jiff_core.proofs.SignedLemmas.{signed_arith, unsigned_abs-parts, one_part}
-use Rattle.dv_text.specs.Stamps.{days_since_1900}
+use Rattle.dv_text.proofs.Vocabulary.{◌≡◌, ℕ, ◌+◌, ◌*◌, ◌<◌, refl, ap, arith, ℤ, pos, neg_ℤ, ◌+ℤ◌, ◌-ℤ◌, ◌*ℤ◌, ◌<ℤ◌, ◌≤ℤ◌, day_count, days_from_civil, days_of_years, days_of_months, IsCivilDate, Date, DateTime, epoch_day, civil_nanos, civil_seconds, time_seconds, IsTimestampNanos}
+use Rattle.dv_text.proofs.Vocabulary.{days_from_civil-day_count, day_count-lt_year, day_count-day_of_year, int_div, by_lt_z, civil_nanos-civil_seconds, civil, signed_arith, unsigned_abs-parts, one_part, days_since_1900}
 
 day_count-1899 : day_count (pos 1899) 12 31 ≡ 4_346_385
 unfolding day_count days_of_years days_of_months
@@ -27,11 +14,16 @@ day_count-9999 : day_count (pos 9999) 1 1 ≡ 7_304_485
 unfolding day_count days_of_years days_of_months
 day_count-9999 = refl
 
+last_1899 : IsCivilDate (pos 1899) 12 31
+last_1899 = ((omega (arith, signed_arith), omega (arith, signed_arith)), (omega arith, omega arith), (omega arith, omega arith))
+
+first_9999 : IsCivilDate (pos 9999) 1 1
+first_9999 = ((omega (arith, signed_arith), omega (arith, signed_arith)), (omega arith, omega arith), (omega arith, omega arith))
+
 -- a date of these years, by its day number
 pub day_range : (d : Date) → pos 1900 ≤ℤ d.year → d.year ≤ℤ pos 9998 → (neg_ℤ (pos 25_567) ≤ℤ epoch_day d) × (epoch_day d <ℤ pos 2_932_532)
 day_range d low high =
-    let first : IsCivilDate (pos 1899) 12 31 = ((omega (arith, signed_arith), omega (arith, signed_arith)), (omega arith, omega arith), (omega arith, omega arith)) in
-    let before = day_count-lt_year (pos 1899) 12 31 d.year d.month d.day first d.day_in.0 (omega (arith, signed_arith)) in
+    let before = day_count-lt_year (pos 1899) 12 31 d.year d.month d.day last_1899 d.day_in.0 (omega (arith, signed_arith)) in
     let after = day_count-lt_year d.year d.month d.day (pos 9999) 1 1 (civil d) (omega arith) (omega (arith, signed_arith)) in
     (omega (arith, signed_arith, days_from_civil-day_count, before, day_count-1899), omega (arith, signed_arith, days_from_civil-day_count, after, day_count-9999))
 
@@ -69,19 +61,18 @@ has_instant dt low high whole =
 
 -- the year of a date, by its day number
 pub year_range : (d : Date) → neg_ℤ (pos 25_567) ≤ℤ epoch_day d → epoch_day d <ℤ pos 2_932_532 → (pos 1900 ≤ℤ d.year) × (d.year ≤ℤ pos 9998)
-year_range d low high =
-    let first : IsCivilDate (pos 1899) 12 31 = ((omega (arith, signed_arith), omega (arith, signed_arith)), (omega arith, omega arith), (omega arith, omega arith)) in (
-      by_lt_z d.year (pos 1900)
-          (λ lt. absurd (omega (arith, signed_arith, low, days_from_civil-day_count, day_count-lt_year d.year d.month d.day (pos 1900) 1 1 (civil d) (omega arith) lt, day_count-1900)))
-          (λ le. le),
-      by_lt_z (pos 9998) d.year
-          (λ lt. absurd (later lt))
-          (λ le. le),
-    )
+year_range d low high = (
+  by_lt_z d.year (pos 1900)
+      (λ lt. absurd (omega (arith, signed_arith, low, days_from_civil-day_count, day_count-lt_year d.year d.month d.day (pos 1900) 1 1 (civil d) (omega arith) lt, day_count-1900)))
+      (λ le. le),
+  by_lt_z (pos 9998) d.year
+      (λ lt. absurd (later lt))
+      (λ le. le),
+)
   where
     later : pos 9998 <ℤ d.year → ⊥
     later lt = by_lt_z (pos 9999) d.year
-        (λ more. omega (arith, signed_arith, high, days_from_civil-day_count, day_count-lt_year (pos 9999) 1 1 d.year d.month d.day ((omega (arith, signed_arith), omega (arith, signed_arith)), (omega arith, omega arith), (omega arith, omega arith)) d.day_in.0 more, day_count-9999))
+        (λ more. omega (arith, signed_arith, high, days_from_civil-day_count, day_count-lt_year (pos 9999) 1 1 d.year d.month d.day first_9999 d.day_in.0 more, day_count-9999))
         (λ le.
         let same : d.year ≡ pos 9999 = omega (arith, signed_arith) in
         let count : day_count d.year d.month d.day ≡ day_count (pos 9999) d.month d.day = ap (λ y. day_count y d.month d.day) same in

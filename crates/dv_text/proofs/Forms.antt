@@ -1,11 +1,6 @@
 -- What the form of a stamp says of its parts.
-use Rattle.std.proofs.Common.{◌≡◌, ℕ, ◌+◌, ◌-◌, ◌*◌, ◌/◌, ◌%◌, ◌<◌, ◌≤◌, List, length, true, arith, refl, ◌&&◌, ◌==◌, pos, nat_le, Some}
-use Rattle.std.specs.Char.{is_ascii_digit}
-use Rattle.std.proofs.lemmas.Bool.{and_parts}
-use Rattle.std.proofs.lemmas.Bool.Decides.{nat_tests}
-use Rattle.jiff_core.specs.Calendar.{days_in_month}
-use Rattle.jiff_core.proofs.CalendarLemmas.{days_in_month_bounds}
-use Rattle.dv_text.specs.Stamps.{are_two_at, has_digits, has_form, has_marks, is_there, seconds_if, seconds_of, stamp_in, text_of}
+use Rattle.dv_text.proofs.Vocabulary.{◌≡◌, ℕ, ◌+◌, ◌-◌, ◌*◌, ◌/◌, ◌%◌, ◌<◌, ◌≤◌, List, length, true, arith, refl, ◌&&◌, ◌==◌, pos, nat_le, Some, is_ascii_digit, and_parts, nat_tests, days_in_month, days_in_month_bounds, are_two_at, has_digits, has_form, has_marks, is_there, seconds_if}
+use Rattle.dv_text.proofs.Vocabulary.{seconds_of, stamp_in, text_of}
 
 pub record Parts (t : List ℕ) : Type 0 where
   pub long : length t ≡ 19

@@ -7,6 +7,8 @@ pub mod Members
 pub mod Options
 pub mod Orderings
 pub mod Passing
+pub mod Places
 pub mod Shown
 pub mod SortedLists
 pub mod StableSorts
+pub mod Vocabulary

@@ -1,8 +1,5 @@
 -- What is in an option, and what a list has at a place.
-use Rattle.std.proofs.Common.{◌≡◌, inl, inr, ℕ, ◌<◌, ◌≤◌, length, true, List, Option, Some, None, refl, sym, ◌∙◌, arith}
-use Rattle.std.specs.Prelude.{Contains, slice_get}
-use Rattle.std.specs.Option.{is_none, option_map, option_or}
-use Rattle.std.proofs.lemmas.Option.{get_or_from_slice_get, slice_get_cases, slice_get_within}
+use Rattle.dv_text.proofs.Vocabulary.{◌≡◌, inl, inr, ℕ, ◌+◌, ◌<◌, ◌≤◌, ◌∷◌, ◌++◌, [], length, take, true, List, Option, Some, None, refl, sym, ◌∙◌, ap, arith, drop, Contains, slice_get, is_none, option_map, option_or, drop_more, take_more, get_or_from_slice_get, slice_get_cases, slice_get_within}
 
 pub none_from : {X : Type 0} (o : Option X) → is_none o ≡ true → o ≡ None
 none_from None e = refl
@@ -39,3 +36,10 @@ got_from xs n under = elim (slice_get_cases xs n).1 [ inl (x, within, got, is) �
 
 pub none_behind : {X : Type 0} (xs : List X) (n : ℕ) → slice_get xs n ≡ None → length xs ≤ n
 none_behind xs n e = elim (slice_get_cases xs n).1 [ inl (x, within, got, is) ↦ let no : Some x ≡ None = sym got ∙ e in cc | inr (past, none) ↦ past ]
+
+-- the items from a place on, and those up to it
+pub drop_got : {X : Type 0} (xs : List X) (n : ℕ) (x : X) → slice_get xs n ≡ Some x → drop n xs ≡ x ∷ drop (n + 1) xs
+drop_got xs n x e = drop_more xs n x (slice_get_within xs n x e) ∙ ap (λ y. y ∷ drop (n + 1) xs) (get_or_from_slice_get xs n x x e)
+
+pub take_got : {X : Type 0} (xs : List X) (n : ℕ) (x : X) → slice_get xs n ≡ Some x → take (n + 1) xs ≡ take n xs ++ x ∷ []
+take_got xs n x e = take_more xs n x (slice_get_within xs n x e) ∙ ap (λ y. take n xs ++ y ∷ []) (get_or_from_slice_get xs n x x e)

@@ -1,10 +1,5 @@
 -- What two things' order is, alone and before another order.
-use Rattle.std.proofs.Common.{◌≡◌, ◌⊎◌, inl, inr, ℕ, ◌<◌, ◌≤◌, true, refl, sym, ◌∙◌, ap, arith}
-use Rattle.std.specs.declared.cmp.Ordering.{Ordering}
-use Rattle.std.specs.declared.cmp.Ordering.TheVariants.{Less, Equal, Greater}
-use Rattle.std.specs.Cmp.{IsTotalOrder, tied_itself}
-use Rattle.std.specs.Ordering.{is_lt, nat_cmp, ordering_reverse, ordering_then}
-use Rattle.std.proofs.lemmas.Bool.Decides.{nat_tests}
+use Rattle.dv_text.proofs.Vocabulary.{◌≡◌, ◌⊎◌, inl, inr, ℕ, ◌<◌, ◌≤◌, true, refl, sym, ◌∙◌, ap, arith, Ordering, Less, Equal, Greater, IsTotalOrder, tied_itself, is_lt, nat_cmp, ordering_reverse, ordering_then, nat_tests}
 
 pub is_less : (r : Ordering) → is_lt r ≡ true → r ≡ Less
 is_less Less e = refl

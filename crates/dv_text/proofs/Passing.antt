@@ -1,12 +1,6 @@
 -- Tests of every item, of some item and of the first that passes, item by item.
-use Rattle.std.proofs.Common.{◌≡◌, ◌⊎◌, inl, inr, ℕ, Bool, true, false, not, ◌||◌, filter, find, get_or, map, replicate, List, [], ◌∷◌, ◌++◌, Option, Some, None, refl, sym, ◌∙◌, ap, subst}
-use Rattle.std.specs.Prelude.{Contains, slice_get}
-use Rattle.std.specs.Bool.{Decides}
-use Rattle.std.specs.List.{All, list_all, list_any}
-use Rattle.std.proofs.lemmas.Bool.{and_from, false≢true, false_from_ne_true, not-false}
-use Rattle.std.proofs.lemmas.Bool.Decides.{Decides-by_and, same_from_decides}
-use Rattle.std.proofs.lemmas.List.Elements.{All-contains, All-replicate, Contains-get_or}
-use Rattle.std.proofs.lemmas.List.Folds.{Any-from_list_any, list_all-append, list_any_at}
+use Rattle.dv_text.proofs.Vocabulary.{◌≡◌, ◌⊎◌, inl, inr, ℕ, Bool, true, false, not, ◌||◌, filter, find, get_or, map, replicate, List, [], ◌∷◌, ◌++◌, Option, Some, None, refl, sym, ◌∙◌, ap, subst, Contains, slice_get, Decides, All, list_all, list_any, and_from, false≢true, false_from_ne_true}
+use Rattle.dv_text.proofs.Vocabulary.{not-false, Decides-by_and, same_from_decides, All-contains, All-replicate, Contains-get_or, Any-from_list_any, list_all-append, list_any_at}
 use Rattle.dv_text.proofs.Members.{Contains-cons_cases, Contains-cons_here, Contains-cons_there, Contains-nil}
 use Rattle.dv_text.proofs.Options.{got_member}
 
@@ -99,6 +93,16 @@ find-filter {X} p (x ∷ xs) = by (p x) refl (find-filter p xs)
     by : (b : Bool) → p x ≡ b → find p xs ≡ slice_get (filter p xs) 0 → find p (x ∷ xs) ≡ slice_get (filter p (x ∷ xs)) 0
     by true t rest = rw t refl
     by false t rest = rw t rest
+
+-- ---- all that pass
+
+pub filter-all : {X : Type 0} (p : X → Bool) (xs : List X) → ((x : X) → Contains xs x → p x ≡ true) → filter p xs ≡ xs
+filter-all p [] passes = refl
+filter-all p (x ∷ xs) passes = rw (passes x (Contains-cons_here x xs), filter-all p xs (λ y has. passes y (Contains-cons_there x xs y has))) refl
+
+pub filter-none : {X : Type 0} (p : X → Bool) (xs : List X) → ((x : X) → Contains xs x → p x ≡ false) → filter p xs ≡ []
+filter-none p [] fails = refl
+filter-none p (x ∷ xs) fails = rw (fails x (Contains-cons_here x xs)) (filter-none p xs (λ y has. fails y (Contains-cons_there x xs y has)))
 
 -- ---- two tests
 

@@ -1,11 +1,8 @@
 -- The text of a number of seconds is that of its date and its time of day.
-use Rattle.std.proofs.Common.{◌≡◌, ℕ, zero, suc, ◌+◌, ◌-◌, ◌*◌, ◌/◌, ◌%◌, ◌<◌, ◌≤◌, inl, inr, arith, refl, ap, pos, ◌-ℤ◌, codes}
-use Rattle.std.proofs.lemmas.Bool.{cases_order, le-ltb, lt-ltb}
-use Rattle.jiff_core.specs.Calendar.{day_count, days_from_civil, days_of_months, day_of_year, days_in_month, days_in_year, IsCivilDate}
-use Rattle.jiff_core.proofs.CalendarLemmas.{days_from_civil-day_count, day_of_year_bound, day_count-next_year, day_count-later_year, day_count-day_of_year, days_of_months-zero, days_of_months_more, days_of_months_mono}
-use Rattle.jiff_core.proofs.SignedLemmas.{signed_arith, unsigned_abs-parts, one_part}
+use Rattle.dv_text.proofs.Vocabulary.{◌≡◌, ℕ, zero, suc, ◌+◌, ◌-◌, ◌*◌, ◌/◌, ◌%◌, ◌<◌, ◌≤◌, inl, inr, arith, refl, ap, pos, ◌-ℤ◌, codes, cases_order, le-ltb, lt-ltb, day_count, days_from_civil, days_of_months, day_of_year, days_in_month, days_in_year, IsCivilDate, days_from_civil-day_count}
+use Rattle.dv_text.proofs.Vocabulary.{day_of_year_bound, day_count-next_year, day_count-later_year, day_count-day_of_year, days_of_months-zero, days_of_months_more, days_of_months_mono, signed_arith, unsigned_abs-parts, one_part, open_end, days_since_1900, month_from, seconds_of, stamp_text}
+use Rattle.dv_text.proofs.Vocabulary.{text_of, year_from}
 use Rattle.dv_text.proofs.Days.{day_count-1900}
-use Rattle.dv_text.specs.Stamps.{open_end, days_since_1900, month_from, seconds_of, stamp_text, text_of, year_from}
 
 -- the year of a day
 pub year_from-is : (k y0 y r n : ℕ) → y0 ≤ y → y ≤ y0 + k → r < days_in_year (pos y) → n + day_count (pos y0) 1 1 ≡ day_count (pos y) 1 1 + r → year_from k y0 n ≡ (y, r)

@@ -1,18 +1,6 @@
 -- The laws of `sorted_by`.
-use Rattle.std.proofs.Common.{◌≡◌, ◌↔◌, ◌⊎◌, inl, inr, ℕ, ◌<◌, length, get_or, List, [], ◌∷◌, ◌++◌, refl, sym, ◌∙◌, ap, subst, arith}
-use Rattle.std.specs.Prelude.{Contains}
-use Rattle.std.specs.declared.cmp.Ordering.{Ordering}
-use Rattle.std.specs.declared.cmp.Ordering.TheVariants.{Less, Equal, Greater}
-use Rattle.std.specs.Cmp.{IsTotalOrder}
-use Rattle.std.specs.FinMap.{IsAntisymmetric}
-use Rattle.std.specs.List.{AllByRecursion}
-use Rattle.std.specs.List.Sorted.{IsStrictlySortedBy}
-use Rattle.dv_text.specs.Sorting.{insert_by, sorted_by}
-use Rattle.std.specs.Cmp.{tied_back}
-use Rattle.std.proofs.lemmas.Bool.{cases_order}
-use Rattle.std.proofs.lemmas.List.{get_or_default}
-use Rattle.std.proofs.lemmas.List.Elements.{Contains-append_cases}
-use Rattle.std.proofs.lemmas.Map.Keys.{Less-from_sorted}
+use Rattle.dv_text.proofs.Vocabulary.{◌≡◌, ◌↔◌, ◌⊎◌, inl, inr, ℕ, suc, ◌<◌, ◌≤◌, length, get_or, List, [], ◌∷◌, ◌++◌, refl, sym, ◌∙◌, ap, subst, arith, Contains, Ordering, Less, Equal, Greater, IsTotalOrder, tied_back, IsAntisymmetric, AllByRecursion, IsStrictlySortedBy, insert_by, sorted_by}
+use Rattle.dv_text.proofs.Vocabulary.{cases_order, get_or_default, Contains-append_cases, Less-from_sorted}
 use Rattle.dv_text.proofs.Members.{all_members, all_more, Contains-cons_here, Contains-cons_there, Contains-cons_cases, member_of_all}
 use Rattle.dv_text.proofs.Orderings.{asymmetric, irreflexive, less_equal, turned}
 
@@ -127,6 +115,20 @@ module _ {X : Type 0} (R : X → X → Ordering) where
   sorted_by-sorted [] up = refl
   sorted_by-sorted (x ∷ []) up = refl
   sorted_by-sorted (x ∷ y ∷ xs) up = rw (sorted_by-sorted (y ∷ xs) up.1, up.0.0)
+
+  -- a sort makes no list longer
+  length-insert_by : (x : X) (ys : List X) → length (insert_by R x ys) ≤ suc (length ys)
+  length-insert_by x [] = omega arith
+  length-insert_by x (y ∷ ys) = by (R x y) refl (length-insert_by x ys)
+    where
+      by : (r : Ordering) → R x y ≡ r → length (insert_by R x ys) ≤ suc (length ys) → length (insert_by R x (y ∷ ys)) ≤ suc (suc (length ys))
+      by Less e rest = rw e (omega arith)
+      by Equal e rest = rw e (omega arith)
+      by Greater e rest = rw e (omega (arith, rest))
+
+  pub length-sorted_by : (xs : List X) → length (sorted_by R xs) ≤ length xs
+  length-sorted_by [] = omega arith
+  length-sorted_by (x ∷ xs) = omega (arith, length-sorted_by xs, length-insert_by x (sorted_by R xs))
 
   module _ (o : IsTotalOrder R) where
     ascending-insert : (x : X) (ys : List X) → IsStrictlySortedBy R ys → IsStrictlySortedBy R (insert_by R x ys)

@@ -1,16 +1,6 @@
 -- A stable sort, of whose result the first of those that tie are kept.
-use Rattle.std.proofs.Common.{◌≡◌, inl, inr, Bool, true, false, List, [], ◌∷◌, Some, cond, refl, sym, ◌∙◌, ap, subst, map}
-use Rattle.std.specs.Prelude.{Contains, find, slice_get, not, ◌&&◌}
-use Rattle.std.specs.declared.cmp.Ordering.{Ordering}
-use Rattle.std.specs.declared.cmp.Ordering.TheVariants.{Less, Equal, Greater}
-use Rattle.std.specs.Ordering.{eq_by_cmp, is_eq, is_lt, ordering_reverse}
-use Rattle.std.specs.Cmp.{Equal-is, IsEquivalence, IsTotalOrder}
-use Rattle.std.specs.List.{dedup, dedup_from}
-use Rattle.std.specs.List.Sorted.{IsSorted, IsStable, ties}
-use Rattle.std.proofs.lemmas.Bool.{false≢true}
-use Rattle.std.proofs.lemmas.Cmp.{eq_by_cmp_equiv}
-use Rattle.std.proofs.lemmas.List.Kept.{IsStrictlySortedBy-dedup}
-use Rattle.dv_text.specs.Sorting.{insert_by, sorted_by}
+use Rattle.dv_text.proofs.Vocabulary.{◌≡◌, inl, inr, Bool, true, false, List, [], ◌∷◌, Some, cond, refl, sym, ◌∙◌, ap, subst, map, find, not, ◌&&◌, Contains, slice_get, Ordering, Less, Equal, Greater, eq_by_cmp, is_eq, is_lt, ordering_reverse, Equal-is, IsEquivalence, IsTotalOrder, dedup}
+use Rattle.dv_text.proofs.Vocabulary.{dedup_from, IsSorted, IsStable, ties, false≢true, eq_by_cmp_equiv, IsStrictlySortedBy-dedup, insert_by, sorted_by}
 use Rattle.dv_text.proofs.Members.{Contains-nil}
 use Rattle.dv_text.proofs.Passing.{find_same, find-filter}
 use Rattle.dv_text.proofs.SortedLists.{ascending-sorted_by, inserted_cases, inserted_here, inserted_there, one_of_ties, same_ascending, sorted_by-sorted}

@@ -1,4 +1,4 @@
-use Rattle.std.proofs.Common.{arith}
+use Rattle.dv_board.proofs.Vocabulary.{arith}
 use Rattle.dv_board.proofs.KeyClosing.{begins_table}
 use Rattle.dv_board.proofs.key_table.begin.Goals as goal
 

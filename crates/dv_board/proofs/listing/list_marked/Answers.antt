@@ -1,5 +1,4 @@
-use Rattle.std.proofs.Common.{arith, ◌≡◌, ◌+◌, ap, sym, ◌∙◌, subst, ℕ, List, length, length-set, take}
-use Rattle.dv_board.specs.Listing.{marked}
+use Rattle.dv_board.proofs.Vocabulary.{arith, ◌≡◌, ◌+◌, ap, sym, ◌∙◌, subst, ℕ, List, length, length-set, take, marked}
 use Rattle.dv_board.proofs.Listed.{listed_one, listed_none}
 use Rattle.dv_board.proofs.listing.list_marked.Goals as goal
 use Rattle.dv_board.proofs.listing.list_marked.Goals.{then-marks-item, else-marks-item}

@@ -1,5 +1,4 @@
-use Rattle.std.specs.Prelude.{◌≡◌, ◌≤◌, length, take}
-use Rattle.dv_board.specs.Listing.{marked}
+use Rattle.dv_board.proofs.Vocabulary.{◌≡◌, ◌≤◌, length, take, marked}
 use Rattle.dv_board.proofs.listing.list_marked.Given as goal
 
 abbrev pub invariant-loop-item : goal.invariant-loop-item

@@ -1,6 +1,4 @@
-use Rattle.std.proofs.Common.{rules, arith, ◌+◌, ◌-◌, true, ap, sym, ◌∙◌, subst, length, length-set}
-use Rattle.std.specs.Slots.{slots_items}
-use Rattle.dv_board.specs.Listing.{AreMarked}
+use Rattle.dv_board.proofs.Vocabulary.{rules, arith, ◌+◌, ◌-◌, true, ap, sym, ◌∙◌, subst, length, length-set, slots_items, AreMarked}
 use Rattle.dv_board.proofs.Listed.{marks_none, marks_skip, marks_word, at_word}
 use Rattle.dv_board.proofs.listing.mark_taken.Goals as goal
 use Rattle.dv_board.proofs.listing.mark_taken.Goals.{then-word-ne0, else-word-ne0}

@@ -1,6 +1,4 @@
-use Rattle.std.specs.Prelude.{◌≡◌, length}
-use Rattle.std.specs.Slots.{slots_items}
-use Rattle.dv_board.specs.Listing.{AreMarked}
+use Rattle.dv_board.proofs.Vocabulary.{◌≡◌, length, slots_items, AreMarked}
 use Rattle.dv_board.proofs.listing.mark_taken.Given as goal
 
 abbrev pub invariant-loop-slot : goal.invariant-loop-slot

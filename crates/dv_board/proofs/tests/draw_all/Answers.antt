@@ -1,6 +1,4 @@
-use Rattle.std.proofs.Common.{arith, ◌≡◌, ◌+◌, ◌-◌, ◌≤◌, ap, sym, ◌∙◌, subst}
-use Rattle.dv_board.specs.Boards.{Claimant}
-use Rattle.dv_board.specs.Counting.{times}
+use Rattle.dv_board.proofs.Vocabulary.{arith, ◌≡◌, ◌+◌, ◌-◌, ◌≤◌, ap, sym, ◌∙◌, subst, Claimant, times}
 use Rattle.dv_board.proofs.Sums.{times_last}
 use Rattle.dv_board.proofs.tests.draw_all.Goals as goal
 

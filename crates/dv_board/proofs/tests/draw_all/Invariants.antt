@@ -1,5 +1,4 @@
-use Rattle.std.specs.Prelude.{◌≡◌, ◌-◌, ◌<◌, ◌≤◌, false}
-use Rattle.dv_board.specs.Counting.{times}
+use Rattle.dv_board.proofs.Vocabulary.{◌≡◌, ◌-◌, ◌<◌, ◌≤◌, false, times}
 use Rattle.dv_board.proofs.tests.draw_all.Given as goal
 
 abbrev pub decreases-draws : goal.decreases-draws

@@ -1,5 +1,4 @@
-use Rattle.std.specs.Prelude.{◌≡◌}
-use Rattle.dv_board.specs.KeyTables.{IsSeatOf}
+use Rattle.dv_board.proofs.Vocabulary.{◌≡◌, IsSeatOf}
 use Rattle.dv_board.proofs.tests.offer_range.Given as goal
 
 abbrev pub invariant-items : goal.invariant-items

@@ -1,5 +1,4 @@
-use Rattle.std.proofs.Common.{[], ◌∷◌, length, arith, length-append, ap, ◌∙◌}
-use Rattle.dv_text.specs.Keys.{joined}
+use Rattle.dv_digest.proofs.Vocabulary.{[], ◌∷◌, length, arith, length-append, ap, ◌∙◌, joined}
 use Rattle.dv_digest.proofs.Joins.{joined-cons, next_fits, all_put}
 use Rattle.dv_digest.proofs.hashes.put_texts.Goals as goal
 

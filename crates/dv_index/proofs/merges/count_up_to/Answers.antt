@@ -1,7 +1,4 @@
-use Rattle.std.proofs.Common.{rules}
-use Rattle.std.specs.Prelude.{not}
-use Rattle.std.proofs.lemmas.List.Sorted.{IsPartitionPoint-from_clause}
-use Rattle.dv_index.specs.Numbers.{parents_of}
+use Rattle.dv_index.proofs.Vocabulary.{rules, not, IsPartitionPoint-from_clause, parents_of}
 use Rattle.dv_index.proofs.Merging.{up_to_first}
 use Rattle.dv_index.proofs.Order.{number_lt, number_order}
 use Rattle.dv_index.proofs.merges.count_up_to.Goals as goal

@@ -1,9 +1,4 @@
-use Rattle.std.proofs.Common.{◌≡◌, ◌-◌, arith, length, refl, ◌∙◌}
-use Rattle.std.specs.List.{range_with_len}
-use Rattle.std.proofs.lemmas.List.{length-map}
-use Rattle.std.proofs.lemmas.List.FromFn.{length-range_with_len}
-use Rattle.std.proofs.lemmas.List.Sorted.{length_permutation}
-use Rattle.dv_index.specs.Numbers.{parents_of}
+use Rattle.dv_index.proofs.Vocabulary.{◌≡◌, ◌-◌, arith, length, refl, ◌∙◌, range_with_len, length-map, length-range_with_len, length_permutation, parents_of}
 use Rattle.dv_index.proofs.Grown.{grown_numbers, still_sorted}
 use Rattle.dv_index.proofs.merges.grow.Goals as goal
 

@@ -1,6 +1,4 @@
-use Rattle.std.proofs.Common.{◌≡◌, ◌-◌, ◌++◌, arith, ap, drop, get_or, length, refl, take, ◌∙◌}
-use Rattle.std.proofs.lemmas.List.{length-take-le, take_at}
-use Rattle.dv_index.specs.Numbers.{parents_of}
+use Rattle.dv_index.proofs.Vocabulary.{◌≡◌, ◌-◌, ◌++◌, arith, ap, drop, get_or, length, refl, take, ◌∙◌, length-take-le, take_at, parents_of}
 use Rattle.dv_index.proofs.Merging.{begins, ends, goes_on}
 use Rattle.dv_index.proofs.Order.{number_lt, number_order}
 use Rattle.dv_index.proofs.merges.merge.Goals as goal

@@ -1,4 +1,4 @@
-use Rattle.dv_index.specs.Numbers.{parents_of}
+use Rattle.dv_index.proofs.Vocabulary.{parents_of}
 use Rattle.dv_index.proofs.Order.{number_lt, number_order}
 use Rattle.dv_index.proofs.Merging.{IsMerging}
 use Rattle.dv_index.proofs.merges.merge.Given as goal

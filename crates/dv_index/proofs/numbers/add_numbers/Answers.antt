@@ -1,6 +1,4 @@
-use Rattle.std.proofs.Common.{◌+◌, ◌-◌, [], ◌∷◌, ◌++◌, length, arith, ap, append_assoc, length-append, ◌∙◌, sym}
-use Rattle.std.specs.List.{range_with_len}
-use Rattle.std.proofs.lemmas.List.FromFn.{length-range_with_len}
+use Rattle.dv_index.proofs.Vocabulary.{◌+◌, ◌-◌, [], ◌∷◌, ◌++◌, length, arith, ap, append_assoc, length-append, ◌∙◌, sym, range_with_len, length-range_with_len}
 use Rattle.dv_index.proofs.Ranges.{range_more}
 use Rattle.dv_index.proofs.numbers.add_numbers.Goals as goal
 

@@ -1,6 +1,4 @@
-use Rattle.std.proofs.Common.{◌≡◌, ◌≤◌, ◌-◌, ◌++◌}
-use Rattle.std.specs.Prelude.{vec_capacity}
-use Rattle.std.specs.List.{range_with_len}
+use Rattle.dv_index.proofs.Vocabulary.{◌≡◌, ◌≤◌, ◌-◌, ◌++◌, vec_capacity, range_with_len}
 use Rattle.dv_index.proofs.numbers.add_numbers.Given as goal
 
 -- the numbers so far

@@ -1,6 +1,4 @@
-use Rattle.std.proofs.Common.{◌≡◌, arith, length, refl, ◌∙◌}
-use Rattle.std.proofs.lemmas.List.{length-map}
-use Rattle.dv_index.specs.Numbers.{parents_of}
+use Rattle.dv_index.proofs.Vocabulary.{◌≡◌, arith, length, refl, ◌∙◌, length-map, parents_of}
 use Rattle.dv_index.proofs.Grown.{all_numbers}
 use Rattle.dv_index.proofs.numbers.complete.Goals as goal
 

@@ -1,6 +1,4 @@
-use Rattle.std.proofs.Common.{rules}
-use Rattle.std.proofs.lemmas.Fn.{always_returns_same}
-use Rattle.dv_index.specs.Numbers.{parents_of}
+use Rattle.dv_index.proofs.Vocabulary.{rules, always_returns_same, parents_of}
 use Rattle.dv_index.proofs.Order.{number_lt, number_order}
 use Rattle.dv_index.proofs.numbers.sort_numbers.Goals as goal
 

@@ -1,6 +1,4 @@
-use Rattle.std.proofs.Common.{rules}
-use Rattle.std.proofs.lemmas.List.Sorted.{IsPartitionPoint-from_clause}
-use Rattle.dv_index.specs.Numbers.{is_reached, loads_of, parents_of}
+use Rattle.dv_index.proofs.Vocabulary.{rules, IsPartitionPoint-from_clause, is_reached, loads_of, parents_of}
 use Rattle.dv_index.proofs.Order.{reached_first}
 use Rattle.dv_index.proofs.searches.reached_count.Goals as goal
 

@@ -1,5 +1,4 @@
-use Rattle.std.proofs.Common.{◌≡◌, length}
-use Rattle.dv_index.specs.Places.{are_in_load_order}
+use Rattle.dv_index.proofs.Vocabulary.{◌≡◌, length, are_in_load_order}
 use Rattle.dv_index.proofs.tests.are_in_order.Given as goal
 
 -- the rows before are in order with all behind them

@@ -1,7 +1,4 @@
-use Rattle.std.proofs.Common.{◌≡◌, ◌∙◌, Some, None, get_or, refl, arith, sym}
-use Rattle.std.proofs.lemmas.List.{length-map, map_push, append-nil}
-use Rattle.std.proofs.lemmas.Option.{slice_get-get_or}
-use Rattle.dv_index.specs.Numbers.{last_row, parents_of}
+use Rattle.dv_index.proofs.Vocabulary.{◌≡◌, ◌∙◌, Some, None, get_or, refl, arith, sym, append-nil, length-map, map_push, slice_get-get_or, last_row, parents_of}
 use Rattle.dv_index.proofs.Order.{within}
 use Rattle.dv_index.proofs.Walk.{walk_more}
 use Rattle.dv_index.proofs.walks.last_rows.Goals as goal
@@ -20,7 +17,8 @@ loop-place-preserved g c =
       | then-is_last+in_ok-push w ↦
           let pushed = (w.in_ok-push.ensures {u = tt}).items in
           let last = sym c.is_last.ensures ∙ w.if-is_last.true in
-          let there = slice_get-get_or c.args.rows.now (get_or c.args.index.now c.loop-place.place 0) w.index-rows-index.result (rw length-map at (within (parents_of g.R.Placed.place c.args.rows.now) c.args.index.now c.requires c.loop-place.place 0 c.loop-place-test.true)) in
+          let inside = rw length-map at (within (parents_of g.R.Placed.place c.args.rows.now) c.args.index.now c.requires c.loop-place.place 0 c.loop-place-test.true) in
+          let there = slice_get-get_or c.args.rows.now (get_or c.args.index.now c.loop-place.place 0) w.index-rows-index.result inside in
           let row : h c.loop-place.place ≡ Some w.index-rows-index.result = rw (last, there, ← w.index-rows-index.is) refl in
           rw (w.found-is, pushed, map_push, c.loop-place.invariant, walk_more h c.loop-place.place (Some w.index-rows-index.result) row) refl
       | else-is_last w ↦

@@ -1,6 +1,4 @@
-use Rattle.std.proofs.Common.{◌≡◌, map}
-use Rattle.std.specs.List.{filter_map, range_with_len}
-use Rattle.dv_index.specs.Numbers.{last_row}
+use Rattle.dv_index.proofs.Vocabulary.{◌≡◌, map, filter_map, range_with_len, last_row}
 use Rattle.dv_index.proofs.walks.last_rows.Given as goal
 
 -- those found so far

@@ -1,4 +1,4 @@
-use Rattle.std.proofs.Common.{◌∙◌}
+use Rattle.dv_index.proofs.Vocabulary.{◌∙◌}
 use Rattle.dv_index.proofs.Walk.{walk_is}
 use Rattle.dv_index.proofs.walks.latest_of_each.Goals as goal
 

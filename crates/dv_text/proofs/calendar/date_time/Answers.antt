@@ -1,7 +1,4 @@
-use Rattle.std.proofs.Common.{arith, ◌≡◌, pos, ◌-ℤ◌, ◌<◌, ◌^◌, ℕ, to_z, of_z, w64}
-use Rattle.std.specs.Prelude.{unsigned_abs}
-use Rattle.std.proofs.lemmas.Int.{ints}
-use Rattle.jiff_core.proofs.SignedLemmas.{signed_arith, back_small, unsigned_abs-parts, one_part}
+use Rattle.dv_text.proofs.Vocabulary.{arith, ◌≡◌, pos, ◌-ℤ◌, ◌<◌, ◌^◌, ℕ, to_z, of_z, w64, unsigned_abs, ints, signed_arith, back_small, unsigned_abs-parts, one_part}
 use Rattle.dv_text.proofs.Days.{Placed, placed}
 use Rattle.dv_text.proofs.calendar.date_time.Goals as goal
 

@@ -1,9 +1,4 @@
-use Rattle.std.proofs.Common.{arith, ◌≡◌, ℤ, pos, ◌+ℤ◌, ◌+◌, ◌*◌, ◌<◌, ◌^◌, to_z, of_z, w64, ℕ, refl}
-use Rattle.std.proofs.lemmas.Bool.{false≢true}
-use Rattle.std.specs.Prelude.{unsigned_abs}
-use Rattle.jiff_core.proofs.SignedLemmas.{signed_arith, back_small, unsigned_abs-parts, one_part}
-use Rattle.jiff_core.specs.Time.{time_seconds}
-use Rattle.dv_text.specs.Stamps.{days_since_1900}
+use Rattle.dv_text.proofs.Vocabulary.{arith, ◌≡◌, ℤ, pos, ◌+ℤ◌, ◌+◌, ◌*◌, ◌<◌, ◌^◌, to_z, of_z, w64, ℕ, refl, false≢true, unsigned_abs, signed_arith, back_small, unsigned_abs-parts, one_part, time_seconds, days_since_1900}
 use Rattle.dv_text.proofs.Days.{day_range, day_since, has_instant, second_since}
 use Rattle.dv_text.proofs.calendar.seconds_at.Goals as goal
 

@@ -1,4 +1,4 @@
-use Rattle.std.proofs.Common.{sym}
+use Rattle.dv_text.proofs.Vocabulary.{sym}
 use Rattle.dv_text.proofs.Forms.{shown, there-parts}
 use Rattle.dv_text.proofs.Shown.{stamp_text-is}
 use Rattle.dv_text.proofs.calendar.shown.Goals as goal

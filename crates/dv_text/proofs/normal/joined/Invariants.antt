@@ -1,5 +1,4 @@
-use Rattle.std.proofs.Common.{◌≡◌, ◌∷◌, take}
-use Rattle.std.specs.List.{join_with_byte}
+use Rattle.dv_text.proofs.Vocabulary.{◌≡◌, ◌∷◌, take, join_with_byte}
 use Rattle.dv_text.proofs.normal.joined.Given as goal
 
 -- the parts so far, joined

@@ -1,5 +1,4 @@
-use Rattle.std.proofs.Common.{rules, arith, ◌∙◌, sym, ap}
-use Rattle.dv_board.specs.Boards.{Claimant, BoardId}
+use Rattle.dv_board.proofs.Vocabulary.{rules, arith, ◌∙◌, sym, ap, Claimant, BoardId}
 use Rattle.dv_board.proofs.BoardMoves.{claims}
 use Rattle.dv_board.proofs.board.Board.claim.Goals as goal
 

@@ -1,7 +1,4 @@
-use Rattle.std.proofs.Common.{arith, ◌≡◌, min, ap, sym, ◌∙◌}
-use Rattle.std.specs.Prelude.{slice_index}
-use Rattle.dv_board.specs.Counting.{times, once_below}
-use Rattle.dv_board.specs.Boards.{Claimant, BoardId}
+use Rattle.dv_board.proofs.Vocabulary.{arith, ◌≡◌, min, ap, sym, ◌∙◌, slice_index, times, once_below, Claimant, BoardId}
 use Rattle.dv_board.proofs.BoardMoves.{closes, first_word}
 use Rattle.dv_board.proofs.board.Board.close.Goals as goal
 

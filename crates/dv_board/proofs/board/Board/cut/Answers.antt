@@ -1,5 +1,4 @@
-use Rattle.std.proofs.Common.{rules, arith, ap, sym, ◌∙◌}
-use Rattle.dv_board.specs.Boards.{Claimant, BoardId}
+use Rattle.dv_board.proofs.Vocabulary.{rules, arith, ap, sym, ◌∙◌, Claimant, BoardId}
 use Rattle.dv_board.proofs.BoardMoves.{splits}
 use Rattle.dv_board.proofs.board.Board.cut.Goals as goal
 

@@ -1,5 +1,4 @@
-use Rattle.std.proofs.Common.{rules, ap, sym, ◌∙◌}
-use Rattle.dv_board.specs.Boards.{Claimant, BoardId}
+use Rattle.dv_board.proofs.Vocabulary.{rules, ap, sym, ◌∙◌, Claimant, BoardId}
 use Rattle.dv_board.proofs.BoardMoves.{joins}
 use Rattle.dv_board.proofs.board.Board.join.Goals as goal
 

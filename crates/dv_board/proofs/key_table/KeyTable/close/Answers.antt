@@ -1,8 +1,4 @@
-use Rattle.std.proofs.Common.{arith, ◌≡◌, ℕ, List, Bool, false, length, ap, sym, ◌∙◌, subst}
-use Rattle.std.proofs.lemmas.List.{length-replicate}
-use Rattle.dv_board.specs.declared.views.Keys.{Keys}
-use Rattle.dv_board.specs.KeyTables.{Keyed, Offerer, AreLeastOffered}
-use Rattle.dv_board.specs.Listing.{AreMarked, marked}
+use Rattle.dv_board.proofs.Vocabulary.{arith, ◌≡◌, ℕ, List, Bool, false, length, ap, sym, ◌∙◌, subst, length-replicate, Keys, Keyed, Offerer, AreLeastOffered, AreMarked, marked}
 use Rattle.dv_board.proofs.KeyCalls.{known}
 use Rattle.dv_board.proofs.KeyClosing.{closes}
 use Rattle.dv_board.proofs.key_table.KeyTable.close.Goals as goal

@@ -1,6 +1,4 @@
-use Rattle.std.proofs.Common.{arith, ap, sym, ◌∙◌}
-use Rattle.dv_board.specs.declared.views.Keys.{Keys}
-use Rattle.dv_board.specs.KeyTables.{Keyed, Offerer}
+use Rattle.dv_board.proofs.Vocabulary.{arith, ap, sym, ◌∙◌, Keys, Keyed, Offerer}
 use Rattle.dv_board.proofs.KeyCalls.{splits_kept}
 use Rattle.dv_board.proofs.key_table.KeyTable.cut.Goals as goal
 

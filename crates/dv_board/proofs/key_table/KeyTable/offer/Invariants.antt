@@ -1,5 +1,4 @@
-use Rattle.std.specs.Prelude.{◌≡◌, ◌<◌, ◌≤◌, [], length}
-use Rattle.dv_board.specs.Probing.{IsProbing}
+use Rattle.dv_board.proofs.Vocabulary.{◌≡◌, ◌<◌, ◌≤◌, [], length, IsProbing}
 use Rattle.dv_board.proofs.key_table.KeyTable.offer.Given as goal
 
 abbrev pub invariant-probe : goal.invariant-probe

@@ -1,10 +1,4 @@
-use Rattle.std.proofs.Common.{arith, ◌≡◌, ◌+◌, ◌-◌, ◌*◌, ◌<◌, true, length, get_or, sym, ap, ◌∙◌}
-use Rattle.std.specs.Prelude.{◌==◌}
-use Rattle.std.proofs.lemmas.Nat.{mod_below}
-use Rattle.dv_board.specs.declared.views.Keys.{Keys}
-use Rattle.dv_board.specs.Items.{home_of}
-use Rattle.dv_board.specs.KeyTables.{Keyed}
-use Rattle.dv_board.specs.KeyRule.{begun, met_by}
+use Rattle.dv_board.proofs.Vocabulary.{arith, ◌≡◌, ◌+◌, ◌-◌, ◌*◌, ◌<◌, true, length, get_or, sym, ap, ◌∙◌, ◌==◌, mod_below, Keys, home_of, Keyed, begun, met_by}
 use Rattle.dv_board.proofs.KeyCalls.{meets_kept, lowers_kept}
 use Rattle.dv_board.proofs.KeyProbes.{meets_same, met_on, met_lists}
 use Rattle.dv_board.proofs.key_table.KeyTable.try_slot.Goals as goal

@@ -1,7 +1,4 @@
-use Rattle.std.proofs.Common.{arith, ◌≡◌, ◌<◌, length, ◌∙◌, get_or}
-use Rattle.std.specs.Prelude.{◌==◌}
-use Rattle.dv_board.specs.TaggedLaws.{same_tags, length_of_keys}
-use Rattle.std.proofs.lemmas.List.{get_or_default}
+use Rattle.dv_board.proofs.Vocabulary.{arith, ◌≡◌, ◌<◌, length, ◌∙◌, get_or, ◌==◌, same_tags, length_of_keys, get_or_default}
 use Rattle.dv_board.proofs.tagged.TaggedKeyItems.same.Goals as goal
 
 pub returns : goal.returns

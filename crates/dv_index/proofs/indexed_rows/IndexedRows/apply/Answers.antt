@@ -1,4 +1,4 @@
-use Rattle.std.proofs.Common.{◌∙◌, arith}
+use Rattle.dv_index.proofs.Vocabulary.{◌∙◌, arith}
 use Rattle.dv_index.proofs.Grown.{counted, kept_index}
 use Rattle.dv_index.proofs.indexed_rows.IndexedRows.apply.Goals as goal
 

@@ -1,6 +1,4 @@
-use Rattle.std.proofs.Common.{sym, ◌∙◌, ap}
-use Rattle.std.proofs.lemmas.Bool.{eqb-true}
-use Rattle.dv_text.specs.Stamps.{stamp_text}
+use Rattle.dv_text.proofs.Vocabulary.{sym, ◌∙◌, ap, eqb-true, stamp_text}
 use Rattle.dv_text.proofs.Shown.{stamp_text-open}
 use Rattle.dv_text.proofs.stamps.Stamp.print.Goals as goal
 
