@@ -1,11 +1,5 @@
 -- What a loop that looks for a name that stands earlier keeps.
-use Rattle.std.proofs.Common.{◌≡◌, ℕ, ◌+◌, ◌<◌, Bool, true, false, cond, List, length, get_or, take, drop, map, Some, None, sym, ◌∙◌, ap}
-use Rattle.std.specs.List.{list_any}
-use Rattle.std.specs.Option.{option_or}
-use Rattle.std.specs.Str.{bytes_eq}
-use Rattle.std.proofs.lemmas.List.{drop_more, take_more, map-append}
-use Rattle.dv_text.proofs.Passing.{list_any-map}
-use Rattle.dv_catalog.specs.Lookups.{again_after, text_twice}
+use Rattle.dv_catalog.proofs.Vocabulary.{◌≡◌, ℕ, ◌+◌, ◌<◌, Bool, true, false, cond, List, length, get_or, take, drop, map, Some, None, sym, ◌∙◌, ap, list_any, option_or, bytes_eq, drop_more, take_more, map-append, list_any-map, again_after, text_twice}
 
 -- the search after one entry more
 pub again_turn : {X : Type 0} (f : X → List ℕ) (xs : List X) (i : ℕ) (d : X) → i < length xs

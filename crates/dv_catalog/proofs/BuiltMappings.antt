@@ -1,13 +1,6 @@
 -- The forms of a mapping that the program takes.
-use Rattle.std.proofs.Common.{◌≡◌, ℕ, zero, suc, ◌+◌, ◌==◌, Bool, true, false, not, codes, length, List, [], ◌∷◌, Option, Some, None, refl, sym, ◌∙◌, ap}
-use Rattle.std.specs.Prelude.{slice_get}
-use Rattle.std.proofs.lemmas.Bool.{eqb-true}
-use Rattle.std.proofs.lemmas.List.{nil_from_length}
-use Rattle.dv_catalog.specs.declared.entries.FeedDef.{FeedDef}
-use Rattle.dv_catalog.specs.declared.entries.PathDef.{PathDef}
-use Rattle.dv_catalog.specs.Built.{first_place, key_if, unbuilt, unbuilt_feed, unbuilt_path}
-use Rattle.dv_catalog.specs.Entries.{Mapping}
-use Rattle.dv_text.proofs.Options.{none_before_map, or_none}
+use Rattle.dv_catalog.proofs.Vocabulary.{◌≡◌, ℕ, zero, suc, ◌+◌, ◌==◌, Bool, true, false, not, codes, length, List, [], ◌∷◌, Option, Some, None, refl, sym, ◌∙◌, ap, slice_get, eqb-true, nil_from_length, FeedDef, PathDef, first_place, key_if, unbuilt, unbuilt_feed, unbuilt_path, Mapping}
+use Rattle.dv_catalog.proofs.Vocabulary.{none_before_map, or_none}
 
 -- a form that does not stand there
 absent : (lacks : Bool) (key : List ℕ) → key_if (not lacks) key ≡ None → lacks ≡ true

@@ -1,7 +1,9 @@
-mod SameEntries
-mod TableSteps
 pub mod Again
 pub mod BuiltMappings
+pub mod FirstAnswers
 pub mod PlaceSteps
+mod SameEntries
 pub mod TablesIn
+mod TableSteps
 pub mod ValidReads
+pub mod Vocabulary

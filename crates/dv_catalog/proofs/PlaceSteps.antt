@@ -1,9 +1,5 @@
 -- The place of the first item that passes a test, or else the number of items.
-use Rattle.std.proofs.Common.{◌≡◌, ℕ, ◌+◌, ◌<◌, ◌≤◌, Bool, true, false, cond, not, List, [], ◌∷◌, ◌++◌, length, get_or, map, take, nat_lt, Some, None, refl, arith, unwrap_or}
-use Rattle.std.specs.List.{position, position_or_len}
-use Rattle.std.proofs.lemmas.List.{map_more}
-use Rattle.std.proofs.lemmas.List.Sums.{prefix_len-le-length}
-use Rattle.std.proofs.lemmas.Bool.Decides.{nat_tests}
+use Rattle.dv_catalog.proofs.Vocabulary.{◌≡◌, ℕ, ◌+◌, ◌<◌, ◌≤◌, Bool, true, false, cond, not, List, [], ◌∷◌, ◌++◌, length, get_or, map, take, nat_lt, Some, None, refl, arith, unwrap_or, position, position_or_len, map_more, prefix_len-le-length, nat_tests}
 
 pub place_or_len : {X : Type 0} (p : X → Bool) (xs : List X) → unwrap_or (position p xs) (length xs) ≡ position_or_len p xs
 place_or_len {X} p xs = by (nat_lt (position_or_len p xs) (length xs)) refl

@@ -1,13 +1,5 @@
 -- Entries that compare as equal are equal.
-use Rattle.std.proofs.Common.{◌≡◌, ℕ, Bool, ◌&&◌, ◌==◌, List, Decides, nat_eq, refl, ap}
-use Rattle.std.specs.Cmp.Lexicographic.{pointwise}
-use Rattle.std.proofs.lemmas.Bool.Decides.{Decides-and, Decides-eqb, Decides-like}
-use Rattle.std.proofs.lemmas.Slice.Eq.{bytes_eq-Decides, slice_eq-Decides}
-use Rattle.dv_catalog.specs.declared.entries.FeedDef.{FeedDef}
-use Rattle.dv_catalog.specs.declared.entries.HubDef.{HubDef}
-use Rattle.dv_catalog.specs.declared.entries.LinkDef.{LinkDef}
-use Rattle.dv_catalog.specs.declared.entries.PathDef.{PathDef}
-use Rattle.dv_catalog.specs.declared.entries.Parent.{Parent}
+use Rattle.dv_catalog.proofs.Vocabulary.{◌≡◌, ℕ, Bool, ◌&&◌, ◌==◌, List, Decides, nat_eq, refl, ap, pointwise, Decides-and, Decides-eqb, Decides-like, bytes_eq-Decides, slice_eq-Decides, FeedDef, HubDef, LinkDef, PathDef, Parent}
 
 numbers_decide : (a b : List ℕ) → Decides (pointwise nat_eq a b) (a ≡ b)
 numbers_decide a b = bytes_eq-Decides a b

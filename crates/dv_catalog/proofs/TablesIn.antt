@@ -1,20 +1,6 @@
 -- The tables of a mapping are of its hubs, links and feeds, and so is the table with a name.
-use Rattle.std.proofs.Common.{◌≡◌, ℕ, ◌+◌, ◌<◌, ◌≤◌, true, List, [], ◌∷◌, ◌++◌, length, get_or, map, nat_lt, Some, refl, sym, ◌∙◌, ap, arith}
-use Rattle.std.specs.Prelude.{Contains}
-use Rattle.std.specs.List.{list_all, range_with_len}
-use Rattle.std.specs.Str.{bytes_eq}
-use Rattle.std.proofs.lemmas.Bool.{and_from}
-use Rattle.std.proofs.lemmas.Bool.Decides.{nat_tests}
-use Rattle.std.proofs.lemmas.List.FromFn.{get_or-range_with_len, length-range_with_len}
-use Rattle.std.proofs.lemmas.List.Elements.{Contains-get_or}
-use Rattle.dv_catalog.specs.declared.entries.FeedDef.{FeedDef}
-use Rattle.dv_catalog.specs.declared.tables.TableId.{TableId}
-use Rattle.dv_catalog.specs.declared.tables.TableId.TheVariants.{Hub, Link, Status}
-use Rattle.dv_catalog.specs.Entries.{Mapping}
-use Rattle.dv_catalog.specs.TableLookups.{is_table_of, table_named}
-use Rattle.dv_catalog.specs.Tables.{effect_tables, feed_tables, sat_tables, table_name, tables}
-use Rattle.dv_text.proofs.Members.{map_member}
-use Rattle.dv_text.proofs.Passing.{all_pass, all_pass_both, found_member, passes_at}
+use Rattle.dv_catalog.proofs.Vocabulary.{◌≡◌, ℕ, ◌+◌, ◌<◌, ◌≤◌, true, List, [], ◌∷◌, ◌++◌, length, get_or, map, nat_lt, Some, refl, sym, ◌∙◌, ap, arith, Contains, list_all, range_with_len, bytes_eq, and_from, nat_tests, get_or-range_with_len, length-range_with_len, Contains-get_or, FeedDef}
+use Rattle.dv_catalog.proofs.Vocabulary.{TableId, Hub, Link, Status, Mapping, is_table_of, table_named, effect_tables, feed_tables, sat_tables, table_name, tables, map_member, all_pass, all_pass_both, found_member, passes_at}
 
 below : (n k : ℕ) → Contains (range_with_len 0 n) k → nat_lt k n ≡ true
 below n k (i, under, there) =

@@ -1,28 +1,13 @@
 -- What a valid mapping keeps to, part by part.
-use Rattle.std.proofs.Common.{◌≡◌, ℕ, ◌+◌, ◌≤◌, true, not, ◌&&◌, ◌||◌, ◌==◌, length, map, nat_le, Some, None}
-use Rattle.std.specs.Prelude.{is_none, slice_get}
-use Rattle.std.specs.List.{list_all, zip}
-use Rattle.std.proofs.lemmas.Bool.{and_parts, eqb-true}
-use Rattle.std.proofs.lemmas.Bool.Decides.{nat_tests}
-use Rattle.std.proofs.Common.{arith}
-use Rattle.dv_text.proofs.Options.{none_from}
-use Rattle.dv_text.proofs.Passing.{passes_got}
-use Rattle.dv_catalog.specs.declared.entries.FeedDef.{FeedDef}
-use Rattle.dv_catalog.specs.declared.entries.HubDef.{HubDef}
-use Rattle.dv_catalog.specs.declared.entries.LinkDef.{LinkDef}
-use Rattle.dv_catalog.specs.declared.entries.PathDef.{PathDef}
-use Rattle.dv_catalog.specs.Checks.{all_columns, mapped_count}
-use Rattle.dv_catalog.specs.Entries.{Mapping}
-use Rattle.dv_catalog.specs.Feeds.{parent_hubs, parts_of}
-use Rattle.dv_catalog.specs.Limits.{has_column_form, has_name_form, is_within, most_columns, most_feeds, most_hubs, most_ignored, most_links, most_parts, most_paths, most_references, most_steps}
-use Rattle.dv_catalog.specs.Lookups.{number_twice, text_twice}
-use Rattle.dv_catalog.specs.Mappings.{are_joined_by, is_declared, is_hub, is_link_feed, is_valid, is_valid_driver, is_valid_feed, is_valid_hub, is_valid_link, is_valid_path}
+use Rattle.dv_catalog.proofs.Vocabulary.{◌≡◌, ℕ, ◌+◌, ◌≤◌, true, not, ◌&&◌, ◌||◌, ◌==◌, length, map, nat_le, Some, None, arith, is_none, slice_get, list_all, zip, and_parts, eqb-true, nat_tests, none_from, passes_got, FeedDef, HubDef, LinkDef, PathDef, all_columns, mapped_count, Mapping}
+use Rattle.dv_catalog.proofs.Vocabulary.{parent_hubs, parts_of, has_column_form, has_name_form, is_within, most_columns, most_feeds, most_hubs, most_ignored, most_links, most_parts, most_paths, most_references, most_steps, number_twice, text_twice, are_joined_by, is_declared, is_hub}
+use Rattle.dv_catalog.proofs.Vocabulary.{is_link_feed, is_valid, is_valid_driver, is_valid_feed, is_valid_hub, is_valid_link, is_valid_path}
 
 pub record ValidParts (mapping : Mapping) : Type 0 where
-  pub few_hubs : length mapping.hubs ≤ 32
-  pub few_links : length mapping.links ≤ 32
-  pub few_feeds : length mapping.feeds ≤ 64
-  pub few_paths : length mapping.paths ≤ 16
+  pub few_hubs : length mapping.hubs ≤ most_hubs
+  pub few_links : length mapping.links ≤ most_links
+  pub few_feeds : length mapping.feeds ≤ most_feeds
+  pub few_paths : length mapping.paths ≤ most_paths
   pub hubs_apart : is_none (text_twice (map (λ hub. hub.name) mapping.hubs)) ≡ true
   pub links_apart : is_none (text_twice (map (λ link. link.name) mapping.links)) ≡ true
   pub feeds_apart : is_none (text_twice (map (λ feed. feed.name) mapping.feeds)) ≡ true
@@ -49,10 +34,10 @@ valid_parts m e =
     let (e10, few_feeds) = and_parts _ (nat_le (length m.feeds) most_feeds) e9 in
     let (few_hubs, few_links) = and_parts (nat_le (length m.hubs) most_hubs) (nat_le (length m.links) most_links) e10 in
     record {
-      few_hubs = at_most (length m.hubs) 32 few_hubs;
-      few_links = at_most (length m.links) 32 few_links;
-      few_feeds = at_most (length m.feeds) 64 few_feeds;
-      few_paths = at_most (length m.paths) 16 few_paths;
+      few_hubs = at_most (length m.hubs) most_hubs few_hubs;
+      few_links = at_most (length m.links) most_links few_links;
+      few_feeds = at_most (length m.feeds) most_feeds few_feeds;
+      few_paths = at_most (length m.paths) most_paths few_paths;
       hubs_apart = hubs_apart;
       links_apart = links_apart;
       feeds_apart = feeds_apart;
@@ -71,19 +56,19 @@ within low high n e =
 pub record ValidHub (hub : HubDef) : Type 0 where
   pub named : has_name_form hub.name ≡ true
   pub some_parts : 1 ≤ hub.parts
-  pub few_parts : hub.parts ≤ 4
+  pub few_parts : hub.parts ≤ most_parts
 
 -- what a hub of a valid mapping keeps to
 pub valid_hub : (m : Mapping) → is_valid m ≡ true → (i : ℕ) (hub : HubDef) → slice_get m.hubs i ≡ Some hub → ValidHub hub
 valid_hub m valid i hub got =
     let (named, parts) = and_parts (has_name_form hub.name) (is_within 1 most_parts hub.parts) (passes_got is_valid_hub m.hubs i hub (valid_parts m valid).hubs got) in
-    let bounds = within 1 4 hub.parts parts in
+    let bounds = within 1 most_parts hub.parts parts in
     record { named = named; some_parts = bounds.0; few_parts = bounds.1 }
 
 pub record ValidLink (m : Mapping) (link : LinkDef) : Type 0 where
   pub named : has_name_form link.name ≡ true
   pub some_hubs : 2 ≤ length link.hubs
-  pub few_hubs : length link.hubs ≤ 4
+  pub few_hubs : length link.hubs ≤ most_references
   pub in_range : list_all (is_hub m) link.hubs ≡ true
   pub apart : number_twice link.hubs ≡ None
 
@@ -93,7 +78,7 @@ valid_link m valid i link got =
     let (e1, apart) = and_parts _ (is_none (number_twice link.hubs)) (passes_got (is_valid_link m) m.links i link (valid_parts m valid).links got) in
     let (e2, in_range) = and_parts _ (list_all (is_hub m) link.hubs) e1 in
     let (named, count) = and_parts (has_name_form link.name) (is_within 2 most_references (length link.hubs)) e2 in
-    let bounds = within 2 4 (length link.hubs) count in
+    let bounds = within 2 most_references (length link.hubs) count in
     record { named = named; some_hubs = bounds.0; few_hubs = bounds.1; in_range = in_range; apart = none_from (number_twice link.hubs) apart }
 
 pub record ValidFeed (m : Mapping) (feed : FeedDef) : Type 0 where
@@ -104,8 +89,8 @@ pub record ValidFeed (m : Mapping) (feed : FeedDef) : Type 0 where
   pub parts : list_all (λ (columns, hub). length columns == parts_of (slice_get m.hubs hub)) (zip feed.keys (parent_hubs m feed.parent)) ≡ true
   pub formed : list_all has_column_form (all_columns feed.keys feed.sub feed.attrs feed.ignore) ≡ true
   pub apart : text_twice (all_columns feed.keys feed.sub feed.attrs feed.ignore) ≡ None
-  pub few_columns : mapped_count feed.keys feed.sub feed.attrs ≤ 32
-  pub few_ignored : length feed.ignore ≤ 64
+  pub few_columns : mapped_count feed.keys feed.sub feed.attrs ≤ most_columns
+  pub few_ignored : length feed.ignore ≤ most_ignored
   pub described : ((length feed.sub == 0) || not (length feed.attrs == 0)) ≡ true
   pub driver : is_valid_driver feed ≡ true
 
@@ -132,8 +117,8 @@ valid_feed m valid i feed got =
       parts = parts;
       formed = formed;
       apart = none_from (text_twice columns) apart;
-      few_columns = at_most (mapped_count feed.keys feed.sub feed.attrs) 32 few_columns;
-      few_ignored = at_most (length feed.ignore) 64 few_ignored;
+      few_columns = at_most (mapped_count feed.keys feed.sub feed.attrs) most_columns few_columns;
+      few_ignored = at_most (length feed.ignore) most_ignored few_ignored;
       described = described;
       driver = driver;
     }
@@ -141,7 +126,7 @@ valid_feed m valid i feed got =
 pub record ValidPath (m : Mapping) (path : PathDef) : Type 0 where
   pub named : has_name_form path.name ≡ true
   pub some_feeds : 1 ≤ length path.feeds
-  pub few_feeds : length path.feeds ≤ 4
+  pub few_feeds : length path.feeds ≤ most_steps
   pub of_links : list_all (λ feed. is_link_feed (slice_get m.feeds feed)) path.feeds ≡ true
   pub one_less : length path.via + 1 ≡ length path.feeds
   pub joined : are_joined_by m path.feeds path.via ≡ true
@@ -153,7 +138,7 @@ valid_path m valid i path got =
     let (e2, one_less) = and_parts _ (length path.via + 1 == length path.feeds) e1 in
     let (e3, of_links) = and_parts _ (list_all (λ feed. is_link_feed (slice_get m.feeds feed)) path.feeds) e2 in
     let (named, count) = and_parts (has_name_form path.name) (is_within 1 most_steps (length path.feeds)) e3 in
-    let bounds = within 1 4 (length path.feeds) count in
+    let bounds = within 1 most_steps (length path.feeds) count in
     record {
       named = named;
       some_feeds = bounds.0;

@@ -25,12 +25,15 @@ again_in_link before link = option_or (if list_any (λ other. bytes_eq other.nam
 abbrev pub again_in_links : List LinkOutline → List LinkOutline → Option (List ℕ)
 again_in_links before links = first_along again_in_link before links
 
--- the first name that stands earlier among the hubs, the links, the feeds or the paths, or in a link
-abbrev pub first_again : Outline → Option (List ℕ)
-first_again outline =
-    first_of (
+-- the names that stand earlier: among the hubs, among the links or in one, among the feeds, among the paths
+abbrev pub again_by_kind : Outline → List (Option (List ℕ))
+again_by_kind outline =
     text_twice (map (λ hub. hub.name) outline.hubs) ∷ again_in_links [] outline.links ∷ text_twice (map (λ feed. feed.name) outline.feeds)
-    ∷ text_twice (map (λ path. path.name) outline.paths) ∷ [])
+    ∷ text_twice (map (λ path. path.name) outline.paths) ∷ []
+
+-- the first of them
+abbrev pub first_again : Outline → Option (List ℕ)
+first_again outline = first_of (again_by_kind outline)
 
 -- 3: two hubs, two links, two feeds or two paths have one name, or a link names a hub twice
 abbrev pub name_twice : Outline → Option MapError
@@ -173,16 +176,19 @@ mapped_count keys sub attrs = sum_by length keys + length sub + length attrs
 abbrev pub kind_if : Bool → List ℕ → Option (List ℕ)
 kind_if over kind = if over then Some kind else None
 
--- the first limit that is passed
-abbrev pub first_over : Outline → Option (List ℕ)
-first_over outline =
-    first_of (
+-- the limits that are passed, by what they count
+abbrev pub over_limits : Outline → List (Option (List ℕ))
+over_limits outline =
     kind_if (nat_lt most_hubs (length outline.hubs)) (codes "hubs") ∷ kind_if (nat_lt most_links (length outline.links)) (codes "links")
     ∷ kind_if (nat_lt most_feeds (length outline.feeds)) (codes "feeds") ∷ kind_if (nat_lt most_paths (length outline.paths)) (codes "paths")
     ∷ kind_if (list_any (λ link. nat_lt most_references (length link.hubs)) outline.links) (codes "references")
     ∷ kind_if (list_any (λ feed. nat_lt most_columns (mapped_count feed.keys feed.sub feed.attrs)) outline.feeds) (codes "columns")
     ∷ kind_if (list_any (λ feed. nat_lt most_ignored (length feed.ignore)) outline.feeds) (codes "ignored")
-    ∷ kind_if (list_any (λ path. nat_lt most_steps (length path.feeds)) outline.paths) (codes "steps") ∷ [])
+    ∷ kind_if (list_any (λ path. nat_lt most_steps (length path.feeds)) outline.paths) (codes "steps") ∷ []
+
+-- the first limit that is passed
+abbrev pub first_over : Outline → Option (List ℕ)
+first_over outline = first_of (over_limits outline)
 
 -- 13: there are more entries, or more in an entry, than the limits let in
 abbrev pub too_many : Outline → Option MapError
@@ -198,10 +204,13 @@ all_names outline =
 abbrev pub name_form : Outline → Option MapError
 name_form outline = option_map (λ name. NameForm name) (find (λ name. not (has_name_form name)) (all_names outline))
 
--- the first fault of a mapping file whose entries have their form
-abbrev pub fault_of : Outline → Option MapError
-fault_of outline =
-    first_of (
+-- the faults of a mapping file whose entries have their form, by their numbers
+abbrev pub faults : Outline → List (Option MapError)
+faults outline =
     name_twice outline ∷ unknown_hub outline ∷ unknown_link outline ∷ key_count outline ∷ no_key outline ∷ column_twice outline
     ∷ sub_without_attrs outline ∷ driver_not_in_link outline ∷ driver_with_sub outline ∷ path_broken outline ∷ too_many outline
-    ∷ name_form outline ∷ [])
+    ∷ name_form outline ∷ []
+
+-- the first of them
+abbrev pub fault_of : Outline → Option MapError
+fault_of outline = first_of (faults outline)

@@ -1,5 +1,6 @@
 ghost use Rattle.std.specs.Prelude.{◌≡◌, ◌↔◌, ◌<◌, ◌≤◌, IsTrue, Some, length, position, slice_get};
 ghost use Rattle.std.specs.Str.{bytes_eq};
+ghost use Rattle.dv_catalog.specs.Limits.{most_feeds};
 ghost use Rattle.dv_catalog.specs.Mappings.{is_valid};
 
 use crate::entries::{FeedDef, HubDef, LinkDef, PathDef};
@@ -80,6 +81,13 @@ impl Catalog {
             && same_paths(&self.paths, &other.paths)
     }
 
+    /// Does nothing: a call tells a proof that the mapping is valid.
+    pub fn note_valid(&self)
+        ensures { IsTrue (is_valid self.now) }
+    {
+        let _hubs = &self.hubs;
+    }
+
     /// The number of hubs. Takes no memory.
     #[tactic(auto, using(crate::proofs::ValidReads::valid_parts))]
     pub fn hub_count(&self) -> u32
@@ -155,7 +163,7 @@ impl Catalog {
     #[tactic(auto, using(crate::proofs::ValidReads::valid_parts))]
     pub fn feeds(&self) -> &[FeedDef]
         ensures value { result.now ≡ self.now.feeds }
-        ensures few { length result.now ≤ 64 }
+        ensures few { length result.now ≤ most_feeds }
     {
         self.feeds.items()
     }

@@ -1,11 +1,5 @@
 -- A walk over the keys of a table that looks for the first that is not known.
-use Rattle.std.proofs.Common.{◌≡◌, ℕ, Bool, true, false, not, List, [], ◌∷◌, map, find, Option, Some, refl, ap, String, Global, string_bytes, Bor}
-use Rattle.std.specs.List.{list_any}
-use Rattle.std.specs.Str.{bytes_eq}
-use Rattle.toml.specs.View.{members_view}
-use Rattle.toml.proofs.Views.{Entry}
-use Rattle.dv_catalog.specs.Documents.{keys_of}
-use Rattle.dv_catalog.specs.Shapes.{unknown_key}
+use Rattle.dv_mapfile.proofs.Vocabulary.{◌≡◌, ℕ, Bool, true, false, not, List, [], ◌∷◌, map, find, Option, Some, refl, ap, String, Global, string_bytes, Bor, list_any, bytes_eq, members_view, Entry, keys_of, unknown_key}
 
 -- whether a key is known, as the code asks
 abbrev pub is_known : List (Bor (List ℕ)) → List ℕ → Bool

@@ -4,8 +4,8 @@ ghost use Rattle.std.specs.Prelude.{◌≡◌, ◌≢◌, Err, IfErr, IfOk, Ok};
 ghost use Rattle.dv_catalog.specs.MappingFiles.{read_mapping};
 
 use crate::mapping_files::read_outline;
-use crate::mappings::catalog_of;
 use dv_catalog::{Catalog, MapError};
+use dv_checks::catalog_of;
 use std::alloc::Global;
 
 /// The mapping of a mapping file's bytes. The errors are the first refusal by number, and of one number

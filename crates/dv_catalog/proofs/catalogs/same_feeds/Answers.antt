@@ -1,6 +1,4 @@
-use Rattle.std.proofs.Common.{◌≡◌, false, true, Decides, ap}
-use Rattle.std.proofs.lemmas.Bool.Decides.{Decides-eqb, Decides-like}
-use Rattle.dv_catalog.specs.declared.entries.Parent.{Parent}
+use Rattle.dv_catalog.proofs.Vocabulary.{◌≡◌, false, true, Decides, ap, Decides-eqb, Decides-like, Parent}
 use Rattle.dv_catalog.specs.declared.entries.Parent.TheVariants.{Hub, Link}
 use Rattle.dv_catalog.specs.contracts.entries.ParentPartialEq.TheImpl as derived
 use Rattle.dv_catalog.proofs.SameEntries.{feeds_decide}

@@ -1,6 +1,4 @@
-use Rattle.std.proofs.Common.{◌≡◌, map, take, drop}
-use Rattle.std.specs.Str.{bytes_eq}
-use Rattle.dv_catalog.specs.Lookups.{again_after, text_twice}
+use Rattle.dv_catalog.proofs.Vocabulary.{◌≡◌, map, take, drop, bytes_eq, again_after, text_twice}
 use Rattle.dv_catalog.proofs.lookups.name_again.Given as goal
 
 abbrev pub invariant-loop-i : goal.invariant-loop-i

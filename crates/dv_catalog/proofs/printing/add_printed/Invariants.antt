@@ -1,5 +1,4 @@
-use Rattle.std.proofs.Common.{◌≡◌, ◌++◌, take}
-use Rattle.dv_catalog.specs.Printed.{printed}
+use Rattle.dv_catalog.proofs.Vocabulary.{◌≡◌, ◌++◌, take, printed}
 use Rattle.dv_catalog.proofs.printing.add_printed.Given as goal
 
 abbrev pub invariant-loop-byte : goal.invariant-loop-byte

@@ -1,6 +1,4 @@
-use Rattle.std.proofs.Common.{◌≡◌, ◌∷◌, ◌++◌, [], take}
-use Rattle.std.specs.List.{flat_map}
-use Rattle.dv_catalog.specs.Printed.{printed}
+use Rattle.dv_catalog.proofs.Vocabulary.{◌≡◌, ◌∷◌, ◌++◌, [], take, flat_map, printed}
 use Rattle.dv_catalog.proofs.rule_texts.key_shown.Given as goal
 
 -- the parts so far

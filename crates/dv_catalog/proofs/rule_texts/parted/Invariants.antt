@@ -1,5 +1,4 @@
-use Rattle.std.proofs.Common.{◌≡◌, ◌∷◌, take}
-use Rattle.std.specs.List.{join_with_byte}
+use Rattle.dv_catalog.proofs.Vocabulary.{◌≡◌, ◌∷◌, take, join_with_byte}
 use Rattle.dv_catalog.proofs.rule_texts.parted.Given as goal
 
 -- the texts so far, parted

@@ -1,4 +1,4 @@
-use Rattle.dv_catalog.specs.declared.tables.TableId.TheVariants.{Hub}
+use Rattle.dv_catalog.proofs.Vocabulary.{Hub}
 use Rattle.dv_catalog.proofs.TableSteps.{numbered_more}
 use Rattle.dv_catalog.proofs.table_lists.add_hubs.Goals as goal
 

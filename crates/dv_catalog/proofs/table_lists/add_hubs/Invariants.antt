@@ -1,6 +1,4 @@
-use Rattle.std.proofs.Common.{◌≡◌, ◌++◌, map}
-use Rattle.std.specs.List.{range_with_len}
-use Rattle.dv_catalog.specs.declared.tables.TableId.TheVariants.{Hub}
+use Rattle.dv_catalog.proofs.Vocabulary.{◌≡◌, ◌++◌, map, range_with_len, Hub}
 use Rattle.dv_catalog.proofs.table_lists.add_hubs.Given as goal
 
 abbrev pub invariant-loop-n : goal.invariant-loop-n

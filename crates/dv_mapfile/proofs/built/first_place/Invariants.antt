@@ -1,4 +1,4 @@
-use Rattle.std.proofs.Common.{◌≡◌, ◌+◌, drop}
+use Rattle.dv_mapfile.proofs.Vocabulary.{◌≡◌, ◌+◌, drop}
 use Rattle.dv_catalog.specs.Built as spec
 use Rattle.dv_mapfile.proofs.built.first_place.Given as goal
 

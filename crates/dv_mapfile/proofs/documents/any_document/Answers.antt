@@ -1,10 +1,4 @@
-use Rattle.std.proofs.Common.{◌≡◌, ◌∙◌, ℕ, Bool, true, false, List, Some, None, refl, sym}
-use Rattle.std.proofs.lemmas.Bool.{false≢true}
-use Rattle.std.proofs.lemmas.Str.{is_utf8-from_IsUtf8, IsUtf8-from_is_utf8}
-use Rattle.std.specs.Str.{is_utf8, IsUtf8}
-use Rattle.toml.specs.Data.{Members}
-use Rattle.toml.specs.Parse.{parse_document}
-use Rattle.dv_catalog.specs.Documents.{document_of}
+use Rattle.dv_mapfile.proofs.Vocabulary.{◌≡◌, ◌∙◌, ℕ, Bool, true, false, List, Some, None, refl, sym, false≢true, is_utf8-from_IsUtf8, IsUtf8-from_is_utf8, is_utf8, IsUtf8, Members, parse_document, document_of}
 use Rattle.dv_mapfile.proofs.documents.any_document.Goals as goal
 
 read : (bytes : List ℕ) (document : Members) → IsUtf8 bytes → parse_document bytes ≡ Some document → document_of bytes ≡ Some document

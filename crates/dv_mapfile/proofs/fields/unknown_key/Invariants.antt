@@ -1,5 +1,4 @@
-use Rattle.std.proofs.Common.{◌≡◌, map}
-use Rattle.toml.specs.View.{members_view}
+use Rattle.dv_mapfile.proofs.Vocabulary.{◌≡◌, map, members_view}
 use Rattle.dv_catalog.specs.Shapes as shape
 use Rattle.dv_mapfile.proofs.Keys.{first_unknown}
 use Rattle.dv_mapfile.proofs.fields.unknown_key.Given as goal

@@ -1,5 +1,4 @@
-use Rattle.std.proofs.Common.{◌≡◌, ◌++◌, drop, option_map}
-use Rattle.toml.specs.View.{items_view}
+use Rattle.dv_mapfile.proofs.Vocabulary.{◌≡◌, ◌++◌, drop, option_map, items_view}
 use Rattle.dv_catalog.specs.Forms as spec
 use Rattle.dv_mapfile.proofs.forms.each.Given as goal
 

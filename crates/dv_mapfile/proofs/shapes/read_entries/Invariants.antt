@@ -1,7 +1,5 @@
-use Rattle.std.proofs.Common.{◌≡◌, ◌+◌, ◌++◌, drop, map, Ok}
-use Rattle.toml.specs.View.{table_view}
+use Rattle.dv_mapfile.proofs.Vocabulary.{◌≡◌, ◌+◌, ◌++◌, drop, map, Ok, table_view, ◌>>=◌}
 use Rattle.dv_catalog.specs.Shapes as shape
-use Rattle.dv_catalog.specs.Steps.{◌>>=◌}
 use Rattle.dv_mapfile.proofs.shapes.read_entries.Given as goal
 
 -- the entries so far stand before those of the tables that are left

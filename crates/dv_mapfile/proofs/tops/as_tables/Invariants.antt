@@ -1,6 +1,4 @@
-use Rattle.std.proofs.Common.{◌≡◌, ◌++◌, drop, map, option_map}
-use Rattle.toml.specs.Data.{as_table}
-use Rattle.toml.specs.View.{items_view, table_view}
+use Rattle.dv_mapfile.proofs.Vocabulary.{◌≡◌, ◌++◌, drop, map, option_map, as_table, items_view, table_view}
 use Rattle.dv_catalog.specs.Forms as spec
 use Rattle.dv_mapfile.proofs.tops.as_tables.Given as goal
 

@@ -1,6 +1,4 @@
-use Rattle.std.proofs.Common.{◌≡◌, drop, find}
-use Rattle.std.specs.Str.{bytes_eq}
-use Rattle.dv_catalog.specs.TableLookups.{table_named}
+use Rattle.dv_catalog.proofs.Vocabulary.{◌≡◌, drop, find, bytes_eq, table_named}
 use Rattle.dv_catalog.specs.Tables as spec
 use Rattle.dv_catalog.proofs.catalogs.Catalog.find_table.Given as goal
 

@@ -1,7 +1,0 @@
-use Rattle.std.proofs.Common.{◌≡◌, drop, map}
-use Rattle.dv_catalog.specs.FirstOf.{first_of}
-use Rattle.dv_catalog.specs.Checks as spec
-use Rattle.dv_mapfile.proofs.feed_checks.column_twice.Given as goal
-
-abbrev pub invariant-loop-feed : goal.invariant-loop-feed
-invariant-loop-feed l = first_of (map spec.column_again (drop l.feed-index l.outline.feeds)) ≡ spec.column_twice l.outline

@@ -1,9 +1,0 @@
-use Rattle.dv_mapfile.proofs.ValidMappings.{few_references, parts_valid}
-use Rattle.dv_mapfile.proofs.mappings.mapping_of.Goals as goal
-
-pub feed_defs-requires-clause-references_few : goal.feed_defs-requires-clause-references_few
-feed_defs-requires-clause-references_few c = λ parent. rw c.items-4.ensures (few_references c.args.outline c.requires.faultless parent)
-
-pub new-requires : goal.new-requires
-new-requires c =
-    parts_valid c.args.outline _ _ _ _ _ _ _ _ _ c.items-5.ensures c.items-3.ensures c.items.ensures c.items-4.ensures c.items-2.ensures c.in_ok-hubs.ensures c.in_ok-links.ensures c.in_ok-feeds.ensures c.in_ok-paths.ensures c.requires.faultless c.requires.formed

@@ -1,6 +1,0 @@
-use Rattle.std.proofs.Common.{◌≡◌, map}
-use Rattle.dv_catalog.specs.Mappings as spec
-use Rattle.dv_mapfile.proofs.mappings.path_defs.Given as goal
-
-abbrev pub invariant-loop-path : goal.invariant-loop-path
-invariant-loop-path l = l.defs ≡ map (spec.path_def l.hubs l.feeds) l.yielded

@@ -1,9 +1,0 @@
-use Rattle.std.proofs.Common.{◌≡◌, drop, not, find}
-use Rattle.std.specs.List.{filter_map}
-use Rattle.dv_catalog.specs.Checks as spec
-use Rattle.dv_mapfile.proofs.name_checks.first_unknown_link.Given as goal
-
-abbrev pub invariant-loop-feed : goal.invariant-loop-feed
-invariant-loop-feed l =
-    find (λ name. not (spec.is_link l.outline name)) (filter_map (λ feed. spec.parent_link feed.parent) (drop l.feed-index l.outline.feeds))
-    ≡ find (λ name. not (spec.is_link l.outline name)) (filter_map (λ feed. spec.parent_link feed.parent) l.outline.feeds)

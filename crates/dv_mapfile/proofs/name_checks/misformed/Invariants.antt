@@ -1,8 +1,0 @@
-use Rattle.std.proofs.Common.{◌≡◌, drop, map, not, find}
-use Rattle.dv_catalog.specs.Limits.{has_name_form}
-use Rattle.dv_mapfile.proofs.name_checks.misformed.Given as goal
-
-abbrev pub invariant-loop-entry : goal.invariant-loop-entry
-invariant-loop-entry g l =
-    find (λ name. not (has_name_form name)) (map g.T.Named.name_of (drop l.entry-index l.entries))
-    ≡ find (λ name. not (has_name_form name)) (map g.T.Named.name_of l.entries)
