@@ -1,21 +1,7 @@
 -- One feed more on the way through the feeds of a window.
-use Rattle.std.proofs.Common.{◌≡◌, ℕ, suc, ◌+◌, ◌-◌, ◌<◌, ◌≤◌, List, [], ◌∷◌, ◌++◌, Option, Some, None, length, map, refl, sym, ◌∙◌, ap, arith}
-use Rattle.std.specs.Prelude.{filter_map, option_map, option_and_then, slice_get}
-use Rattle.std.specs.List.{cons_option, range_with_len}
-use Rattle.std.proofs.lemmas.List.{append_assoc}
-use Rattle.dv_text.specs.declared.rows.NRow.{NRow}
-use Rattle.dv_text.specs.declared.rows.Staged.{Staged}
-use Rattle.dv_catalog.specs.declared.rules.Rule.{Rule}
-use Rattle.dv_catalog.specs.declared.windows.ExtractIn.{ExtractIn}
-use Rattle.dv_catalog.specs.Entries.{Mapping}
-use Rattle.dv_catalog.specs.FirstOf.{first_of}
-use Rattle.dv_catalog.specs.Readings.{Read, broken_rule, reads, taken_count}
-use Rattle.dv_catalog.specs.Readings.Read.{Broken, Taken}
-use Rattle.dv_catalog.specs.Windows.{PlacedExtract, ReadExtract, extract_at, given_for, reads_after, room_after, staged_from}
-use Rattle.dv_stage.specs.declared.faults.StageFault.{StageFault}
+use Rattle.dv_judge.proofs.Vocabulary.{◌≡◌, ℕ, suc, ◌+◌, ◌-◌, ◌<◌, ◌≤◌, List, [], ◌∷◌, ◌++◌, Option, Some, None, length, map, refl, sym, ◌∙◌, ap, arith, append_assoc, filter_map, cons_option, range_with_len, option_map, slice_get, option_and_then, NRow, Staged, Rule, ExtractIn, Mapping, first_of}
+use Rattle.dv_judge.proofs.Vocabulary.{Read, broken_rule, reads, taken_count, Broken, Taken, PlacedExtract, ReadExtract, extract_at, given_for, reads_after, room_after, staged_from, StageFault, TellsRule, TellsFeed, read_at}
 use Rattle.dv_stage.specs.declared.faults.StageFault.TheVariants as faults
-use Rattle.dv_stage.specs.Faults.{TellsRule}
-use Rattle.dv_judge.specs.Staging.{TellsFeed, read_at}
 
 -- what the extracts of the feeds from a place on read as
 abbrev pub reads_from : Mapping → List ExtractIn → ℕ → ℕ → List ReadExtract
@@ -28,18 +14,31 @@ range_at j n at =
     let more : n - j ≡ suc (n - (j + 1)) = omega (arith, at) in
     rw more refl
 
--- where nothing is given for a feed, it is passed over
+-- where nothing is given for a feed, it is passed over; what is given is read first, and those behind it with so much less room
+abbrev then_feed : Mapping → List ExtractIn → ℕ → ℕ → Option Read → List ReadExtract
+then_feed mapping extracts feed taken None = reads_from mapping extracts (feed + 1) taken
+then_feed mapping extracts feed taken (Some read) = record { feed = feed; read = read } ∷ reads_from mapping extracts (feed + 1) (taken + taken_count read)
+
+feed_step : (mapping : Mapping) (extracts : List ExtractIn) (feed taken : ℕ) → feed < length mapping.feeds → reads_from mapping extracts feed taken ≡ then_feed mapping extracts feed taken (read_at mapping extracts taken feed)
+feed_step mapping extracts feed taken at =
+    ap (λ places. reads_after mapping taken (filter_map (extract_at mapping extracts) places)) (range_at feed (length mapping.feeds) at)
+    ∙ by (option_and_then (given_for extracts) (slice_get mapping.feeds feed))
+  where
+    placed : ExtractIn → PlacedExtract
+    placed extract = record { feed = feed; bytes = extract.bytes }
+
+    by : (found : Option ExtractIn) → reads_after mapping taken (cons_option (option_map placed found) (filter_map (extract_at mapping extracts) (range_with_len (feed + 1) (length mapping.feeds - (feed + 1)))))
+        ≡ then_feed mapping extracts feed taken (option_map (λ extract. reads mapping extract.feed extract.bytes (room_after taken)) (option_map placed found))
+    by None = refl
+    by (Some extract) = refl
+
 pub feed_absent : (mapping : Mapping) (extracts : List ExtractIn) (feed taken : ℕ) → feed < length mapping.feeds → read_at mapping extracts taken feed ≡ None
     → reads_from mapping extracts feed taken ≡ reads_from mapping extracts (feed + 1) taken
-feed_absent mapping extracts feed taken at none =
-    ap (λ places. reads_after mapping taken (filter_map (extract_at mapping extracts) places)) (range_at feed (length mapping.feeds) at)
-    ∙ by (extract_at mapping extracts feed) none
-  where
-    by : (found : Option PlacedExtract) → option_map (λ extract. reads mapping extract.feed extract.bytes (room_after taken)) found ≡ None
-        → reads_after mapping taken (cons_option found (filter_map (extract_at mapping extracts) (range_with_len (feed + 1) (length mapping.feeds - (feed + 1)))))
-        ≡ reads_from mapping extracts (feed + 1) taken
-    by None e = refl
-    by (Some extract) e = let no : Some (reads mapping extract.feed extract.bytes (room_after taken)) ≡ None = e in cc
+feed_absent mapping extracts feed taken at none = feed_step mapping extracts feed taken at ∙ ap (then_feed mapping extracts feed taken) none
+
+pub feed_read : (mapping : Mapping) (extracts : List ExtractIn) (feed taken : ℕ) (read : Read) → feed < length mapping.feeds → read_at mapping extracts taken feed ≡ Some read
+    → reads_from mapping extracts feed taken ≡ record { feed = feed; read = read } ∷ reads_from mapping extracts (feed + 1) (taken + taken_count read)
+feed_read mapping extracts feed taken read at some = feed_step mapping extracts feed taken at ∙ ap (then_feed mapping extracts feed taken) some
 
 -- the extract of a feed has the feed's place
 pub placed_at : (mapping : Mapping) (extracts : List ExtractIn) (feed : ℕ) (placed : PlacedExtract) → extract_at mapping extracts feed ≡ Some placed → placed.feed ≡ feed
@@ -52,23 +51,6 @@ placed_at mapping extracts feed placed e = by (option_and_then (given_for extrac
         let same : Some here ≡ Some placed = e in
         let is : here ≡ placed = cc in
         sym (ap (λ (p : PlacedExtract). p.feed) is)
-
--- what is given for a feed is read first, and those behind it with so much less room
-pub feed_read : (mapping : Mapping) (extracts : List ExtractIn) (feed taken : ℕ) (read : Read) → feed < length mapping.feeds → read_at mapping extracts taken feed ≡ Some read
-    → reads_from mapping extracts feed taken ≡ record { feed = feed; read = read } ∷ reads_from mapping extracts (feed + 1) (taken + taken_count read)
-feed_read mapping extracts feed taken read at some =
-    ap (λ places. reads_after mapping taken (filter_map (extract_at mapping extracts) places)) (range_at feed (length mapping.feeds) at)
-    ∙ by (extract_at mapping extracts feed) (placed_at mapping extracts feed) some
-  where
-    by : (found : Option PlacedExtract) → ((placed : PlacedExtract) → found ≡ Some placed → placed.feed ≡ feed)
-        → option_map (λ extract. reads mapping extract.feed extract.bytes (room_after taken)) found ≡ Some read
-        → reads_after mapping taken (cons_option found (filter_map (extract_at mapping extracts) (range_with_len (feed + 1) (length mapping.feeds - (feed + 1)))))
-        ≡ record { feed = feed; read = read } ∷ reads_from mapping extracts (feed + 1) (taken + taken_count read)
-    by None place e = let no : None ≡ Some read = e in cc
-    by (Some extract) place e =
-        let same : Some (reads mapping extract.feed extract.bytes (room_after taken)) ≡ Some read = e in
-        let is : reads mapping extract.feed extract.bytes (room_after taken) ≡ read = cc in
-        rw (is, place extract refl) refl
 
 -- behind the last feed nothing is read
 pub feeds_end : (mapping : Mapping) (extracts : List ExtractIn) (feed taken : ℕ) → length mapping.feeds ≤ feed → reads_from mapping extracts feed taken ≡ []

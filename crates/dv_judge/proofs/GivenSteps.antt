@@ -1,19 +1,6 @@
 -- Names that stood earlier, the last of them first.
-use Rattle.std.proofs.Common.{◌≡◌, ℕ, suc, ◌+◌, ◌<◌, Bool, true, false, ◌||◌, cond, List, [], ◌∷◌, Option, Some, None, length, get_or, take, drop, map, refl, sym, ◌∙◌, ap}
-use Rattle.std.specs.Prelude.{is_some, option_map, position, reverse}
-use Rattle.std.specs.List.{list_any}
-use Rattle.std.specs.Str.{bytes_eq}
-use Rattle.std.proofs.lemmas.List.{drop_more, take_more, map-append, reverse-append}
-use Rattle.std.proofs.lemmas.List.Sorted.{IsPermutation-reverse, list_any-IsPermutation}
-use Rattle.dv_catalog.specs.declared.entries.FeedDef.{FeedDef}
-use Rattle.dv_catalog.specs.declared.windows.ExtractIn.{ExtractIn}
-use Rattle.dv_catalog.specs.Entries.{Mapping}
-use Rattle.dv_records.specs.Outcomes.{is_feed, repeated_name}
-use Rattle.dv_stage.proofs.Places.{place_where, position-is}
-
-list_any-map : {X Y : Type 0} (p : Y → Bool) (f : X → Y) (xs : List X) → list_any p (map f xs) ≡ list_any (λ x. p (f x)) xs
-list_any-map p f [] = refl
-list_any-map p f (x ∷ xs) = rw (list_any-map p f xs)
+use Rattle.dv_judge.proofs.Vocabulary.{◌≡◌, ℕ, ◌+◌, ◌<◌, Bool, true, false, cond, List, [], ◌∷◌, Some, length, get_or, take, drop, map, refl, sym, ◌∙◌, ap, is_some, position, reverse, list_any, bytes_eq, drop_more, take_more, map-append, reverse-append, IsPermutation-reverse}
+use Rattle.dv_judge.proofs.Vocabulary.{list_any-IsPermutation, FeedDef, ExtractIn, Mapping, is_feed, repeated_name, is_placed, list_any-map}
 
 -- the feeds of extracts, the last first
 abbrev pub feeds_back : List ExtractIn → List (List ℕ)
@@ -57,18 +44,5 @@ name_passed xs i x r at is found fails invariant =
     let rest = rw again at (turn xs i x at) in
     sym rest ∙ invariant
 
-placed : {X : Type 0} (p : X → Bool) (xs : List X) → is_some (place_where p xs) ≡ list_any p xs
-placed p [] = refl
-placed {X} p (x ∷ xs) = by (p x) (place_where p xs) (placed p xs)
-  where
-    by : (b : Bool) (o : Option ℕ) → is_some o ≡ list_any p xs → is_some (cond b (Some 0) (option_map suc o)) ≡ (b || list_any p xs)
-    by true o e = refl
-    by false None e = e
-    by false (Some n) e = e
-
--- there is a place where a test is passed exactly where it is passed
-pub some_place : {X : Type 0} (p : X → Bool) (xs : List X) → is_some (position p xs) ≡ list_any p xs
-some_place p xs = ap is_some (position-is p xs) ∙ placed p xs
-
 pub feed_place : (mapping : Mapping) (name : List ℕ) → is_some (position (λ feed. bytes_eq feed.name name) mapping.feeds) ≡ is_feed mapping name
-feed_place mapping name = some_place (λ (feed : FeedDef). bytes_eq feed.name name) mapping.feeds
+feed_place mapping name = is_placed (λ (feed : FeedDef). bytes_eq feed.name name) mapping.feeds

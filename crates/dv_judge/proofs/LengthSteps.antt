@@ -1,11 +1,5 @@
 -- The rule of the extract that is too long.
-use Rattle.std.proofs.Common.{◌≡◌, ℕ, ◌+◌, ◌||◌, nat_lt, Bool, true, false, cond, List, [], ◌∷◌, Some, length, refl}
-use Rattle.std.specs.Prelude.{option_map}
-use Rattle.dv_catalog.specs.declared.rules.Rule.TheVariants.{TooLong}
-use Rattle.dv_catalog.specs.declared.windows.ExtractIn.{ExtractIn}
-use Rattle.dv_records.specs.Outcomes.{too_long_behind}
-use Rattle.dv_records.specs.Limits.{most_extract_bytes, most_window_bytes}
-use Rattle.dv_judge.specs.Lengths.{first_long}
+use Rattle.dv_judge.proofs.Vocabulary.{◌≡◌, ℕ, ◌+◌, ◌||◌, nat_lt, Bool, true, false, cond, List, [], ◌∷◌, Some, length, refl, option_map, TooLong, ExtractIn, too_long_behind, most_extract_bytes, most_window_bytes, first_long}
 
 pub long_rule : (bytes : ℕ) (extracts : List ExtractIn) → too_long_behind bytes extracts ≡ option_map (λ extract. TooLong extract.feed) (first_long bytes extracts)
 long_rule bytes [] = refl

@@ -2,6 +2,6 @@ pub mod FeedSteps
 pub mod GivenSteps
 pub mod LengthSteps
 pub mod NormalForms
-pub mod Passing
 pub mod ReadRows
 pub mod ReadWindows
+pub mod Vocabulary

@@ -1,13 +1,6 @@
 -- A normal form is its own, and no longer than the text.
-use Rattle.std.proofs.Common.{◌≡◌, ℕ, zero, suc, ◌+◌, ◌-◌, ◌<◌, ◌≤◌, Bool, true, false, List, [], ◌∷◌, length, get_or, take, drop, map, refl, sym, ◌∙◌, ap, arith, length-drop, length-take, one-add}
-use Rattle.std.specs.Prelude.{reverse}
-use Rattle.std.specs.List.{prefix_len, suffix_len}
-use Rattle.std.specs.Char.{to_ascii_uppercase}
-use mathlib.Core.List.{reverse_aux}
-use Rattle.std.proofs.lemmas.Bool.Decides.{nat_tests}
-use Rattle.std.proofs.lemmas.List.{get_or-reverse, length-map, length-reverse, drop-map, take-map}
-use Rattle.std.proofs.lemmas.List.Sums.{prefix_len_stops, suffix_len-take_no}
-use Rattle.dv_text.specs.Normal.{is_blank, norm_field, norm_key, without_leading, without_trailing}
+use Rattle.dv_judge.proofs.Vocabulary.{◌≡◌, ℕ, zero, suc, ◌+◌, ◌-◌, ◌<◌, ◌≤◌, Bool, true, false, List, [], ◌∷◌, length, get_or, take, drop, map, refl, sym, ◌∙◌, ap, arith, length-drop, length-take, one-add, reverse, prefix_len, suffix_len, to_ascii_uppercase, reverse_aux, nat_tests}
+use Rattle.dv_judge.proofs.Vocabulary.{get_or-reverse, length-map, length-reverse, drop-map, take-map, prefix_len_stops, suffix_len-take_no, is_blank, norm_field, norm_key, without_leading, without_trailing}
 
 module _ {X : Type 0} (p : X → Bool) where
   -- behind the items of a kind that a list begins with, none of the kind is first

@@ -1,22 +1,13 @@
 -- A list is a batch's value exactly where it meets the record.
-use Rattle.std.specs.declared.cmp.Ordering.{Ordering}
-use Rattle.std.specs.declared.cmp.Ordering.TheVariants.{Equal}
-use Rattle.std.specs.Cmp.{IsTotalOrder, on_total}
-use Rattle.std.specs.Cmp.Lexicographic.{nat_list_cmp_total}
-use Rattle.std.specs.FinMap.{nat_cmp-IsAntisymmetric, slice_cmp-IsAntisymmetric}
-use Rattle.std.specs.List.{filter_map}
-use Rattle.std.specs.Option.{option_map}
-use Rattle.std.specs.Prelude.{Contains}
-use Rattle.std.proofs.Common.{◌≡◌, ◌↔◌, ℕ, List, Option, Some, None, sym, ◌∙◌, ap, subst}
-use Rattle.dv_text.proofs.Members.{filter_map_member, member_of_filter_map}
-use Rattle.dv_text.proofs.SortedLists.{ascending-sorted_by, member_after_sort, member_before_sort, same_ascending}
-use Rattle.dv_records.specs.Batches.{batch_of, digest_cmp, IsBatchOf, IsWholeBatch}
+use Rattle.dv_records.proofs.Vocabulary.{Ordering, Equal, IsTotalOrder, on_total, nat_list_cmp_total, nat_cmp-IsAntisymmetric, slice_cmp-IsAntisymmetric, filter_map, option_map, Contains, ◌≡◌, ◌↔◌, ℕ, List, Option, Some, None, sym, ◌∙◌, ap, subst, filter_map_member, member_of_filter_map}
+use Rattle.dv_records.proofs.Vocabulary.{ascending-sorted_by, member_after_sort, member_before_sort, same_ascending, batch_of, digest_cmp, IsBatchOf, IsWholeBatch}
 
 -- each row of a batch is made of one of the things
 pub batch_made : {T R : Type 0} (cmp : R → R → Ordering) (row_of : T → Option R) (things : List T) (row : R) → Contains (batch_of cmp row_of things) row → (thing : T) × Contains things thing × (row_of thing ≡ Some row)
 batch_made cmp row_of things row has = filter_map_member row_of things row (member_before_sort cmp (filter_map row_of things) row has)
 
-module _ {T R : Type 0} (cmp : R → R → Ordering) (o : IsTotalOrder cmp) (row_of : T → Option R) (things : List T) (exact : (s t : T) (a b : R) → Contains things s → Contains things t → row_of s ≡ Some a → row_of t ≡ Some b → cmp a b ≡ Equal → a ≡ b) where
+module _ {T R : Type 0} (cmp : R → R → Ordering) (o : IsTotalOrder cmp) (row_of : T → Option R) (things : List T)
+    (exact : (s t : T) (a b : R) → Contains things s → Contains things t → row_of s ≡ Some a → row_of t ≡ Some b → cmp a b ≡ Equal → a ≡ b) where
   pub IsBatchOf-batch_of : IsBatchOf cmp row_of things (batch_of cmp row_of things)
   IsBatchOf-batch_of = record {
     ascending = ascending-sorted_by cmp o (filter_map row_of things);
@@ -41,7 +32,8 @@ module _ {T R : Type 0} (cmp : R → R → Ordering) (o : IsTotalOrder cmp) (row
   tied rows = (λ e. subst (IsBatchOf cmp row_of things) (sym e) IsBatchOf-batch_of, batch_of-IsBatchOf rows)
 
 -- the same of a batch in the order of its rows' digests, where no two things have one digest
-module _ {T R : Type 0} (digest : R → List ℕ) (hash : T → List ℕ) (row_of : T → Option R) (things : List T) (gives : (t : T) (r : R) → row_of t ≡ Some r → digest r ≡ hash t) (apart : (s t : T) → Contains things s → Contains things t → hash s ≡ hash t → s ≡ t) where
+module _ {T R : Type 0} (digest : R → List ℕ) (hash : T → List ℕ) (row_of : T → Option R) (things : List T) (gives : (t : T) (r : R) → row_of t ≡ Some r → digest r ≡ hash t)
+    (apart : (s t : T) → Contains things s → Contains things t → hash s ≡ hash t → s ≡ t) where
   one_row : (s t : T) (a b : R) → Contains things s → Contains things t → row_of s ≡ Some a → row_of t ≡ Some b → digest_cmp (digest a) (digest b) ≡ Equal → a ≡ b
   one_row s t a b s_in t_in a_is b_is e =
       let digests : digest a ≡ digest b = slice_cmp-IsAntisymmetric nat_cmp-IsAntisymmetric (digest a) (digest b) e in
@@ -53,7 +45,8 @@ module _ {T R : Type 0} (digest : R → List ℕ) (hash : T → List ℕ) (row_o
   tied_by_digest rows = tied _ (on_total digest nat_list_cmp_total) row_of things one_row rows
 
 -- where each thing that has a row is one of these, the things need no mention
-pub tied_whole : {T R : Type 0} {cmp : R → R → Ordering} {row_of : T → Option R} {things : List T} (stands : (t : T) (r : R) → row_of t ≡ Some r → Contains things t) (rows : List R) → (rows ≡ batch_of cmp row_of things) ↔ IsBatchOf cmp row_of things rows → (rows ≡ batch_of cmp row_of things) ↔ IsWholeBatch cmp row_of rows
+pub tied_whole : {T R : Type 0} {cmp : R → R → Ordering} {row_of : T → Option R} {things : List T} (stands : (t : T) (r : R) → row_of t ≡ Some r → Contains things t) (rows : List R)
+    → (rows ≡ batch_of cmp row_of things) ↔ IsBatchOf cmp row_of things rows → (rows ≡ batch_of cmp row_of things) ↔ IsWholeBatch cmp row_of rows
 tied_whole stands rows ties = (
   λ e.
       let is = ties.0 e in

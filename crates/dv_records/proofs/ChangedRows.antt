@@ -1,45 +1,10 @@
 -- The rows of a satellite say at each date which rows a list had when it was last there, for any kind of row that is made
 -- of an extract's row.
-use Rattle.std.specs.declared.cmp.Ordering.{Ordering}
-use Rattle.std.specs.Bool.{Decides}
-use Rattle.std.specs.Cmp.Lexicographic.{pointwise}
-use Rattle.std.specs.Prelude.{Contains, if◌then◌else◌, nat_le, find, not, ◌&&◌}
-use Rattle.std.specs.Str.{bytes_eq}
-use Rattle.std.proofs.Common.{◌≡◌, ℕ, Bool, true, false, List, [], ◌∷◌, Some, None, refl, sym, ◌∙◌, ap, subst, reverse, ◌⊎◌, inl, inr}
-use Rattle.std.proofs.lemmas.Bool.{and_from, and_parts, false≢true}
-use Rattle.std.proofs.lemmas.List.Elements.{Contains-append_left}
-use Rattle.std.proofs.lemmas.Slice.Eq.{slice_eq-Decides}
-use Rattle.dv_text.specs.declared.rows.Key.{Key}
-use Rattle.dv_text.specs.declared.rows.NRow.{NRow}
-use Rattle.dv_text.specs.Keys.{Hashes, refs_eq, row_eq, texts_eq}
-use Rattle.dv_text.proofs.Deciding.{refs_eq-Decides, texts_eq-Decides}
-use Rattle.dv_text.proofs.Members.{Contains-cons_here, Contains-cons_there, filtered_members, Contains-map, Contains-nil}
-use Rattle.dv_text.proofs.Passing.{some_passes_at, some_passes}
-use Rattle.dv_records.specs.Batches.{appended, IsBatchOf}
-use Rattle.dv_records.specs.Collisions.{IsApart}
-use Rattle.dv_records.specs.History.{Extract, all_refs, delivers, lists_of, up_to}
-use Rattle.dv_records.specs.Reconstruction.{first_attrs}
-use Rattle.dv_records.specs.Satellites.{is_changed, last_rows, rows_of, IsOnePerList}
+use Rattle.dv_records.proofs.Vocabulary.{Ordering, pointwise, Contains, if◌then◌else◌, find, ◌&&◌, nat_le, not, ◌≡◌, ℕ, Bool, true, false, List, [], ◌∷◌, Some, None, refl, sym, ◌∙◌, ap, subst, reverse, ◌⊎◌, inl, inr, bytes_eq, false≢true, not-false, Contains-append_left, slice_eq-Decides, Key}
+use Rattle.dv_records.proofs.Vocabulary.{NRow, Hashes, refs_eq, row_eq, refs_eq-Decides, row_eq-Decides, Contains-cons_here, Contains-cons_there, filtered_members, Contains-map, Contains-nil, some_passes_at, some_passes, appended, IsBatchOf, IsApart, Extract, all_refs, delivers, lists_of, up_to}
+use Rattle.dv_records.proofs.Vocabulary.{first_attrs, is_changed, last_rows, rows_of, IsOnePerList}
 use Rattle.dv_records.proofs.LastChange.{AreApart, Changes, IsStep, Tells, apart-older, last_change}
 use Rattle.dv_records.proofs.Reversing.{IsNewestFirst}
-
-pub row_eq-Decides : (a b : NRow) → Decides (row_eq a b) (a ≡ b)
-row_eq-Decides a b = (to, from)
-  where
-    to : row_eq a b ≡ true → a ≡ b
-    to e =
-        let parts = and_parts (refs_eq a.refs b.refs && texts_eq a.sub b.sub) (texts_eq a.attrs b.attrs) e in
-        let first = and_parts (refs_eq a.refs b.refs) (texts_eq a.sub b.sub) parts.0 in
-        let refs = (refs_eq-Decides a.refs b.refs).0 first.0 in
-        let sub = (texts_eq-Decides a.sub b.sub).0 first.1 in
-        let attrs = (texts_eq-Decides a.attrs b.attrs).0 parts.1 in
-        λ i. record { refs = refs i; sub = sub i; attrs = attrs i }
-
-    from : a ≡ b → row_eq a b ≡ true
-    from e =
-        and_from (refs_eq a.refs b.refs && texts_eq a.sub b.sub) (texts_eq a.attrs b.attrs)
-        (and_from (refs_eq a.refs b.refs) (texts_eq a.sub b.sub) ((refs_eq-Decides a.refs b.refs).1 (ap (λ (r : NRow). r.refs) e)) ((texts_eq-Decides a.sub b.sub).1 (ap (λ (r : NRow). r.sub) e)))
-        ((texts_eq-Decides a.attrs b.attrs).1 (ap (λ (r : NRow). r.attrs) e))
 
 -- rows of a list are rows, and of the list
 pub of_list : (rows : List NRow) (refs : List Key) (row : NRow) → Contains (rows_of rows refs) row → Contains rows row × (row.refs ≡ refs)
@@ -60,17 +25,18 @@ only_attrs rows single refs row has = by (rows_of rows refs) refl has
         ap first_attrs e ∙ ap (λ (r : NRow). Some r.attrs) one
 
 pub changed_false : (a b : List NRow) → not (pointwise row_eq a b) ≡ false → a ≡ b
-changed_false a b e = (slice_eq-Decides row_eq-Decides a b (pointwise row_eq a b) refl).0 (by (pointwise row_eq a b) e)
-  where
-    by : (r : Bool) → not r ≡ false → r ≡ true
-    by true e = refl
-    by false e = absurd (false≢true (sym e))
+changed_false a b e = (slice_eq-Decides row_eq-Decides a b (pointwise row_eq a b) refl).0 (not-false (pointwise row_eq a b) e)
 
 -- ---- extracts
 
 -- a kind of row made of an extract's row, and its batches: the rows of the lists whose rows are other ones than when they
 -- were last there
-module _ {R : Type 0} (parent_of : R → List ℕ) (load_of : R → ℕ) (cmp : R → R → Ordering) (make : Extract → NRow → R) (batch : List Extract → Extract → List R) (Single : List NRow → Type 0) (hashes : Hashes) (parents : (extract : Extract) (made : NRow) → parent_of (make extract made) ≡ hashes.hash made.refs) (loads : (extract : Extract) (made : NRow) → load_of (make extract made) ≡ extract.load) (is_batch : (older : List Extract) (newest : Extract) → Single newest.rows → IsApart hashes (all_refs newest.rows) → IsBatchOf cmp (λ row. if is_changed older newest row.refs then Some (make newest row) else None) newest.rows (batch older newest)) (refs : List Key) (date : ℕ) where
+module _ {R : Type 0} (parent_of : R → List ℕ) (load_of : R → ℕ) (cmp : R → R → Ordering) (make : Extract → NRow → R) (batch : List Extract → Extract → List R) (Single : List NRow → Type 0)
+    (hashes : Hashes) (parents : (extract : Extract) (made : NRow) → parent_of (make extract made) ≡ hashes.hash made.refs)
+    (loads : (extract : Extract) (made : NRow) → load_of (make extract made) ≡ extract.load)
+    (is_batch : (older : List Extract) (newest : Extract) → Single newest.rows → IsApart hashes (all_refs newest.rows)
+    → IsBatchOf cmp (λ row. if is_changed older newest row.refs then Some (make newest row) else None) newest.rows (batch older newest))
+    (refs : List Key) (date : ℕ) where
   -- the extracts have such rows, and the list's hash key is its own
   abbrev pub AreGood : List Extract → Type 0
   AreGood all = ((extract : Extract) → Contains all extract → Single extract.rows) × AreApart hashes refs all

@@ -1,30 +1,8 @@
 -- The collision of a hub or a link is the least pair of different lists with one hash key.
-use Rattle.std.specs.declared.cmp.Ordering.{Ordering}
-use Rattle.std.specs.declared.cmp.Ordering.TheVariants.{Less, Equal, Greater}
-use Rattle.std.specs.Cmp.{IsTotalOrder, on_total, then_total}
-use Rattle.std.specs.List.{AllByRecursion}
-use Rattle.std.specs.List.Sorted.{IsStrictlySortedBy}
-use Rattle.std.specs.Prelude.{All, Contains, find}
-use Rattle.std.specs.Str.{bytes_eq}
-use Rattle.std.proofs.Common.{◌≡◌, ◌↔◌, inl, inr, ◌⊎◌, Bool, true, false, List, [], ◌∷◌, Option, Some, None, refl, sym, ◌∙◌, ap, subst}
-use Rattle.std.proofs.lemmas.Bool.{false≢true}
-use Rattle.std.proofs.lemmas.List.Elements.{All-cons, All-head, All-nil, All-tail}
-use Rattle.std.proofs.lemmas.Slice.Eq.{bytes_eq-Decides}
-use Rattle.dv_text.specs.declared.rows.Key.{Key}
-use Rattle.dv_text.specs.declared.rows.Window.{Window}
-use Rattle.dv_text.specs.Exact.{both_tied}
-use Rattle.dv_text.specs.Keys.{Hashes}
-use Rattle.dv_text.specs.Orders.{refs_cmp}
-use Rattle.dv_text.specs.Sorting.{sorted_by}
-use Rattle.dv_text.proofs.Deciding.{refs_exact, refs_total}
-use Rattle.dv_text.proofs.Members.{member_of_all, Contains-cons_cases, Contains-cons_here, Contains-cons_there, Contains-nil}
-use Rattle.dv_text.proofs.Options.{none_before_map, or_none}
-use Rattle.dv_text.proofs.Orderings.{asymmetric, irreflexive, then_less, turned}
-use Rattle.dv_text.proofs.Passing.{finds, found_member}
-use Rattle.dv_text.proofs.SortedLists.{ascending-sorted_by, member_after_sort, member_before_sort}
-use Rattle.dv_catalog.specs.declared.entries.Parent.{Parent}
-use Rattle.dv_catalog.specs.Entries.{Mapping}
-use Rattle.dv_records.specs.Collisions.{Pair, IsApart, IsLeastPair, IsPairOf, collision, collision_in, first_collision, hashed_refs, least_pair, pair_cmp, parents}
+use Rattle.dv_records.proofs.Vocabulary.{Ordering, Less, Equal, Greater, IsTotalOrder, on_total, then_total, AllByRecursion, IsStrictlySortedBy, All, Contains, find, bytes_eq, ◌≡◌, ◌↔◌, inl, inr, ◌⊎◌, Bool, true, false, List, [], ◌∷◌, Option, Some, None, refl, sym, ◌∙◌, ap, subst, false≢true}
+use Rattle.dv_records.proofs.Vocabulary.{All-cons, All-head, All-nil, All-tail, bytes_eq-Decides, Key, Window, both_tied, Hashes, refs_cmp, sorted_by, refs_exact, refs_total, member_of_all, Contains-cons_cases, Contains-cons_here, Contains-cons_there, Contains-nil, none_before_map, or_none}
+use Rattle.dv_records.proofs.Vocabulary.{asymmetric, irreflexive, then_less, turned, finds, found_member, ascending-sorted_by, member_after_sort, member_before_sort, Parent, Mapping, Pair, IsApart, IsLeastPair, IsPairOf, collision, collision_in, first_collision, hashed_refs, least_pair, pair_cmp}
+use Rattle.dv_records.proofs.Vocabulary.{parents}
 
 greater_than : (x : List Key) (xs : List (List Key)) → AllByRecursion (λ y. refs_cmp x y ≡ Less) xs → (y : List Key) → Contains xs y → refs_cmp x y ≡ Less
 greater_than x xs all y has = member_of_all (λ y. refs_cmp x y ≡ Less) xs y all has
@@ -85,7 +63,8 @@ module _ (hashes : Hashes) where
   Answers (Some pair) lists = IsLeastPair hashes lists pair
 
   -- the first one alike is the least second one
-  first_found : (refs : List Key) (all : List (List Key)) → IsStrictlySortedBy refs_cmp all → (found : List Key) → find (alike refs) all ≡ Some found → (other : List Key) → Contains all other → hashes.hash refs ≡ hashes.hash other → refs_cmp other found ≡ Less → ⊥
+  first_found : (refs : List Key) (all : List (List Key)) → IsStrictlySortedBy refs_cmp all → (found : List Key) → find (alike refs) all ≡ Some found → (other : List Key) → Contains all other
+      → hashes.hash refs ≡ hashes.hash other → refs_cmp other found ≡ Less → ⊥
   unfolding IsStrictlySortedBy
   first_found refs [] up found e other has same less = Contains-nil other has
   first_found refs (x ∷ all) up found e other has same less = by (alike refs x) refl (first_found refs all up.1 found)
@@ -105,7 +84,8 @@ module _ (hashes : Hashes) where
           ]
 
   -- a list's first one and one alike after it are a pair, and no pair is less than that with the first one alike
-  found_is_least : (refs : List Key) (greater : List (List Key)) → IsStrictlySortedBy refs_cmp (refs ∷ greater) → (found : List Key) → find (alike refs) greater ≡ Some found → IsLeastPair hashes (refs ∷ greater) (record { first = refs; second = found })
+  found_is_least : (refs : List Key) (greater : List (List Key)) → IsStrictlySortedBy refs_cmp (refs ∷ greater) → (found : List Key) → find (alike refs) greater ≡ Some found
+      → IsLeastPair hashes (refs ∷ greater) (record { first = refs; second = found })
   unfolding IsStrictlySortedBy
   found_is_least refs greater up found e =
       let (member, same) = found_member (alike refs) greater found e in

@@ -1,47 +1,20 @@
 -- Rows in the order of their load dates, and of their batch within one date: what is true of the tables of satellites and of
 -- status tables.
-use Rattle.std.proofs.Common.{◌≡◌, ℕ, ◌==◌, ◌≤◌, ◌<◌, inl, inr, Bool, true, false, List, [], ◌∷◌, ◌++◌, Option, Some, None, refl, sym, ◌∙◌, ap, subst, arith, append-nil, nat_le, slice_get, length, ◌-◌, reverse, ◌&&◌}
-use Rattle.std.specs.Prelude.{Contains, find, if◌then◌else◌}
-use Rattle.std.specs.declared.cmp.Ordering.{Ordering}
-use Rattle.std.specs.declared.cmp.Ordering.TheVariants.{Less}
-use Rattle.std.specs.Cmp.{ranked}
-use Rattle.std.specs.List.{All, AllByRecursion, filter_map, list_all, list_any}
-use Rattle.std.specs.List.Sorted.{IsStrictlySortedBy}
-use Rattle.std.specs.Ordering.{nat_cmp, ordering_then}
-use Rattle.std.proofs.lemmas.Bool.{and_from, and_parts, eq-eqb, eqb-true, false≢true, le-leb, leb-true}
-use Rattle.std.proofs.lemmas.List.Elements.{All-contains_itself, All-weaker, Contains-append_cases}
-use Rattle.dv_text.proofs.Members.{Contains-cons_cases, Contains-cons_here, Contains-cons_there, Contains-nil, filter_map_member, member_of_all, reverse_member}
-use Rattle.dv_text.proofs.Options.{got_member, none_behind}
-use Rattle.dv_text.proofs.Orderings.{equal_first, le_from_cmp, less_first}
-use Rattle.dv_text.proofs.Passing.{all_pass, find_same, passes_at, some_passes, some_passes_at}
-use Rattle.dv_text.proofs.SortedLists.{ascending-append, ascending-same, member_before_sort}
-use Rattle.dv_records.specs.Batches.{appended, batch_of}
-use Rattle.dv_records.specs.History.{AreNewestFirst, Extract}
-use Rattle.dv_index.specs.Places.{Place, are_in_load_order}
+use Rattle.dv_records.proofs.Vocabulary.{◌≡◌, ℕ, ◌==◌, ◌≤◌, ◌<◌, inl, inr, Bool, true, false, List, [], ◌∷◌, ◌++◌, Option, Some, None, refl, sym, ◌∙◌, subst, arith, append-nil, nat_le, length, ◌-◌, reverse, eq-eqb, slice_get, ◌&&◌, Contains, find, if◌then◌else◌, All, Ordering, Less, ranked}
+use Rattle.dv_records.proofs.Vocabulary.{AllByRecursion, filter_map, list_all, list_any, IsStrictlySortedBy, nat_cmp, ordering_then, and_from, eqb-true, false≢true, le-leb, leb-true, All-contains_itself, All-weaker, Contains-append_cases, Contains-cons_cases, Contains-cons_here}
+use Rattle.dv_records.proofs.Vocabulary.{Contains-cons_there, Contains-nil, filter_map_member, member_of_all, reverse_member, got_member, none_behind, equal_first, le_from_cmp, less_first, all_pass, find_same, passes_at, some_passes, some_passes_at, same_answer, ascending-append, ascending-same}
+use Rattle.dv_records.proofs.Vocabulary.{member_before_sort, appended, batch_of, AreNewestFirst, Extract, Place, are_in_load_order, get_or-map, get_or_from_slice_get, loads_rise}
 use Rattle.dv_records.proofs.Reversing.{AllBefore, IsNewestFirst}
 
 -- ---- rows whose load dates do not fall
 
 module _ {X : Type 0} (place : X → Place) where
-  up_to_end : (row : X) (rows : List X) (last : X) → are_in_load_order place (row ∷ rows) ≡ true → slice_get (row ∷ rows) (length rows) ≡ Some last → (x : X) → Contains (row ∷ rows) x → (place x).load ≤ (place last).load
-  up_to_end row [] last order is x has =
-      let both_are : Some row ≡ Some last = is in
-      let here : row ≡ last = cc in
-      elim (Contains-cons_cases row [] x has) [
-        | inl same ↦ subst (λ (w : X). (place x).load ≤ (place w).load) (sym same ∙ here) (omega arith)
-        | inr none ↦ Contains-nil x none
-      ]
-  up_to_end row (next ∷ rows) last order is x has =
-      let parts = and_parts _ _ order in
-      elim (Contains-cons_cases row (next ∷ rows) x has) [
-        | inl same ↦ subst (λ (w : X). (place w).load ≤ (place last).load) same (leb-true _ _ (passes_at (λ other. nat_le (place row).load (place other).load) (next ∷ rows) last parts.0 (got_member (next ∷ rows) (length rows) last is)))
-        | inr rest ↦ up_to_end next rows last parts.1 is x rest
-      ]
-
   -- no row is later than the last one
   pub up_to_last : (rows : List X) (last : X) → are_in_load_order place rows ≡ true → slice_get rows (length rows - 1) ≡ Some last → (x : X) → Contains rows x → (place x).load ≤ (place last).load
-  up_to_last [] last order is x has = Contains-nil x has
-  up_to_last (row ∷ rows) last order is x has = let before : length (row ∷ rows) - 1 ≡ length rows = omega arith in up_to_end row rows last order (rw before at is) x has
+  up_to_last rows last order is x (k, under, there) =
+      let end : length rows - 1 < length rows = omega (arith, under) in
+      let rise = loads_rise place rows order k (length rows - 1) (omega (arith, under)) end in
+      rw (get_or-map (λ row. (place row).load) rows k x 0 under, there, get_or-map (λ row. (place row).load) rows (length rows - 1) last 0 end, get_or_from_slice_get rows (length rows - 1) last last is) at rise
 
 -- ---- rows by load date, then by the order of a batch
 
@@ -78,19 +51,13 @@ module _ {X : Type 0} (load : X → ℕ) (cmp : X → X → Ordering) where
   up_to_last_load rows last up e = all_pass (λ row. nat_le (load row) (load last)) rows (λ row has. le-leb (load row) (load last) (last_is_latest rows last up e row has))
 
   -- where no row is later than a date, a row has it where the last one has
-  pub last_load : (rows : List X) (last : X) (date : ℕ) → IsStrictlySortedBy (dated load cmp) rows → list_all (λ row. nat_le (load row) date) rows ≡ true → slice_get rows (length rows - 1) ≡ Some last → (load last == date) ≡ list_any (λ row. load row == date) rows
-  last_load rows last date up early e = by (load last == date) (list_any (λ row. load row == date) rows) refl refl
-    where
-      by : (is has : Bool) → (load last == date) ≡ is → list_any (λ row. load row == date) rows ≡ has → (load last == date) ≡ list_any (λ row. load row == date) rows
-      by true true i h = i ∙ sym h
-      by false false i h = i ∙ sym h
-      by true false i h = absurd (false≢true (sym h ∙ some_passes_at (λ row. load row == date) rows last (got_member rows (length rows - 1) last e) i))
-      by false true i h =
-          let (row, member, same) = some_passes (λ row. load row == date) rows h in
-          let at : load row ≡ date = eqb-true (load row) date same in
-          let below : load row ≤ load last = last_is_latest rows last up e row member in
-          let above : load last ≤ date = all_up_to rows date last early (got_member rows (length rows - 1) last e) in
-          absurd (false≢true (sym i ∙ eq-eqb (load last) date (omega (arith, at, below, above))))
+  pub last_load : (rows : List X) (last : X) (date : ℕ) → IsStrictlySortedBy (dated load cmp) rows → list_all (λ row. nat_le (load row) date) rows ≡ true → slice_get rows (length rows - 1) ≡ Some last
+      → (load last == date) ≡ list_any (λ row. load row == date) rows
+  last_load rows last date up early e =
+      let last_in = got_member rows (length rows - 1) last e in
+      same_answer (load last == date) (list_any (λ row. load row == date) rows) (some_passes_at (λ row. load row == date) rows last last_in) (λ has.
+      let (row, member, same) = some_passes (λ row. load row == date) rows has in
+      eq-eqb (load last) date (omega (arith, eqb-true (load row) date same, last_is_latest rows last up e row member, all_up_to rows date last early last_in)))
 
   -- there is a last one unless there is none
   pub none_last : (rows : List X) → slice_get rows (length rows - 1) ≡ None → rows ≡ []
@@ -98,7 +65,8 @@ module _ {X : Type 0} (load : X → ℕ) (cmp : X → X → Ordering) where
   none_last (first ∷ rows) e = let behind = none_behind (first ∷ rows) (length (first ∷ rows) - 1) e in absurd (omega (arith, behind))
 
   -- a test of rows that are up to the last one's date is a test of rows
-  pub found_up_to_last : (p : X → Bool) (rows : List X) (last : X) → IsStrictlySortedBy (dated load cmp) rows → slice_get rows (length rows - 1) ≡ Some last → find (λ row. p row && nat_le (load row) (load last)) (reverse rows) ≡ find p (reverse rows)
+  pub found_up_to_last : (p : X → Bool) (rows : List X) (last : X) → IsStrictlySortedBy (dated load cmp) rows → slice_get rows (length rows - 1) ≡ Some last
+      → find (λ row. p row && nat_le (load row) (load last)) (reverse rows) ≡ find p (reverse rows)
   found_up_to_last p rows last up e =
       find_same (λ row. p row && nat_le (load row) (load last)) p (reverse rows)
       (λ row has. with_true (p row) (nat_le (load row) (load last)) (le-leb (load row) (load last) (last_is_latest rows last up e row ((reverse_member rows row).0 has))))
@@ -150,7 +118,8 @@ module _ {X : Type 0} (load : X → ℕ) (cmp : X → X → Ordering) (date : �
       by false e = rw e (follows load cmp date rows made up early e stamped ordered)
 
 -- the rows of a batch have the load date that each of them is given
-pub batch_stamped : {T X : Type 0} (load : X → ℕ) (cmp : X → X → Ordering) (change : T → Option X) (date : ℕ) → ((t : T) (x : X) → change t ≡ Some x → load x ≡ date) → (things : List T) (row : X) → Contains (batch_of cmp change things) row → load row ≡ date
+pub batch_stamped : {T X : Type 0} (load : X → ℕ) (cmp : X → X → Ordering) (change : T → Option X) (date : ℕ) → ((t : T) (x : X) → change t ≡ Some x → load x ≡ date) → (things : List T) (row : X)
+    → Contains (batch_of cmp change things) row → load row ≡ date
 batch_stamped load cmp change date stamped things row has =
     let (thing, member, gives) = filter_map_member change things row (member_before_sort cmp (filter_map change things) row has) in stamped thing row gives
 

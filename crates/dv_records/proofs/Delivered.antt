@@ -1,34 +1,14 @@
 -- The deliveries of a window are its offers, each list once, by the first feed.
-use Rattle.std.specs.FinMap.{slice_cmp-IsAntisymmetric}
-use Rattle.std.specs.Prelude.{Contains}
-use Rattle.std.proofs.Common.{◌≡◌, ◌↔◌, true, List, Some, sym, ◌∙◌, ap, subst}
-use Rattle.dv_text.specs.declared.rows.Key.{Key}
-use Rattle.dv_text.specs.declared.rows.Window.{Window}
-use Rattle.dv_text.specs.Exact.{key_cmp-IsAntisymmetric}
-use Rattle.dv_text.specs.Keys.{refs_eq}
-use Rattle.dv_text.specs.Orders.{refs_cmp}
-use Rattle.dv_text.specs.Sorting.{sorted_by}
-use Rattle.dv_text.proofs.Deciding.{refs_eq-Decides}
-use Rattle.dv_text.proofs.Members.{filter_map_member, member_of_filter_map, map_member, Contains-map}
-use Rattle.dv_text.proofs.Passing.{some_passes_at, some_passes, finds, found_member}
-use Rattle.dv_text.proofs.SortedLists.{member_after_sort}
-use Rattle.dv_catalog.specs.declared.entries.Parent.{Parent}
-use Rattle.dv_catalog.specs.Entries.{Mapping}
-use Rattle.dv_records.specs.declared.deliveries.Delivery.{Delivery}
-use Rattle.dv_records.specs.Deliveries.{deliveries, first_offer, is_offered, offered_refs, offers}
+use Rattle.dv_records.proofs.Vocabulary.{slice_cmp-IsAntisymmetric, Contains, ◌≡◌, ◌↔◌, true, List, Some, sym, ◌∙◌, ap, Key, Window, key_cmp-IsAntisymmetric, refs_eq, refs_cmp, sorted_by, refs_eq-Decides, any_refs, filter_map_member, member_of_filter_map, map_member, Contains-map, finds}
+use Rattle.dv_records.proofs.Vocabulary.{found_member, member_after_sort, Parent, Mapping, Delivery, deliveries, first_offer, is_offered, offered_refs, offers}
 
 module _ (mapping : Mapping) (parent : Parent) (window : Window) where
   -- a list that is offered is among those that are, and the other way round
   pub offered_member : (refs : List Key) → is_offered mapping parent window refs ≡ true → Contains (offered_refs mapping parent window) refs
-  offered_member refs e =
-      let (offer, member, same) = some_passes (λ (offer : Delivery). refs_eq offer.refs refs) (offers mapping parent window) e in
-      let is : offer.refs ≡ refs = (refs_eq-Decides offer.refs refs).0 same in
-      subst (Contains (offered_refs mapping parent window)) is (Contains-map (λ (offer : Delivery). offer.refs) (offers mapping parent window) offer member)
+  offered_member refs = (any_refs (λ (offer : Delivery). offer.refs) (offers mapping parent window) refs).0
 
   pub is_offered-member : (refs : List Key) → Contains (offered_refs mapping parent window) refs → is_offered mapping parent window refs ≡ true
-  is_offered-member refs has =
-      let (offer, member, is) = map_member (λ (offer : Delivery). offer.refs) (offers mapping parent window) refs has in
-      some_passes_at (λ (offer : Delivery). refs_eq offer.refs refs) (offers mapping parent window) offer member ((refs_eq-Decides offer.refs refs).1 is)
+  is_offered-member refs = (any_refs (λ (offer : Delivery). offer.refs) (offers mapping parent window) refs).1
 
   -- the first offer of a list has the list, and is an offer
   pub first_offer-refs : (refs : List Key) (item : Delivery) → first_offer mapping parent window refs ≡ Some item → item.refs ≡ refs

@@ -1,37 +1,8 @@
 -- The content of a valid feed, its rows' hash keys, and its status table in the vault.
-use Rattle.std.specs.List.Sorted.{IsStrictlySortedBy}
-use Rattle.std.specs.Prelude.{Contains, find, slice_get}
-use Rattle.std.specs.Str.{bytes_eq}
-use Rattle.std.proofs.Common.{◌≡◌, ℕ, ◌&&◌, inl, inr, Bool, true, false, List, [], ◌∷◌, ◌++◌, Option, Some, None, refl, sym, ◌∙◌, ap, subst, map, nat_le, reverse}
-use Rattle.std.proofs.lemmas.Bool.{and_parts}
-use Rattle.std.proofs.lemmas.List.Elements.{Contains-append_cases, Contains-append_right}
-use Rattle.std.proofs.lemmas.Slice.Eq.{bytes_eq-Decides}
-use Rattle.dv_text.specs.declared.rows.Key.{Key}
-use Rattle.dv_text.specs.declared.rows.NRow.{NRow}
-use Rattle.dv_text.specs.declared.rows.Window.{Window}
-use Rattle.dv_text.specs.Exact.{text_cmp-IsAntisymmetric}
-use Rattle.dv_text.specs.Keys.{Hashes, refs_eq}
-use Rattle.dv_text.specs.Orders.{row_cmp}
-use Rattle.dv_text.specs.Sorting.{sorted_by}
-use Rattle.dv_text.proofs.Deciding.{refs_eq-Decides}
-use Rattle.dv_text.proofs.Members.{filtered_members, Contains-flat_map, map_member, Contains-map, Contains-nil, reverse_member}
-use Rattle.dv_text.proofs.Options.{made_of}
-use Rattle.dv_text.proofs.Passing.{some_passes_at, some_passes, found_member}
-use Rattle.dv_text.proofs.SortedLists.{member_after_sort, member_before_sort}
-use Rattle.dv_catalog.specs.declared.entries.FeedDef.{FeedDef}
-use Rattle.dv_catalog.specs.Entries.{Mapping}
-use Rattle.dv_catalog.specs.Feeds.{source as source_of}
-use Rattle.dv_catalog.specs.Mappings.{is_valid}
-use Rattle.dv_records.specs.declared.raw_rows.StatusRow.{StatusRow}
-use Rattle.dv_records.specs.declared.stores.Rows.TheVariants.{Statuses}
-use Rattle.dv_records.specs.Batches.{appended, digest_cmp}
-use Rattle.dv_records.specs.Collisions.{IsApart}
-use Rattle.dv_records.specs.History.{Extract, all_refs, content, delivered_refs, delivers, history, newest_rows, lists_of}
-use Rattle.dv_records.specs.ReadBack.{present_parents, refs_read, status_rows_in}
-use Rattle.dv_records.specs.Reconstruction.{present_at, says_present}
-use Rattle.dv_records.specs.States.{are_windows_valid}
-use Rattle.dv_records.specs.Statuses.{code_of, status_batch, status_cmp, status_row}
-use Rattle.dv_records.specs.Vault.{vault}
+use Rattle.dv_records.proofs.Vocabulary.{IsStrictlySortedBy, Contains, find, slice_get, ◌&&◌, bytes_eq, ◌≡◌, ℕ, inl, inr, Bool, true, false, List, [], ◌∷◌, ◌++◌, Option, Some, None, refl, sym, ◌∙◌, ap, subst, map, nat_le, reverse, and_parts, Contains-append_cases, Contains-append_right}
+use Rattle.dv_records.proofs.Vocabulary.{bytes_eq-Decides, Key, NRow, Window, text_cmp-IsAntisymmetric, Hashes, refs_eq, row_cmp, sorted_by, refs_eq-Decides, filtered_members, Contains-flat_map, map_member, Contains-map, Contains-nil, reverse_member, made_of, some_passes_at, some_passes}
+use Rattle.dv_records.proofs.Vocabulary.{found_member, member_after_sort, member_before_sort, FeedDef, Mapping, source as source_of, is_valid, StatusRow, Statuses, appended, digest_cmp, IsApart, Extract, all_refs, content, delivered_refs, delivers, history, newest_rows, lists_of, present_parents}
+use Rattle.dv_records.proofs.Vocabulary.{refs_read, status_rows_in, present_at, says_present, are_windows_valid, code_of, status_batch, status_cmp, status_row, vault}
 use Rattle.dv_records.proofs.BatchTies.{batch_made}
 use Rattle.dv_records.proofs.FeedRefs.{parent_apart, refs_told}
 use Rattle.dv_records.proofs.FeedSteps.{appended-history}
@@ -84,7 +55,8 @@ among_present rows digest date e =
 
 -- ---- a feed
 
-module _ (mapping : Mapping) (hashes : Hashes) (sealed : List Window) (feed : ℕ) (definition : FeedDef) (valid : is_valid mapping ≡ true) (windows_valid : are_windows_valid mapping hashes sealed ≡ true) (at : slice_get mapping.feeds feed ≡ Some definition) where
+module _ (mapping : Mapping) (hashes : Hashes) (sealed : List Window) (feed : ℕ) (definition : FeedDef) (valid : is_valid mapping ≡ true)
+    (windows_valid : are_windows_valid mapping hashes sealed ≡ true) (at : slice_get mapping.feeds feed ≡ Some definition) where
   pub rows_of_extract : (extract : Extract) → Contains (history feed sealed) extract → AreRows mapping definition extract.rows
   rows_of_extract = rows_valid mapping hashes sealed (whole mapping hashes sealed windows_valid) feed definition at
 
@@ -94,7 +66,8 @@ module _ (mapping : Mapping) (hashes : Hashes) (sealed : List Window) (feed : �
   -- the status table tells of each list that is delivered
   pub status_told : (refs : List Key) → Contains (delivered_refs feed sealed) refs → (date : ℕ) → present_at (status_rows_in feed (vault mapping hashes sealed)) (hashes.hash refs) date ≡ delivers (content feed sealed date) refs
   status_told refs has =
-      delivered_tells mapping hashes feed sealed (status_rows_in feed (vault mapping hashes sealed)) (ap Statuses (sym (vault_status mapping hashes sealed feed definition at))) (load_order mapping hashes sealed windows_valid) feed_apart refs has
+      let table = ap Statuses (sym (vault_status mapping hashes sealed feed definition at)) in
+      delivered_tells mapping hashes feed sealed (status_rows_in feed (vault mapping hashes sealed)) table (load_order mapping hashes sealed windows_valid) feed_apart refs has
 
   -- a status row is of a list that is delivered
   pub status_parent : (row : StatusRow) → Contains (status_rows_in feed (vault mapping hashes sealed)) row → (refs : List Key) × Contains (delivered_refs feed sealed) refs × (row.parent ≡ hashes.hash refs)

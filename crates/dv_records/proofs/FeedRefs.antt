@@ -1,42 +1,12 @@
 -- The references of a valid feed's rows are read back from the tables of its hub or its link.
-use Rattle.std.specs.Option.{option_map, option_map_or}
-use Rattle.std.specs.Prelude.{Contains, slice_get}
-use Rattle.std.proofs.Common.{◌≡◌, ℕ, ◌<◌, ◌==◌, Bool, true, false, List, [], ◌∷◌, Option, Some, None, refl, sym, ◌∙◌, ap, subst, arith, length, nat_lt, reverse, cond}
-use Rattle.std.proofs.lemmas.Bool.{and_parts}
-use Rattle.std.proofs.lemmas.Bool.Decides.{nat_tests}
-use Rattle.dv_text.specs.declared.rows.Key.{Key}
-use Rattle.dv_text.specs.declared.rows.NRow.{NRow}
-use Rattle.dv_text.specs.declared.rows.Window.{Window}
-use Rattle.dv_text.specs.Keys.{Hashes, is_missing}
-use Rattle.dv_text.proofs.Members.{Contains-cons_here, Contains-cons_there, Contains-nil}
-use Rattle.dv_text.proofs.Passing.{passes_at}
-use Rattle.dv_catalog.specs.declared.entries.FeedDef.{FeedDef}
-use Rattle.dv_catalog.specs.declared.entries.LinkDef.{LinkDef}
-use Rattle.dv_catalog.specs.declared.entries.Parent.{Parent}
-use Rattle.dv_catalog.specs.declared.entries.Parent.TheVariants.{Hub, Link}
-use Rattle.dv_catalog.specs.Entries.{Mapping}
-use Rattle.dv_catalog.specs.Feeds.{keys_at, link_hubs, parent_hubs}
-use Rattle.dv_catalog.specs.Mappings.{is_declared, is_hub, is_valid}
-use Rattle.dv_catalog.proofs.ValidReads.{valid_feed, valid_link}
-use Rattle.dv_records.specs.declared.raw_rows.HubRow.{HubRow}
-use Rattle.dv_records.specs.declared.raw_rows.LinkRow.{LinkRow}
-use Rattle.dv_records.specs.declared.stores.TableRows.{TableRows}
-use Rattle.dv_records.specs.Batches.{appended}
-use Rattle.dv_records.specs.Collisions.{IsApart, hashed_refs}
-use Rattle.dv_records.specs.Deliveries.{is_known}
-use Rattle.dv_records.specs.History.{Extract, history}
-use Rattle.dv_records.specs.Hubs.{each_hash, hub_batch}
-use Rattle.dv_records.specs.ReadBack.{hub_row_by, hub_rows_in, key_read, keys_read, link_row_by, link_rows_in, missing_key, refs_read}
-use Rattle.dv_records.specs.States.{are_windows_valid, fit_hubs, fits_hub}
-use Rattle.dv_records.specs.Vault.{vault}
+use Rattle.dv_records.proofs.Vocabulary.{option_map, option_map_or, Contains, slice_get, ◌≡◌, ℕ, ◌<◌, ◌==◌, Bool, true, false, List, [], ◌∷◌, Option, Some, None, refl, sym, ◌∙◌, ap, subst, length, reverse, cond, ltb-true, and_parts, Key, NRow, Window, Hashes, is_missing, Contains-cons_here}
+use Rattle.dv_records.proofs.Vocabulary.{Contains-cons_there, Contains-nil, passes_at, FeedDef, LinkDef, Parent, Hub, Link, Mapping, keys_at, link_hubs, parent_hubs, is_declared, is_hub, is_valid, valid_feed, valid_link, HubRow, LinkRow, TableRows, appended, IsApart, hashed_refs, is_known}
+use Rattle.dv_records.proofs.Vocabulary.{Extract, history, each_hash, hub_batch, hub_row_by, hub_rows_in, key_read, keys_read, link_row_by, link_rows_in, missing_key, refs_read, are_windows_valid, fit_hubs, fits_hub, vault}
 use Rattle.dv_records.proofs.KnownLists.{key_at_first, key_known, row_known}
 use Rattle.dv_records.proofs.KnownRefs.{key_found, list_found, missing_unfound, the_missing}
 use Rattle.dv_records.proofs.ValidWindows.{hub_apart, link_apart}
 use Rattle.dv_records.proofs.VaultRows.{vault_hub, vault_link}
 use Rattle.dv_records.proofs.WindowRows.{HasForm, one_key}
-
-under_from : (n count : ℕ) → nat_lt n count ≡ true → n < count
-under_from n count e = grind (arith, nat_tests, e)
 
 -- ---- hubs and references
 
@@ -63,18 +33,19 @@ each_read mapping hashes tables (hub ∷ hubs) (key ∷ refs) fits reads =
 
 -- ---- the references of a feed's row
 
-module _ (mapping : Mapping) (hashes : Hashes) (sealed : List Window) (valid : is_valid mapping ≡ true) (windows_valid : are_windows_valid mapping hashes sealed ≡ true) (feed : ℕ) (definition : FeedDef) (at : slice_get mapping.feeds feed ≡ Some definition) where
+module _ (mapping : Mapping) (hashes : Hashes) (sealed : List Window) (valid : is_valid mapping ≡ true) (windows_valid : are_windows_valid mapping hashes sealed ≡ true) (feed : ℕ)
+    (definition : FeedDef) (at : slice_get mapping.feeds feed ≡ Some definition) where
   declared : is_declared mapping definition.parent ≡ true
   declared = (valid_feed mapping valid feed definition at).declared
 
   hub_under : (hub : ℕ) → definition.parent ≡ Hub hub → hub < length mapping.hubs
-  hub_under hub parent = under_from hub (length mapping.hubs) (subst (λ (p : Parent). is_declared mapping p ≡ true) parent declared)
+  hub_under hub parent = ltb-true hub (length mapping.hubs) (subst (λ (p : Parent). is_declared mapping p ≡ true) parent declared)
 
   link_under : (link : ℕ) → definition.parent ≡ Link link → link < length mapping.links
-  link_under link parent = under_from link (length mapping.links) (subst (λ (p : Parent). is_declared mapping p ≡ true) parent declared)
+  link_under link parent = ltb-true link (length mapping.links) (subst (λ (p : Parent). is_declared mapping p ≡ true) parent declared)
 
   hubs_under : (link hub : ℕ) → Contains (parent_hubs mapping (Link link)) hub → hub < length mapping.hubs
-  hubs_under link hub has = under_from hub (length mapping.hubs) (by (slice_get mapping.links link) refl has)
+  hubs_under link hub has = ltb-true hub (length mapping.hubs) (by (slice_get mapping.links link) refl has)
     where
       by : (o : Option LinkDef) → slice_get mapping.links link ≡ o → Contains (link_hubs o) hub → is_hub mapping hub ≡ true
       by None e has = Contains-nil hub has
@@ -90,7 +61,8 @@ module _ (mapping : Mapping) (hashes : Hashes) (sealed : List Window) (valid : i
 
   module _ (extract : Extract) (in_history : Contains (history feed (reverse sealed)) extract) (row : NRow) (row_in : Contains extract.rows row) (form : HasForm mapping definition row) where
     -- a key of a reference is read back, also a missing one
-    key_told : (hub : ℕ) (key : Key) → hub < length mapping.hubs → fits_hub mapping hub key ≡ true → Contains (keys_at hub (parent_hubs mapping definition.parent) row.refs) key → key_read mapping (vault mapping hashes sealed) hub (hashes.hash (key ∷ [])) ≡ key
+    key_told : (hub : ℕ) (key : Key) → hub < length mapping.hubs → fits_hub mapping hub key ≡ true → Contains (keys_at hub (parent_hubs mapping definition.parent) row.refs) key
+        → key_read mapping (vault mapping hashes sealed) hub (hashes.hash (key ∷ [])) ≡ key
     key_told hub key under fits has = by (is_missing key) refl
       where
         rows : hub_rows_in hub (vault mapping hashes sealed) ≡ appended (hub_batch mapping hashes hub) (reverse sealed)
@@ -120,7 +92,7 @@ module _ (mapping : Mapping) (hashes : Hashes) (sealed : List Window) (valid : i
             let fits : fit_hubs mapping (hub ∷ []) row.refs ≡ true = subst (λ (p : Parent). fit_hubs mapping (parent_hubs mapping p) row.refs ≡ true) parent form.fits in
             let (key, single, key_fits) = one_key mapping hub row.refs fits in
             let under = hub_under hub parent in
-            let known : is_known mapping (Hub hub) (reverse sealed) (key ∷ []) ≡ true = subst (λ refs. is_known mapping (Hub hub) (reverse sealed) refs ≡ true) single (subst (λ (p : Parent). is_known mapping p (reverse sealed) row.refs ≡ true) parent known_row) in
+            let known : is_known mapping (Hub hub) (reverse sealed) (key ∷ []) ≡ true = rw (parent, single) at known_row in
             let (found_row, found, same) = key_found mapping hashes sealed hub (hub_apart mapping hashes sealed windows_valid hub under) key known in
             let there : hub_row_by (hub_rows_in hub (vault mapping hashes sealed)) (hashes.hash row.refs) ≡ Some found_row =
             ap (λ all. hub_row_by all (hashes.hash row.refs)) (vault_hub mapping hashes sealed hub under)

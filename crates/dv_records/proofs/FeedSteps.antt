@@ -1,9 +1,5 @@
 -- The table of a feed over windows is that over its extracts.
-use Rattle.std.proofs.Common.{◌≡◌, ℕ, List, [], ◌∷◌, ◌++◌, Option, Some, None, refl, sym, ◌∙◌, ap, append-nil}
-use Rattle.dv_text.specs.declared.rows.Window.{Window}
-use Rattle.dv_records.specs.Batches.{appended}
-use Rattle.dv_records.specs.History.{Extract, extract_of, history}
-use Rattle.dv_records.specs.Vault.{feed_batch}
+use Rattle.dv_records.proofs.Vocabulary.{◌≡◌, ℕ, List, [], ◌∷◌, ◌++◌, Option, Some, None, refl, sym, ◌∙◌, ap, append-nil, Window, appended, Extract, extract_of, history, feed_batch}
 
 pub appended-history : {R : Type 0} (feed : ℕ) (batch : List Extract → Extract → List R) (windows : List Window) → appended (feed_batch feed batch) windows ≡ appended batch (history feed windows)
 appended-history feed batch [] = refl

@@ -1,23 +1,6 @@
 -- A hub table has a row for each key that the windows bring, and no other one.
-use Rattle.std.specs.List.{flat_map, list_all}
-use Rattle.std.specs.Option.{option_map}
-use Rattle.std.specs.Prelude.{Contains, not}
-use Rattle.std.proofs.Common.{◌↔◌, ◌≡◌, ℕ, Bool, true, false, List, [], ◌∷◌, Some, None, refl, sym, ◌∙◌, ap, subst, map}
-use Rattle.dv_text.specs.declared.rows.Key.{Key}
-use Rattle.dv_text.specs.declared.rows.NRow.{NRow}
-use Rattle.dv_text.specs.declared.rows.Window.{Window}
-use Rattle.dv_text.specs.Keys.{Hashes, is_missing}
-use Rattle.dv_text.proofs.Members.{filtered_members, flat_map_member, map_member}
-use Rattle.dv_text.proofs.Options.{made_of}
-use Rattle.dv_catalog.specs.declared.entries.Parent.TheVariants.{Hub}
-use Rattle.dv_catalog.specs.Entries.{Mapping}
-use Rattle.dv_catalog.specs.Feeds.{feed_hubs, keys_at, source}
-use Rattle.dv_records.specs.declared.deliveries.Delivery.{Delivery}
-use Rattle.dv_records.specs.declared.raw_rows.HubRow.{HubRow}
-use Rattle.dv_records.specs.Batches.{appended}
-use Rattle.dv_records.specs.Collisions.{IsApart}
-use Rattle.dv_records.specs.Deliveries.{deliveries, is_known, offered_refs, offers, offers_of, refs_from, table_of}
-use Rattle.dv_records.specs.Hubs.{hub_batch, hub_row, only_key, IsHubBatch}
+use Rattle.dv_records.proofs.Vocabulary.{flat_map, list_all, option_map, Contains, not, ◌↔◌, ◌≡◌, ℕ, Bool, true, false, List, [], ◌∷◌, Some, None, refl, sym, ◌∙◌, ap, subst, map, Key, NRow, Window, Hashes, is_missing, filtered_members, flat_map_member, map_member, made_of, Hub, Mapping}
+use Rattle.dv_records.proofs.Vocabulary.{feed_hubs, keys_at, source, Delivery, HubRow, appended, IsApart, deliveries, is_known, offered_refs, offers, offers_of, refs_from, table_of, hub_batch, hub_row, only_key, IsHubBatch}
 use Rattle.dv_records.proofs.Delivered.{delivery-offered}
 use Rattle.dv_records.proofs.ParentTables as tables
 
@@ -25,9 +8,6 @@ the_only : (refs : List Key) (key : Key) → only_key refs ≡ Some key → refs
 the_only [] key e = cc
 the_only (first ∷ []) key e = let is : Some first ≡ Some key = e in let same : first ≡ key = cc in ap (λ k. k ∷ []) same
 the_only (first ∷ second ∷ rest) key e = cc
-
-the_key : (a b : Key) → a ∷ [] ≡ b ∷ [] → a ≡ b
-the_key a b e = cc
 
 -- the refs of an offer that is made of a key
 offer_of_key : (refs : List Key) (offer made : Delivery) (brought : List Key) (key : Key) → offer.refs ≡ refs → made ≡ offer → made.refs ≡ brought → key ∷ [] ≡ brought → refs ≡ key ∷ []
@@ -59,7 +39,8 @@ module _ (mapping : Mapping) (hub : ℕ) where
             let (key, only, made) = made_of _ (only_key item.refs) row (rw e at gives) in
             (the_only item.refs key only ∙ ap (λ (r : HubRow). r.key ∷ []) made, ap (λ (r : HubRow). r.digest) (sym made))
 
-    row_makes : (older : List Window) (window : Window) (item : Delivery) → Contains (deliveries mapping (Hub hub) window) item → is_known mapping (Hub hub) older item.refs ≡ false → (row : HubRow) × (hub_row mapping hashes hub older window item ≡ Some row)
+    row_makes : (older : List Window) (window : Window) (item : Delivery) → Contains (deliveries mapping (Hub hub) window) item → is_known mapping (Hub hub) older item.refs ≡ false
+        → (row : HubRow) × (hub_row mapping hashes hub older window item ≡ Some row)
     row_makes older window item has new =
         let (key, same) = offered_key window item.refs (delivery-offered mapping (Hub hub) window item has) in
         (record { digest = hashes.hash item.refs; load = window.load; source = source mapping item.feed; key = key }, made_here item key same new)
@@ -68,7 +49,8 @@ module _ (mapping : Mapping) (hub : ℕ) where
             → hub_row mapping hashes hub older window item ≡ Some (record { digest = hashes.hash item.refs; load = window.load; source = source mapping item.feed; key = key })
         made_here item key refs new = rw new (ap (option_map (λ key. record { digest = hashes.hash item.refs; load = window.load; source = source mapping item.feed; key = key })) (ap only_key refs))
 
-    pub hub_tied : (older : List Window) (window : Window) → IsApart hashes (offered_refs mapping (Hub hub) window) → (rows : List HubRow) → (rows ≡ hub_batch mapping hashes hub older window) ↔ IsHubBatch mapping hashes hub older window rows
+    pub hub_tied : (older : List Window) (window : Window) → IsApart hashes (offered_refs mapping (Hub hub) window) → (rows : List HubRow)
+        → (rows ≡ hub_batch mapping hashes hub older window) ↔ IsHubBatch mapping hashes hub older window rows
     hub_tied = tables.tied mapping (Hub hub) hashes (λ (row : HubRow). row.digest) (hub_row mapping hashes hub) IsRowOf (λ refs row is. is.1) row_made row_makes
 
     -- each row is of a key that one of the windows brings
@@ -82,4 +64,5 @@ module _ (mapping : Mapping) (hub : ℕ) where
         → (row : HubRow) × Contains (appended (hub_batch mapping hashes hub) windows) row × (row.key ≡ key) × (row.digest ≡ hashes.hash (key ∷ []))
     table_has windows apart key known =
         let (row, has, is) = tables.table_has mapping (Hub hub) hashes (λ (row : HubRow). row.digest) (hub_row mapping hashes hub) IsRowOf (λ refs row is. is.1) row_made row_makes windows apart (key ∷ []) known in
-        (row, has, the_key row.key key (sym is.0), is.1)
+        let same : row.key ≡ key = cc (sym is.0) in
+        (row, has, same, is.1)

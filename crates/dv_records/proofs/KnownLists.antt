@@ -1,29 +1,11 @@
 -- The reference lists of a feed's rows are known to its hub or its link, and so have hash keys of their own.
-use Rattle.std.specs.List.{flat_map, list_all}
-use Rattle.std.specs.Prelude.{Contains, find, slice_get}
-use Rattle.std.proofs.Common.{◌≡◌, ℕ, ◌==◌, ◌&&◌, Bool, true, false, not, List, [], ◌∷◌, Some, refl, sym, ◌∙◌, ap, subst, map, reverse, eq-eqb, eqb-true}
-use Rattle.dv_text.specs.declared.rows.Key.{Key}
-use Rattle.dv_text.specs.declared.rows.NRow.{NRow}
-use Rattle.dv_text.specs.declared.rows.Staged.{Staged}
-use Rattle.dv_text.specs.declared.rows.Window.{Window}
-use Rattle.dv_text.specs.Keys.{Hashes, is_missing}
-use Rattle.dv_text.proofs.Members.{Contains-cons_here, filter_map_member, filtered_members, Contains-flat_map, Contains-map, flat_map_member, map_member}
-use Rattle.dv_text.proofs.Options.{made_of}
-use Rattle.dv_text.proofs.Passing.{passes_at, some_passes_at, found_member}
-use Rattle.dv_catalog.specs.declared.entries.FeedDef.{FeedDef}
-use Rattle.dv_catalog.specs.declared.entries.Parent.{Parent}
-use Rattle.dv_catalog.specs.declared.entries.Parent.TheVariants.{Hub, Link}
-use Rattle.dv_catalog.specs.Entries.{Mapping}
-use Rattle.dv_catalog.specs.Feeds.{feed_hubs, is_fed_by, keys_at, parent_hubs}
-use Rattle.dv_records.specs.declared.deliveries.Delivery.{Delivery}
-use Rattle.dv_records.specs.Collisions.{IsApart, hashed_refs}
-use Rattle.dv_records.specs.Deliveries.{is_known, is_offered, offers, offers_of, refs_from, table_of}
-use Rattle.dv_records.specs.History.{Extract, all_refs, extract_of, history, delivered_refs}
-use Rattle.dv_records.specs.States.{fit_hubs, is_window}
+use Rattle.dv_records.proofs.Vocabulary.{flat_map, list_all, Contains, slice_get, ◌&&◌, ◌≡◌, ℕ, Bool, true, false, not, List, [], ◌∷◌, Some, refl, sym, ◌∙◌, ap, subst, map, reverse, eq-eqb, Key, NRow, Staged, Window, Hashes, is_missing, Contains-cons_here, filter_map_member, filtered_members}
+use Rattle.dv_records.proofs.Vocabulary.{Contains-flat_map, Contains-map, flat_map_member, map_member, passes_at, some_passes_at, FeedDef, Parent, Hub, Link, Mapping, feed_hubs, is_fed_by, keys_at, parent_hubs, Delivery, IsApart, hashed_refs, is_known, is_offered, offers, offers_of, refs_from}
+use Rattle.dv_records.proofs.Vocabulary.{table_of, Extract, all_refs, extract_of, history, delivered_refs, fit_hubs, is_window}
 use Rattle.dv_records.proofs.Delivered.{is_offered-member}
 use Rattle.dv_records.proofs.KnownRefs.{known_apart}
 use Rattle.dv_records.proofs.Reversing.{history_member}
-use Rattle.dv_records.proofs.WindowRows.{AreRows, HasForm, one_key, rows_at, some_there}
+use Rattle.dv_records.proofs.WindowRows.{AreRows, HasForm, one_key, rows_at, some_there, staged_of}
 
 -- ---- offers
 
@@ -37,10 +19,7 @@ module _ (mapping : Mapping) (feed : ℕ) (window : Window) (extract : Extract) 
   -- a list that the rows of a feed's extract bring is offered, unless it is missing as a whole
   offered : (parent : Parent) (refs : List Key) → Contains (refs_from mapping parent (record { feed = feed; rows = extract.rows })) refs → list_all is_missing refs ≡ false → is_offered mapping parent window refs ≡ true
   offered parent refs has there =
-      let (staged, found, made) = made_of _ (find (λ (staged : Staged). staged.feed == feed) window.extracts) extract is in
-      let (member, same) = found_member (λ (staged : Staged). staged.feed == feed) window.extracts staged found in
-      let number : staged.feed ≡ feed = eqb-true staged.feed feed same in
-      let rows : staged.rows ≡ extract.rows = ap (λ (x : Extract). x.rows) made in
+      let (staged, member, number, rows) = staged_of feed window extract is in
       let whole : staged ≡ record { feed = feed; rows = extract.rows } = λ i. record { feed = number i; rows = rows i } in
       let brought : Contains (refs_from mapping parent staged) refs = subst (λ (s : Staged). Contains (refs_from mapping parent s) refs) (sym whole) has in
       let offer : Delivery = record { table = table_of parent; refs = refs; feed = staged.feed } in
@@ -81,7 +60,8 @@ single_there key e = by (is_missing key) e
 pub key_at_first : (hub : ℕ) (hubs : List ℕ) (key : Key) (refs : List Key) → Contains (keys_at hub (hub ∷ hubs) (key ∷ refs)) key
 key_at_first hub hubs key refs = rw (eq-eqb hub hub refl) (Contains-cons_here key (keys_at hub hubs refs))
 
-module _ (mapping : Mapping) (sealed : List Window) (feed : ℕ) (definition : FeedDef) (at : slice_get mapping.feeds feed ≡ Some definition) (extract : Extract) (in_history : Contains (history feed (reverse sealed)) extract) (row : NRow) (row_in : Contains extract.rows row) where
+module _ (mapping : Mapping) (sealed : List Window) (feed : ℕ) (definition : FeedDef) (at : slice_get mapping.feeds feed ≡ Some definition) (extract : Extract)
+    (in_history : Contains (history feed (reverse sealed)) extract) (row : NRow) (row_in : Contains extract.rows row) where
   known_by : (parent : Parent) (refs : List Key) → ((window : Window) → extract_of feed window ≡ Some extract → is_offered mapping parent window refs ≡ true) → is_known mapping parent (reverse sealed) refs ≡ true
   known_by parent refs offers =
       let (window, member, is) = filter_map_member (extract_of feed) (reverse sealed) extract in_history in
@@ -95,7 +75,7 @@ module _ (mapping : Mapping) (sealed : List Window) (feed : ℕ) (definition : F
   row_known form = by definition.parent refl
     where
       there : list_all is_missing row.refs ≡ false
-      there = some_there definition.parent definition.driver row.refs form.keyed
+      there = some_there definition row form.keyed
 
       by : (parent : Parent) → definition.parent ≡ parent → is_known mapping definition.parent (reverse sealed) row.refs ≡ true
       by (Hub hub) parent =

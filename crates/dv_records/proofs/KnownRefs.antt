@@ -1,29 +1,7 @@
 -- A reference list that windows bring is found in its table by its hash key.
-use Rattle.std.specs.List.{flat_map, list_all}
-use Rattle.std.specs.Prelude.{Contains, replicate, slice_get}
-use Rattle.std.specs.Str.{bytes_eq}
-use Rattle.std.proofs.Common.{◌≡◌, ℕ, ◌==◌, true, false, not, List, [], ◌∷◌, Option, Some, None, refl, sym, ◌∙◌, ap, length, reverse}
-use Rattle.std.proofs.lemmas.Bool.{and_parts, eqb-true, false≢true, not-true}
-use Rattle.std.proofs.lemmas.List.{nil_from_length}
-use Rattle.std.proofs.lemmas.Slice.Eq.{bytes_eq-Decides}
-use Rattle.dv_text.specs.declared.rows.Key.{Key}
-use Rattle.dv_text.specs.declared.rows.Window.{Window}
-use Rattle.dv_text.specs.Keys.{Hashes, is_missing}
-use Rattle.dv_text.proofs.Members.{Contains-cons_here, Contains-cons_there, filtered_members, flat_map_member, Contains-flat_map, map_member, reverse_member}
-use Rattle.dv_text.proofs.Passing.{all_pass_replicate, some_passes_at, some_passes, finds, found_member}
-use Rattle.dv_catalog.specs.declared.entries.Parent.{Parent}
-use Rattle.dv_catalog.specs.declared.entries.Parent.TheVariants.{Hub, Link}
-use Rattle.dv_catalog.specs.Entries.{Mapping}
-use Rattle.dv_catalog.specs.Feeds.{parts_of}
-use Rattle.dv_records.specs.declared.deliveries.Delivery.{Delivery}
-use Rattle.dv_records.specs.declared.raw_rows.HubRow.{HubRow}
-use Rattle.dv_records.specs.declared.raw_rows.LinkRow.{LinkRow}
-use Rattle.dv_records.specs.Batches.{appended}
-use Rattle.dv_records.specs.Collisions.{IsApart, hashed_refs, missing_refs}
-use Rattle.dv_records.specs.Deliveries.{is_known, is_offered, offered_refs, offers, offers_of}
-use Rattle.dv_records.specs.Hubs.{each_hash, hub_batch, link_batch}
-use Rattle.dv_records.specs.ReadBack.{hub_row_by, link_row_by, missing_key}
-use Rattle.dv_records.specs.States.{fits_hub, is_key_part}
+use Rattle.dv_records.proofs.Vocabulary.{flat_map, list_all, Contains, replicate, slice_get, bytes_eq, ◌≡◌, ℕ, ◌==◌, true, false, not, List, [], ◌∷◌, Option, Some, None, refl, sym, ◌∙◌, ap, length, reverse, and_parts, eqb-true, false≢true, not-true, nil_from_length, bytes_eq-Decides, Key, Window}
+use Rattle.dv_records.proofs.Vocabulary.{Hashes, is_missing, Contains-cons_here, Contains-cons_there, filtered_members, flat_map_member, Contains-flat_map, map_member, reverse_member, all_pass_replicate, some_passes_at, some_passes, finds, found_member, Parent, Hub, Link, Mapping, parts_of}
+use Rattle.dv_records.proofs.Vocabulary.{Delivery, HubRow, LinkRow, appended, IsApart, hashed_refs, missing_refs, is_known, is_offered, offered_refs, offers, offers_of, each_hash, hub_batch, link_batch, hub_row_by, link_row_by, missing_key, fits_hub, is_key_part}
 use Rattle.dv_records.proofs.Delivered.{is_offered-member, offered_member}
 use Rattle.dv_records.proofs.HubTables.{table_has as hub_has, table_row as hub_row_of}
 use Rattle.dv_records.proofs.LinkTables.{table_has as link_has, table_row as link_row_of}
@@ -75,9 +53,6 @@ module _ (mapping : Mapping) (hashes : Hashes) (sealed : List Window) (parent : 
 
 -- ---- rows by hash keys
 
-only_ones : (a b : Key) → a ∷ [] ≡ b ∷ [] → a ≡ b
-only_ones a b e = cc
-
 module _ (mapping : Mapping) (hashes : Hashes) (sealed : List Window) (hub : ℕ) (apart : IsApart hashes (hashed_refs mapping sealed (Hub hub))) where
   abbrev hubs : List HubRow
   hubs = appended (hub_batch mapping hashes hub) (reverse sealed)
@@ -95,7 +70,8 @@ module _ (mapping : Mapping) (hashes : Hashes) (sealed : List Window) (hub : ℕ
       let (first, member, of_key, digest) = hub_has mapping hub hashes (reverse sealed) (offers_apart mapping hashes sealed (Hub hub) apart) key known in
       let (row, found) = finds (λ (row : HubRow). bytes_eq row.digest (hashes.hash (key ∷ []))) hubs first member ((bytes_eq-Decides first.digest (hashes.hash (key ∷ []))).1 digest) in
       let (row_known, hashed) = found_hub (hashes.hash (key ∷ [])) row found in
-      (row, found, only_ones row.key key (known_apart mapping hashes sealed (Hub hub) apart (row.key ∷ []) (key ∷ []) row_known known hashed))
+      let same : row.key ≡ key = cc (known_apart mapping hashes sealed (Hub hub) apart (row.key ∷ []) (key ∷ []) row_known known hashed) in
+      (row, found, same)
 
   -- the missing key has none
   pub missing_unfound : hub_row_by hubs (hashes.hash (missing_key mapping hub ∷ [])) ≡ None

@@ -1,31 +1,12 @@
 -- A table that gets rows of a parent only from extracts that change something of it: its last rows tell the last change.
-use Rattle.std.specs.Option.{option_or}
-use Rattle.std.specs.Prelude.{Contains, nat_le, find, ◌&&◌}
-use Rattle.std.specs.Str.{bytes_eq}
-use Rattle.std.proofs.Common.{◌≡◌, ◌⊎◌, ℕ, ◌≤◌, inl, inr, Bool, true, false, List, [], ◌∷◌, ◌++◌, Option, Some, None, refl, sym, ◌∙◌, ap, subst, arith, reverse}
-use Rattle.std.proofs.lemmas.Bool.{and_from, and_parts, false≢true, le-leb, leb-true}
-use Rattle.std.proofs.lemmas.List.{reverse-append}
-use Rattle.std.proofs.lemmas.List.Elements.{Contains-append_cases, Contains-append_left, Contains-append_right}
-use Rattle.std.proofs.lemmas.List.Folds.{find-append}
-use Rattle.std.proofs.lemmas.Slice.Eq.{bytes_eq-Decides}
-use Rattle.dv_text.specs.declared.rows.Key.{Key}
-use Rattle.dv_text.specs.declared.rows.Window.{Window}
-use Rattle.dv_text.specs.Keys.{Hashes}
-use Rattle.dv_text.proofs.Members.{Contains-cons_here, Contains-cons_there, flat_map_member, Contains-flat_map, Contains-nil, reverse_member}
-use Rattle.dv_text.proofs.Passing.{finds, found_member}
-use Rattle.dv_records.specs.Batches.{appended}
-use Rattle.dv_records.specs.Collisions.{IsApart}
-use Rattle.dv_records.specs.History.{Extract, all_refs, delivered_refs, history, lists_of, up_to}
+use Rattle.dv_records.proofs.Vocabulary.{option_or, Contains, find, ◌&&◌, nat_le, ◌≡◌, ◌⊎◌, ℕ, ◌≤◌, inl, inr, Bool, true, false, List, [], ◌∷◌, ◌++◌, Option, Some, None, refl, sym, ◌∙◌, ap, subst, arith, reverse, bytes_eq, and_from, and_parts, false≢true, le-leb, leb-true, reverse-append}
+use Rattle.dv_records.proofs.Vocabulary.{Contains-append_cases, Contains-append_left, Contains-append_right, find-append, bytes_eq-Decides, Key, Window, Hashes, Contains-cons_here, Contains-cons_there, flat_map_member, Contains-flat_map, Contains-nil, reverse_member, finds, found_member}
+use Rattle.dv_records.proofs.Vocabulary.{filter-all, appended, IsApart, Extract, all_refs, delivered_refs, history, lists_of, up_to}
 use Rattle.dv_records.proofs.Reversing.{AllBefore, IsNewestFirst, history_member}
 
 -- extracts that are all before a date are all up to it
 pub all_up_to : (limit date : ℕ) (all : List Extract) → AllBefore (λ (extract : Extract). extract.load) limit all → limit ≤ date → up_to date all ≡ all
-all_up_to limit date [] before le = refl
-all_up_to limit date (newest ∷ older) before le =
-    let first = before newest (Contains-cons_here newest older) in
-    let reached : nat_le newest.load date ≡ true = le-leb newest.load date (omega arith) in
-    let rest = all_up_to limit date older (λ x has. before x (Contains-cons_there newest older x has)) le in
-    rw (reached, rest)
+all_up_to limit date all before le = filter-all (λ (extract : Extract). nat_le extract.load date) all (λ extract has. let first = before extract has in le-leb extract.load date (omega arith))
 
 -- ---- hash keys of their own
 

@@ -19,12 +19,13 @@ pub mod Plans
 pub mod ReadBack
 pub mod Reversing
 pub mod RowViews
-pub mod SatReconstruct
 pub mod SatelliteTies
+pub mod SatReconstruct
 pub mod StatusReconstruct
 pub mod StatusTies
 pub mod ValidWindows
 pub mod VaultRows
 pub mod VaultSteps
+pub mod Vocabulary
 pub mod WellFormedTables
 pub mod WindowRows

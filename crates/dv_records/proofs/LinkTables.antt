@@ -1,19 +1,5 @@
 -- A link table has a row for each reference list that the windows bring, and no other one.
-use Rattle.std.specs.List.{flat_map}
-use Rattle.std.specs.Prelude.{Contains}
-use Rattle.std.proofs.Common.{◌↔◌, ◌≡◌, ℕ, Bool, true, false, List, Some, None, refl, sym, ap}
-use Rattle.dv_text.specs.declared.rows.Key.{Key}
-use Rattle.dv_text.specs.declared.rows.Window.{Window}
-use Rattle.dv_text.specs.Keys.{Hashes}
-use Rattle.dv_catalog.specs.declared.entries.Parent.TheVariants.{Link}
-use Rattle.dv_catalog.specs.Entries.{Mapping}
-use Rattle.dv_catalog.specs.Feeds.{source}
-use Rattle.dv_records.specs.declared.deliveries.Delivery.{Delivery}
-use Rattle.dv_records.specs.declared.raw_rows.LinkRow.{LinkRow}
-use Rattle.dv_records.specs.Batches.{appended}
-use Rattle.dv_records.specs.Collisions.{IsApart}
-use Rattle.dv_records.specs.Deliveries.{deliveries, is_known, offered_refs}
-use Rattle.dv_records.specs.Hubs.{each_hash, link_batch, link_row, IsLinkBatch}
+use Rattle.dv_records.proofs.Vocabulary.{flat_map, Contains, ◌↔◌, ◌≡◌, ℕ, Bool, true, false, List, Some, None, refl, sym, ap, Key, Window, Hashes, Link, Mapping, source, Delivery, LinkRow, appended, IsApart, deliveries, is_known, offered_refs, each_hash, link_batch, link_row, IsLinkBatch}
 use Rattle.dv_records.proofs.ParentTables as tables
 
 module _ (mapping : Mapping) (link : ℕ) (hashes : Hashes) where
@@ -31,13 +17,16 @@ module _ (mapping : Mapping) (link : ℕ) (hashes : Hashes) where
           let same : record { digest = hashes.hash item.refs; load = window.load; source = source mapping item.feed; hubs = each_hash hashes item.refs } ≡ row = cc in
           (ap (λ (r : LinkRow). r.digest) (sym same), ap (λ (r : LinkRow). r.hubs) (sym same))
 
-  row_makes : (older : List Window) (window : Window) (item : Delivery) → Contains (deliveries mapping (Link link) window) item → is_known mapping (Link link) older item.refs ≡ false → (row : LinkRow) × (link_row mapping hashes link older window item ≡ Some row)
+  row_makes : (older : List Window) (window : Window) (item : Delivery) → Contains (deliveries mapping (Link link) window) item → is_known mapping (Link link) older item.refs ≡ false
+      → (row : LinkRow) × (link_row mapping hashes link older window item ≡ Some row)
   row_makes older window item has new = (record { digest = hashes.hash item.refs; load = window.load; source = source mapping item.feed; hubs = each_hash hashes item.refs }, rw new refl)
 
-  pub link_tied : (older : List Window) (window : Window) → IsApart hashes (offered_refs mapping (Link link) window) → (rows : List LinkRow) → (rows ≡ link_batch mapping hashes link older window) ↔ IsLinkBatch mapping hashes link older window rows
+  pub link_tied : (older : List Window) (window : Window) → IsApart hashes (offered_refs mapping (Link link) window) → (rows : List LinkRow)
+      → (rows ≡ link_batch mapping hashes link older window) ↔ IsLinkBatch mapping hashes link older window rows
   link_tied = tables.tied mapping (Link link) hashes (λ (row : LinkRow). row.digest) (link_row mapping hashes link) IsRowOf (λ refs row is. is.0) row_made row_makes
 
-  pub table_row : (windows : List Window) (row : LinkRow) → Contains (appended (link_batch mapping hashes link) windows) row → (refs : List Key) × (is_known mapping (Link link) windows refs ≡ true) × (row.digest ≡ hashes.hash refs) × (row.hubs ≡ each_hash hashes refs)
+  pub table_row : (windows : List Window) (row : LinkRow) → Contains (appended (link_batch mapping hashes link) windows) row
+      → (refs : List Key) × (is_known mapping (Link link) windows refs ≡ true) × (row.digest ≡ hashes.hash refs) × (row.hubs ≡ each_hash hashes refs)
   table_row windows row has =
       let (refs, known, is) = tables.table_row mapping (Link link) hashes (λ (row : LinkRow). row.digest) (link_row mapping hashes link) IsRowOf (λ refs row is. is.0) row_made row_makes windows row has in
       (refs, known, is.0, is.1)

@@ -1,12 +1,5 @@
 -- The rows of a content are those of one extract.
-use Rattle.std.specs.List.Sorted.{IsStrictlySortedBy}
-use Rattle.std.specs.Prelude.{Contains}
-use Rattle.std.proofs.Common.{ℕ, nat_le, reverse, List, [], ◌∷◌}
-use Rattle.dv_text.specs.declared.rows.NRow.{NRow}
-use Rattle.dv_text.specs.declared.rows.Window.{Window}
-use Rattle.dv_text.specs.Orders.{row_cmp}
-use Rattle.dv_text.proofs.Members.{filtered_members, Contains-cons_here, Contains-nil}
-use Rattle.dv_records.specs.History.{content, history, up_to, Extract, newest_rows}
+use Rattle.dv_records.proofs.Vocabulary.{IsStrictlySortedBy, Contains, ℕ, nat_le, reverse, List, [], ◌∷◌, NRow, Window, row_cmp, filtered_members, Contains-cons_here, Contains-nil, content, history, up_to, Extract, newest_rows}
 use Rattle.dv_records.proofs.Reversing.{history_member}
 
 newest_extract : (all : List Extract) (row : NRow) → Contains (newest_rows all) row → (extract : Extract) × Contains all extract × Contains extract.rows row
@@ -19,7 +12,7 @@ newest_ascends [] up = tt
 newest_ascends (newest ∷ older) up = up newest (Contains-cons_here newest older)
 
 module _ (feed : ℕ) (sealed : List Window) (date : ℕ) where
-  reached : (extract : Extract) → Contains (up_to date (history feed (reverse sealed))) extract → Contains (history feed (reverse sealed)) extract
+  pub reached : (extract : Extract) → Contains (up_to date (history feed (reverse sealed))) extract → Contains (history feed (reverse sealed)) extract
   reached extract has = ((filtered_members (λ (extract : Extract). nat_le extract.load date) (history feed (reverse sealed)) extract).0 has).0
 
   pub content_extract : (row : NRow) → Contains (content feed sealed date) row → (extract : Extract) × Contains (history feed (reverse sealed)) extract × Contains extract.rows row

@@ -1,20 +1,7 @@
 -- The table of a hub or a link has a row for each reference list that the windows bring, and no other one, for any kind of
 -- row that is made of a delivery.
-use Rattle.std.specs.List.{flat_map}
-use Rattle.std.specs.Prelude.{Contains, ◌||◌}
-use Rattle.std.proofs.Common.{Option, ◌↔◌, ◌≡◌, ℕ, inl, inr, Bool, true, false, List, [], ◌∷◌, Some, refl, sym, ◌∙◌, ap, subst}
-use Rattle.std.proofs.lemmas.Bool.{false≢true, or_left, or_right}
-use Rattle.std.proofs.lemmas.List.Elements.{Contains-append_cases, Contains-append_left, Contains-append_right}
-use Rattle.dv_text.specs.declared.rows.Key.{Key}
-use Rattle.dv_text.specs.declared.rows.Window.{Window}
-use Rattle.dv_text.specs.Keys.{Hashes}
-use Rattle.dv_text.proofs.Members.{Contains-nil}
-use Rattle.dv_catalog.specs.declared.entries.Parent.{Parent}
-use Rattle.dv_catalog.specs.Entries.{Mapping}
-use Rattle.dv_records.specs.declared.deliveries.Delivery.{Delivery}
-use Rattle.dv_records.specs.Batches.{appended, batch_of, digest_cmp, IsBatchOf}
-use Rattle.dv_records.specs.Collisions.{IsApart}
-use Rattle.dv_records.specs.Deliveries.{deliveries, first_offer, is_known, is_offered, offered_refs}
+use Rattle.dv_records.proofs.Vocabulary.{flat_map, Contains, ◌||◌, Option, ◌↔◌, ◌≡◌, ℕ, inl, inr, Bool, true, false, List, [], ◌∷◌, Some, refl, sym, ◌∙◌, ap, subst, false≢true, or_left, or_right, Contains-append_cases, Contains-append_left, Contains-append_right, Key, Window, Hashes}
+use Rattle.dv_records.proofs.Vocabulary.{Contains-nil, Parent, Mapping, Delivery, appended, batch_of, digest_cmp, IsBatchOf, IsApart, deliveries, first_offer, is_known, is_offered, offered_refs}
 use Rattle.dv_records.proofs.BatchTies.{batch_made, tied_by_digest}
 use Rattle.dv_records.proofs.Delivered.{deliveries_member, delivery-offered, first_offer-refs, has_first_offer, is_offered-member, offered_member, deliveries-apart}
 
@@ -22,7 +9,10 @@ first_true : (a b : Bool) → (a || b) ≡ true → b ≡ false → a ≡ true
 first_true true b e f = refl
 first_true false b e f = absurd (false≢true (sym f ∙ e))
 
-module _ {R : Type 0} (mapping : Mapping) (parent : Parent) (hashes : Hashes) (digest_of : R → List ℕ) (row_of : List Window → Window → Delivery → Option R) (IsRowOf : List Key → R → Type 0) (digests : (refs : List Key) (row : R) → IsRowOf refs row → digest_of row ≡ hashes.hash refs) (made : (older : List Window) (window : Window) (item : Delivery) (row : R) → row_of older window item ≡ Some row → IsRowOf item.refs row) (makes : (older : List Window) (window : Window) (item : Delivery) → Contains (deliveries mapping parent window) item → is_known mapping parent older item.refs ≡ false → (row : R) × (row_of older window item ≡ Some row)) where
+module _ {R : Type 0} (mapping : Mapping) (parent : Parent) (hashes : Hashes) (digest_of : R → List ℕ) (row_of : List Window → Window → Delivery → Option R) (IsRowOf : List Key → R → Type 0)
+    (digests : (refs : List Key) (row : R) → IsRowOf refs row → digest_of row ≡ hashes.hash refs)
+    (made : (older : List Window) (window : Window) (item : Delivery) (row : R) → row_of older window item ≡ Some row → IsRowOf item.refs row)
+    (makes : (older : List Window) (window : Window) (item : Delivery) → Contains (deliveries mapping parent window) item → is_known mapping parent older item.refs ≡ false → (row : R) × (row_of older window item ≡ Some row)) where
   abbrev batch : List Window → Window → List R
   batch older window = batch_of (λ a b. digest_cmp (digest_of a) (digest_of b)) (row_of older window) (deliveries mapping parent window)
 
@@ -58,7 +48,8 @@ module _ {R : Type 0} (mapping : Mapping) (parent : Parent) (hashes : Hashes) (d
       ]
 
   -- and each such list has a row, where no two of them have one hash key
-  pub table_has : (windows : List Window) → IsApart hashes (flat_map (offered_refs mapping parent) windows) → (refs : List Key) → is_known mapping parent windows refs ≡ true → (row : R) × Contains (appended batch windows) row × IsRowOf refs row
+  pub table_has : (windows : List Window) → IsApart hashes (flat_map (offered_refs mapping parent) windows) → (refs : List Key) → is_known mapping parent windows refs ≡ true
+      → (row : R) × Contains (appended batch windows) row × IsRowOf refs row
   table_has [] apart refs known = absurd (false≢true known)
   table_has (newest ∷ older) apart refs known = by (is_known mapping parent older refs) refl (λ e. table_has older (λ a b a_in b_in. apart a b (rest a a_in) (rest b b_in)) refs e)
     where

@@ -1,32 +1,10 @@
 -- The content of a feed without a sub is read back from the tables of the vault.
-use Rattle.std.specs.List.{filter_map}
-use Rattle.std.specs.Option.{option_map, option_map_or}
-use Rattle.std.specs.Prelude.{Contains, slice_get}
-use Rattle.std.proofs.Common.{◌≡◌, ℕ, ◌==◌, Bool, true, false, List, [], ◌∷◌, Option, Some, refl, sym, ◌∙◌, ap, subst, length, nat_le, reverse, eqb-true}
-use Rattle.std.proofs.lemmas.List.{nil_from_length}
-use Rattle.dv_text.specs.declared.rows.NRow.{NRow}
-use Rattle.dv_text.specs.declared.rows.Window.{Window}
-use Rattle.dv_text.specs.Exact.{row_cmp-IsAntisymmetric}
-use Rattle.dv_text.specs.Keys.{Hashes, refs_eq}
-use Rattle.dv_text.proofs.Deciding.{refs_eq-Decides, row_total}
-use Rattle.dv_text.proofs.Members.{Contains-cons_here, filter_map_member, filtered_members, member_of_filter_map, Contains-nil}
-use Rattle.dv_text.proofs.Options.{made_of}
-use Rattle.dv_text.proofs.Passing.{some_passes_at}
-use Rattle.dv_text.proofs.SortedLists.{sorted_by-members}
-use Rattle.dv_catalog.specs.declared.entries.FeedDef.{FeedDef}
-use Rattle.dv_catalog.specs.Entries.{Mapping}
-use Rattle.dv_catalog.specs.Mappings.{is_valid}
-use Rattle.dv_records.specs.declared.raw_rows.SatRow.{SatRow}
-use Rattle.dv_records.specs.declared.stores.Rows.TheVariants.{Sats}
-use Rattle.dv_records.specs.declared.stores.TableRows.{TableRows}
-use Rattle.dv_records.specs.History.{Extract, content, delivers, history, newest_rows, up_to}
-use Rattle.dv_records.specs.ReadBack.{attrs_read, content_read, content_read_by, present_parents, row_read, sat_rows_in, status_rows_in}
-use Rattle.dv_records.specs.Reconstruction.{first_attrs, valid_at, HasOneRowEach}
-use Rattle.dv_records.specs.Satellites.{last_rows, IsOnePerList}
-use Rattle.dv_records.specs.States.{are_windows_valid}
-use Rattle.dv_records.specs.Vault.{vault}
+use Rattle.dv_records.proofs.Vocabulary.{filter_map, option_map, option_map_or, Contains, slice_get, ◌≡◌, ℕ, ◌==◌, Bool, true, false, List, [], ◌∷◌, Option, Some, refl, sym, ◌∙◌, ap, subst, length, reverse, eqb-true, nil_from_length, NRow, Window, row_cmp-IsAntisymmetric, Hashes, refs_eq}
+use Rattle.dv_records.proofs.Vocabulary.{refs_eq-Decides, row_total, Contains-cons_here, filter_map_member, filtered_members, member_of_filter_map, Contains-nil, made_of, some_passes_at, sorted_by-members, FeedDef, Mapping, is_valid, SatRow, Sats, TableRows, Extract, content, delivers, history}
+use Rattle.dv_records.proofs.Vocabulary.{newest_rows, up_to, attrs_read, content_read, content_read_by, present_parents, row_read, sat_rows_in, status_rows_in, first_attrs, valid_at, HasOneRowEach, last_rows, IsOnePerList, are_windows_valid, vault}
 use Rattle.dv_records.proofs.ChangedRows.{only_attrs}
 use Rattle.dv_records.proofs.FeedContents.{rows_of_extract, content_ascends, content_delivered, feed_apart, present_has, row_form, row_present, row_refs}
+use Rattle.dv_records.proofs.NewestRows.{reached}
 use Rattle.dv_records.proofs.Reversing.{history_member}
 use Rattle.dv_records.proofs.SatReconstruct.{sat_tells}
 use Rattle.dv_records.proofs.ValidWindows.{load_order}
@@ -50,7 +28,8 @@ told_or o attrs e =
 
 -- ---- the theorem
 
-module _ (mapping : Mapping) (hashes : Hashes) (sealed : List Window) (feed : ℕ) (definition : FeedDef) (valid : is_valid mapping ≡ true) (windows_valid : are_windows_valid mapping hashes sealed ≡ true) (at : slice_get mapping.feeds feed ≡ Some definition) (none : definition.sub ≡ []) where
+module _ (mapping : Mapping) (hashes : Hashes) (sealed : List Window) (feed : ℕ) (definition : FeedDef) (valid : is_valid mapping ≡ true)
+    (windows_valid : are_windows_valid mapping hashes sealed ≡ true) (at : slice_get mapping.feeds feed ≡ Some definition) (none : definition.sub ≡ []) where
   abbrev tables : List TableRows
   tables = vault mapping hashes sealed
 
@@ -64,9 +43,7 @@ module _ (mapping : Mapping) (hashes : Hashes) (sealed : List Window) (feed : �
 
   module _ (date : ℕ) where
     singles : (extract : Extract) → Contains (up_to date (history feed (reverse sealed))) extract → IsOnePerList extract.rows
-    singles extract has =
-        single extract
-        ((history_member feed sealed extract).0 ((filtered_members (λ (extract : Extract). nat_le extract.load date) (history feed (reverse sealed)) extract).0 has).0)
+    singles extract has = single extract ((history_member feed sealed extract).0 (reached feed sealed date extract has))
 
     -- the attributes of a row of the content are read back
     attrs_told : (row : NRow) → Contains (content feed sealed date) row → attrs_read tables definition feed (hashes.hash row.refs) date ≡ row.attrs

@@ -1,17 +1,6 @@
 -- Windows and extracts from the newest to the oldest.
-use Rattle.std.specs.declared.cmp.Ordering.TheVariants.{Less}
-use Rattle.std.specs.Cmp.{ranked}
-use Rattle.std.specs.List.{AllByRecursion, filter_map}
-use Rattle.std.specs.List.Sorted.{IsStrictlySortedBy}
-use Rattle.std.specs.Ordering.{nat_cmp}
-use Rattle.std.specs.Prelude.{Contains}
-use Rattle.std.proofs.Common.{◌≡◌, ◌↔◌, ℕ, ◌<◌, inl, inr, List, [], ◌∷◌, ◌++◌, Option, Some, None, refl, sym, ap, subst, reverse, map}
-use Rattle.std.proofs.lemmas.List.{reverse-append}
-use Rattle.std.proofs.lemmas.List.Elements.{Contains-append_cases}
-use Rattle.dv_text.specs.declared.rows.Window.{Window}
-use Rattle.dv_text.proofs.Members.{reverse_member, Contains-cons_cases, Contains-cons_here, Contains-cons_there, filter_map_member, member_of_filter_map, Contains-nil}
-use Rattle.dv_text.proofs.Options.{made_of}
-use Rattle.dv_records.specs.History.{Extract, extract_of, history, IsInLoadOrder}
+use Rattle.dv_records.proofs.Vocabulary.{Less, ranked, AllByRecursion, filter_map, IsStrictlySortedBy, nat_cmp, Contains, ◌≡◌, ◌↔◌, ℕ, ◌<◌, inl, inr, List, [], ◌∷◌, ◌++◌, Option, Some, None, refl, sym, ap, subst, reverse, map, reverse-append, Contains-append_cases, Window, reverse_member}
+use Rattle.dv_records.proofs.Vocabulary.{Contains-cons_cases, Contains-cons_here, Contains-cons_there, filter_map_member, member_of_filter_map, Contains-nil, made_of, Extract, extract_of, history, IsInLoadOrder}
 
 -- each is before a date
 abbrev pub AllBefore : {X : Type 0} → (X → ℕ) → ℕ → List X → Type 0

@@ -1,24 +1,6 @@
 -- The satellite rows of a feed say at each date which attributes a list had when it was last there.
-use Rattle.std.specs.Option.{option_map}
-use Rattle.std.specs.Prelude.{Contains, nat_le, find, ◌&&◌}
-use Rattle.std.specs.Str.{bytes_eq}
-use Rattle.std.proofs.Common.{◌≡◌, ℕ, List, [], Some, None, refl, sym, ◌∙◌, ap, reverse, ◌⊎◌, inl, inr}
-use Rattle.dv_text.specs.declared.rows.Key.{Key}
-use Rattle.dv_text.specs.declared.rows.NRow.{NRow}
-use Rattle.dv_text.specs.declared.rows.Window.{Window}
-use Rattle.dv_text.specs.Keys.{Hashes}
-use Rattle.dv_catalog.specs.declared.tables.TableId.TheVariants.{Sat}
-use Rattle.dv_catalog.specs.Entries.{Mapping}
-use Rattle.dv_catalog.specs.Feeds.{source as source_of}
-use Rattle.dv_records.specs.declared.raw_rows.SatRow.{SatRow}
-use Rattle.dv_records.specs.declared.stores.Rows.TheVariants.{Sats}
-use Rattle.dv_records.specs.Batches.{appended}
-use Rattle.dv_records.specs.Collisions.{IsApart}
-use Rattle.dv_records.specs.History.{Extract, all_refs, delivered_refs, history, lists_of, up_to, IsInLoadOrder}
-use Rattle.dv_records.specs.ReadBack.{sat_rows}
-use Rattle.dv_records.specs.Reconstruction.{first_attrs, valid_at, HasOneRowEach}
-use Rattle.dv_records.specs.Satellites.{last_rows, sat_batch, IsSatBatch, IsOnePerList, sat_cmp}
-use Rattle.dv_records.specs.Vault.{table_after}
+use Rattle.dv_records.proofs.Vocabulary.{option_map, Contains, find, ◌&&◌, nat_le, ◌≡◌, ℕ, List, [], Some, None, refl, sym, ◌∙◌, ap, reverse, ◌⊎◌, inl, inr, bytes_eq, Key, NRow, Window, Hashes, Sat, Mapping, source as source_of, SatRow, Sats, appended, IsApart, Extract, all_refs, delivered_refs}
+use Rattle.dv_records.proofs.Vocabulary.{history, lists_of, up_to, IsInLoadOrder, sat_rows, first_attrs, valid_at, HasOneRowEach, last_rows, sat_batch, IsSatBatch, IsOnePerList, sat_cmp, table_after}
 use Rattle.dv_records.proofs.ChangedRows.{AreValid, only_attrs, valid_rows}
 use Rattle.dv_records.proofs.FeedSteps.{feed_rows}
 use Rattle.dv_records.proofs.LastChange.{IsOwn, apart-reversed}
@@ -33,13 +15,17 @@ module _ (hashes : Hashes) (source : List ℕ) (refs : List Key) (date : ℕ) wh
   -- the rows of all extracts say what the newest one up to the date that holds the list had
   pub tells : (all : List Extract) → IsNewestFirst (λ (extract : Extract). extract.load) all → ((extract : Extract) → Contains all extract → IsOnePerList extract.rows) → IsApart hashes (lists_of all) → IsOwn hashes refs all
       → option_map (λ (row : SatRow). row.attrs) (find (λ row. bytes_eq row.parent (hashes.hash refs) && nat_le row.load date) (reverse (appended (sat_batch hashes source) all))) ≡ first_attrs (last_rows (up_to date all) refs)
-  tells all order single apart own = by (valid_rows (λ (row : SatRow). row.parent) (λ (row : SatRow). row.load) sat_cmp made_row (sat_batch hashes source) IsOnePerList hashes (λ extract made. refl) (λ extract made. refl) is_batch refs date all order (single, (apart, own)))
+  tells all order single apart own =
+      by
+      (valid_rows (λ (row : SatRow). row.parent) (λ (row : SatRow). row.load) sat_cmp made_row (sat_batch hashes source) IsOnePerList hashes (λ extract made. refl) (λ extract made. refl) is_batch refs date all order
+      (single, (apart, own)))
     where
       is_batch : (older : List Extract) (newest : Extract) → IsOnePerList newest.rows → IsApart hashes (all_refs newest.rows) → IsSatBatch hashes source older newest (sat_batch hashes source older newest)
       is_batch older newest single apart = (sat_tied hashes source older newest single apart (sat_batch hashes source older newest)).0 refl
 
       by : ((find (λ (row : SatRow). bytes_eq row.parent (hashes.hash refs) && nat_le row.load date) (reverse (appended (sat_batch hashes source) all)) ≡ None) × (last_rows (up_to date all) refs ≡ []))
-          ⊎ AreValid (λ (row : SatRow). row.parent) (λ (row : SatRow). row.load) sat_cmp made_row (sat_batch hashes source) IsOnePerList hashes (λ extract made. refl) (λ extract made. refl) is_batch refs date all (appended (sat_batch hashes source) all)
+          ⊎ AreValid (λ (row : SatRow). row.parent) (λ (row : SatRow). row.load) sat_cmp made_row (sat_batch hashes source) IsOnePerList hashes (λ extract made. refl) (λ extract made. refl) is_batch refs date all
+          (appended (sat_batch hashes source) all)
           → option_map (λ (row : SatRow). row.attrs) (find (λ row. bytes_eq row.parent (hashes.hash refs) && nat_le row.load date) (reverse (appended (sat_batch hashes source) all))) ≡ first_attrs (last_rows (up_to date all) refs)
       by (inl none) = ap (option_map (λ (row : SatRow). row.attrs)) none.0 ∙ ap first_attrs (sym none.1)
       by (inr is) =
@@ -49,7 +35,8 @@ module _ (hashes : Hashes) (source : List ℕ) (refs : List Key) (date : ℕ) wh
 
 -- ---- windows
 
-module _ (mapping : Mapping) (hashes : Hashes) (feed : ℕ) (sealed : List Window) (rows : List SatRow) (table : table_after mapping hashes (reverse sealed) (Sat feed) ≡ Sats rows) (order : IsInLoadOrder sealed) (single : HasOneRowEach feed sealed) (apart : IsApart hashes (delivered_refs feed sealed)) (refs : List Key) where
+module _ (mapping : Mapping) (hashes : Hashes) (feed : ℕ) (sealed : List Window) (rows : List SatRow) (table : table_after mapping hashes (reverse sealed) (Sat feed) ≡ Sats rows)
+    (order : IsInLoadOrder sealed) (single : HasOneRowEach feed sealed) (apart : IsApart hashes (delivered_refs feed sealed)) (refs : List Key) where
   pub sat_tells : IsOwn hashes refs (history feed sealed)
       → (date : ℕ) → option_map (λ row. row.attrs) (valid_at rows (hashes.hash refs) date) ≡ first_attrs (last_rows (up_to date (history feed (reverse sealed))) refs)
   sat_tells own date =

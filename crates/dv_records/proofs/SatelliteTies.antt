@@ -1,19 +1,6 @@
 -- Satellite batches are the lists that meet their records.
-use Rattle.std.specs.declared.cmp.Ordering.TheVariants.{Equal}
-use Rattle.std.specs.Cmp.{IsTotalOrder, on_total, then_total}
-use Rattle.std.specs.Cmp.Lexicographic.{lists_total, nat_list_cmp_total}
-use Rattle.std.specs.FinMap.{nat_cmp-IsAntisymmetric, slice_cmp-IsAntisymmetric}
-use Rattle.std.specs.Prelude.{Contains}
-use Rattle.std.proofs.Common.{◌≡◌, ◌↔◌, ℕ, Bool, true, false, List, Some, refl, sym, ◌∙◌, ap}
-use Rattle.dv_text.specs.declared.rows.NRow.{NRow}
-use Rattle.dv_text.specs.Exact.{both_tied}
-use Rattle.dv_text.specs.Keys.{Hashes}
-use Rattle.dv_text.proofs.Members.{Contains-map}
-use Rattle.dv_records.specs.declared.raw_rows.MultiRow.{MultiRow}
-use Rattle.dv_records.specs.declared.raw_rows.SatRow.{SatRow}
-use Rattle.dv_records.specs.Collisions.{IsApart}
-use Rattle.dv_records.specs.History.{Extract, all_refs}
-use Rattle.dv_records.specs.Satellites.{is_changed, multi_batch, multi_cmp, multi_row, sat_batch, sat_row, IsMultiBatch, IsSatBatch, IsOnePerList, IsOnePerSub}
+use Rattle.dv_records.proofs.Vocabulary.{Equal, IsTotalOrder, on_total, then_total, lists_total, nat_list_cmp_total, nat_cmp-IsAntisymmetric, slice_cmp-IsAntisymmetric, Contains, ◌≡◌, ◌↔◌, ℕ, Bool, true, false, List, Some, refl, sym, ◌∙◌, ap, NRow, both_tied, Hashes, Contains-map, MultiRow}
+use Rattle.dv_records.proofs.Vocabulary.{SatRow, IsApart, Extract, all_refs, is_changed, multi_batch, multi_cmp, multi_row, sat_batch, sat_row, IsMultiBatch, IsSatBatch, IsOnePerList, IsOnePerSub}
 use Rattle.dv_records.proofs.BatchTies.{tied, tied_by_digest}
 
 pub multi_total : IsTotalOrder multi_cmp

@@ -1,27 +1,7 @@
 -- The status rows of a feed say at each date which reference lists its content delivers.
-use Rattle.std.specs.Prelude.{Contains, nat_le, find, ◌&&◌}
-use Rattle.std.specs.Str.{bytes_eq}
-use Rattle.std.proofs.Common.{◌≡◌, ℕ, inl, inr, Bool, true, false, List, [], ◌∷◌, ◌++◌, Option, Some, None, refl, sym, ◌∙◌, ap, reverse}
-use Rattle.std.proofs.lemmas.List.Elements.{Contains-append_cases, Contains-append_left, Contains-append_right}
-use Rattle.dv_text.specs.declared.rows.Key.{Key}
-use Rattle.dv_text.specs.declared.rows.Window.{Window}
-use Rattle.dv_text.specs.Keys.{Hashes}
-use Rattle.dv_text.proofs.Members.{Contains-nil}
-use Rattle.dv_text.proofs.Options.{made_of}
-use Rattle.dv_catalog.specs.declared.tables.TableId.TheVariants.{Status}
-use Rattle.dv_catalog.specs.Entries.{Mapping}
-use Rattle.dv_catalog.specs.Feeds.{source as source_of}
-use Rattle.dv_records.specs.declared.raw_rows.Code.{Code}
-use Rattle.dv_records.specs.declared.raw_rows.Code.TheVariants.{I, D}
-use Rattle.dv_records.specs.declared.raw_rows.StatusRow.{StatusRow}
-use Rattle.dv_records.specs.declared.stores.Rows.TheVariants.{Statuses}
-use Rattle.dv_records.specs.Batches.{appended}
-use Rattle.dv_records.specs.Collisions.{IsApart}
-use Rattle.dv_records.specs.History.{Extract, all_refs, content, delivered_refs, delivers, history, lists_of, newest_rows, up_to, IsInLoadOrder}
-use Rattle.dv_records.specs.ReadBack.{status_rows}
-use Rattle.dv_records.specs.Reconstruction.{is_appearance, present_at, says_present}
-use Rattle.dv_records.specs.Statuses.{code_between, code_of, status_batch, IsStatusBatch}
-use Rattle.dv_records.specs.Vault.{table_after}
+use Rattle.dv_records.proofs.Vocabulary.{Contains, find, ◌&&◌, nat_le, ◌≡◌, ℕ, inl, inr, Bool, true, false, List, [], ◌∷◌, ◌++◌, Option, Some, None, refl, sym, ◌∙◌, ap, reverse, bytes_eq, Contains-append_cases, Contains-append_left, Contains-append_right, Key, Window, Hashes, Contains-nil}
+use Rattle.dv_records.proofs.Vocabulary.{made_of, Status, Mapping, source as source_of, Code, I, D, StatusRow, Statuses, appended, IsApart, Extract, all_refs, content, delivered_refs, delivers, history, lists_of, newest_rows, up_to, IsInLoadOrder, status_rows, is_appearance, present_at}
+use Rattle.dv_records.proofs.Vocabulary.{says_present, code_between, code_of, status_batch, IsStatusBatch, table_after}
 use Rattle.dv_records.proofs.FeedSteps.{feed_rows}
 use Rattle.dv_records.proofs.LastChange.{AreApart, Changes, IsOwn, IsStep, Tells, apart-older, apart-reversed, last_change}
 use Rattle.dv_records.proofs.Reversing.{IsNewestFirst, history-newest_first}
@@ -73,7 +53,7 @@ module _ (hashes : Hashes) (source : List ℕ) (refs : List Key) (date : ℕ) wh
       where
         by : (c : Option Code) → code_of older newest refs ≡ c
             → Changes (λ (row : StatusRow). row.parent) (λ (row : StatusRow). row.load) (status_batch hashes source) (λ all. delivers (newest_rows all) refs) (AreApart hashes refs) (hashes.hash refs) date newest older
-        by (Some code) e = inl (record { parent = hashes.hash refs; load = newest.load; source = source; code = code }, is_batch.each refs (record { parent = hashes.hash refs; load = newest.load; source = source; code = code }) (rw e), refl)
+        by (Some code) e = let row : StatusRow = record { parent = hashes.hash refs; load = newest.load; source = source; code = code } in inl (row, is_batch.each refs row (rw e), refl)
         by None e = inr (
           λ row has parent. let no : None ≡ Some row.code = sym e ∙ (own_row row has parent).1 in cc,
           sym (none_says (delivers (newest_rows older) refs) (delivers newest.rows refs) e),
@@ -84,7 +64,8 @@ module _ (hashes : Hashes) (source : List ℕ) (refs : List Key) (date : ℕ) wh
       → says_present (find (λ row. bytes_eq row.parent (hashes.hash refs) && nat_le row.load date) (reverse (appended (status_batch hashes source) all))) ≡ delivers (newest_rows (up_to date all)) refs
   tells all order apart own = by (last_change _ _ _ _ _ _ _ (apart-older hashes refs) step all order (apart, own))
     where
-      by : Tells (λ (row : StatusRow). row.parent) (λ (row : StatusRow). row.load) (status_batch hashes source) (λ all. delivers (newest_rows all) refs) (AreApart hashes refs) (hashes.hash refs) date all (appended (status_batch hashes source) all)
+      by : Tells (λ (row : StatusRow). row.parent) (λ (row : StatusRow). row.load) (status_batch hashes source) (λ all. delivers (newest_rows all) refs) (AreApart hashes refs) (hashes.hash refs) date all
+          (appended (status_batch hashes source) all)
           → says_present (find (λ row. bytes_eq row.parent (hashes.hash refs) && nat_le row.load date) (reverse (appended (status_batch hashes source) all))) ≡ delivers (newest_rows (up_to date all)) refs
       by (inl none) = ap says_present none.0 ∙ sym none.1
       by (inr is) =
@@ -94,7 +75,8 @@ module _ (hashes : Hashes) (source : List ℕ) (refs : List Key) (date : ℕ) wh
 
 -- ---- windows
 
-module _ (mapping : Mapping) (hashes : Hashes) (feed : ℕ) (sealed : List Window) (rows : List StatusRow) (table : table_after mapping hashes (reverse sealed) (Status feed) ≡ Statuses rows) (order : IsInLoadOrder sealed) (apart : IsApart hashes (delivered_refs feed sealed)) (refs : List Key) where
+module _ (mapping : Mapping) (hashes : Hashes) (feed : ℕ) (sealed : List Window) (rows : List StatusRow) (table : table_after mapping hashes (reverse sealed) (Status feed) ≡ Statuses rows)
+    (order : IsInLoadOrder sealed) (apart : IsApart hashes (delivered_refs feed sealed)) (refs : List Key) where
   pub status_tells : IsOwn hashes refs (history feed sealed) → (date : ℕ) → present_at rows (hashes.hash refs) date ≡ delivers (content feed sealed date) refs
   status_tells own date =
       let all = apart-reversed hashes feed sealed refs apart own in

@@ -1,13 +1,5 @@
 -- Status batches are the lists that meet their records.
-use Rattle.std.specs.Prelude.{Contains}
-use Rattle.std.proofs.Common.{◌≡◌, ◌↔◌, ℕ, Bool, true, false, List, ◌++◌, Some, refl}
-use Rattle.std.proofs.lemmas.List.Elements.{Contains-append_left, Contains-append_right}
-use Rattle.dv_text.specs.declared.rows.Key.{Key}
-use Rattle.dv_text.specs.Keys.{Hashes}
-use Rattle.dv_records.specs.declared.raw_rows.StatusRow.{StatusRow}
-use Rattle.dv_records.specs.Collisions.{IsApart}
-use Rattle.dv_records.specs.History.{Extract, all_refs, delivers, newest_rows}
-use Rattle.dv_records.specs.Statuses.{code_of, status_batch, status_row, IsStatusBatch}
+use Rattle.dv_records.proofs.Vocabulary.{Contains, ◌≡◌, ◌↔◌, ℕ, Bool, true, false, List, ◌++◌, Some, refl, Contains-append_left, Contains-append_right, Key, Hashes, StatusRow, IsApart, Extract, all_refs, delivers, newest_rows, code_of, status_batch, status_row, IsStatusBatch}
 use Rattle.dv_records.proofs.BatchTies.{given, tied_by_digest, tied_whole}
 use Rattle.dv_records.proofs.Deciding.{Contains-all_refs}
 

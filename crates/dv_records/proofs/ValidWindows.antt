@@ -1,24 +1,7 @@
 -- What valid windows keep to: they are in load order, no two keys of a hub and no two lists of a link have one hash key,
 -- and each is a window of the definition.
-use Rattle.std.specs.List.{list_all, range_with_len}
-use Rattle.std.specs.Prelude.{Contains, is_none, slice_get}
-use Rattle.std.proofs.Common.{◌≡◌, ℕ, ◌<◌, true, List, Some, None, sym, ◌∙◌, ap, length, map, nat_le}
-use Rattle.std.proofs.lemmas.Bool.{and_parts}
-use Rattle.std.proofs.lemmas.List.Elements.{All-contains, Contains-append_left, Contains-append_right}
-use Rattle.std.proofs.lemmas.Option.{none-some}
-use Rattle.dv_text.specs.declared.rows.Window.{Window}
-use Rattle.dv_text.specs.Keys.{Hashes}
-use Rattle.dv_text.proofs.Members.{Contains-map, Contains-range}
-use Rattle.dv_text.proofs.Options.{none_from}
-use Rattle.dv_text.proofs.Passing.{passes_at}
-use Rattle.dv_catalog.specs.declared.entries.Parent.{Parent}
-use Rattle.dv_catalog.specs.declared.entries.Parent.TheVariants.{Hub, Link}
-use Rattle.dv_catalog.specs.Entries.{Mapping}
-use Rattle.dv_records.specs.Collisions.{IsApart, collision, collision_in, hashed_refs, parents}
-use Rattle.dv_records.specs.History.{Extract, extract_of, IsInLoadOrder}
-use Rattle.dv_records.specs.Limits.{most_weight, most_windows}
-use Rattle.dv_records.specs.States.{are_windows_valid, ascends, is_window}
-use Rattle.dv_records.specs.Weights.{vault_weight}
+use Rattle.dv_records.proofs.Vocabulary.{list_all, range_with_len, Contains, is_none, slice_get, ◌≡◌, ℕ, ◌<◌, true, List, Some, None, sym, ◌∙◌, ap, length, map, nat_le, and_parts, All-contains, Contains-append_left, Contains-append_right, none-some, Window, Hashes, Contains-map, Contains-range}
+use Rattle.dv_records.proofs.Vocabulary.{none_from, passes_at, Parent, Hub, Link, Mapping, IsApart, collision, collision_in, hashed_refs, parents, Extract, extract_of, IsInLoadOrder, most_weight, most_windows, are_windows_valid, ascends, is_window, vault_weight}
 use Rattle.dv_records.proofs.CollisionTies.{collision_free, none_collide}
 use Rattle.dv_records.proofs.WindowRows.{in_order, staged_at, staged_rows}
 

@@ -1,25 +1,9 @@
 -- The rows of a table in the vault, and which tables a mapping has.
-use Rattle.std.specs.List.{range_with_len}
-use Rattle.std.specs.Prelude.{Contains, slice_get}
-use Rattle.std.proofs.Common.{◌≡◌, ◌⊎◌, ℕ, zero, suc, ◌+◌, ◌<◌, ◌==◌, inl, inr, Bool, true, false, List, [], ◌∷◌, ◌++◌, Some, None, refl, sym, ◌∙◌, ap, subst, arith, length, map, reverse}
-use Rattle.std.proofs.lemmas.Bool.{false≢true}
-use Rattle.std.proofs.lemmas.List.Elements.{Contains-append_left, Contains-append_right}
-use Rattle.dv_text.specs.declared.rows.Window.{Window}
-use Rattle.dv_text.specs.Keys.{Hashes}
-use Rattle.dv_text.proofs.Members.{Contains-range, Contains-cons_cases, Contains-cons_here, Contains-cons_there, Contains-map, Contains-nil}
-use Rattle.dv_catalog.specs.declared.entries.FeedDef.{FeedDef}
-use Rattle.dv_catalog.specs.declared.tables.TableId.{TableId}
-use Rattle.dv_catalog.specs.declared.tables.TableId.TheVariants.{Hub, Link, Sat, Multi, Status}
-use Rattle.dv_catalog.specs.Entries.{Mapping}
-use Rattle.dv_catalog.specs.Feeds.{source}
-use Rattle.dv_catalog.specs.Tables.{effect_tables, feed_tables, sat_tables, tables}
-use Rattle.dv_records.specs.Batches.{appended}
-use Rattle.dv_records.specs.Hubs.{hub_batch, link_batch}
-use Rattle.dv_records.specs.ReadBack.{hub_rows, hub_rows_in, link_rows, link_rows_in, multi_rows, multi_rows_in, sat_rows, sat_rows_in, status_rows, status_rows_in}
-use Rattle.dv_records.specs.Satellites.{multi_batch, sat_batch}
-use Rattle.dv_records.specs.Statuses.{status_batch}
-use Rattle.dv_records.specs.Stores.{no_rows, rows_in, table_eq}
-use Rattle.dv_records.specs.Vault.{HoldsTable, feed_batch, table_after, table_entry, vault}
+use Rattle.dv_records.proofs.Vocabulary.{range_with_len, Contains, slice_get, ◌≡◌, ◌⊎◌, ℕ, zero, suc, ◌+◌, ◌<◌, ◌==◌, inl, inr, Bool, true, false, List, [], ◌∷◌, ◌++◌, Some, None, refl, sym, ◌∙◌, ap, subst, arith, length, map, reverse, false≢true, Contains-append_left, Contains-append_right}
+use Rattle.dv_records.proofs.Vocabulary.{Window, Hashes, Contains-range, Contains-cons_cases, Contains-cons_here, Contains-cons_there, Contains-map, Contains-nil, FeedDef, TableId, Sat, Multi, Status, Mapping, source, effect_tables, feed_tables, sat_tables, tables, appended, hub_batch}
+use Rattle.dv_records.proofs.Vocabulary.{link_batch, hub_rows, hub_rows_in, link_rows, link_rows_in, multi_rows, multi_rows_in, sat_rows, sat_rows_in, status_rows, status_rows_in, multi_batch, sat_batch, status_batch, no_rows, rows_in, table_eq, HoldsTable, feed_batch, table_after, table_entry}
+use Rattle.dv_records.proofs.Vocabulary.{vault}
+use Rattle.dv_catalog.specs.declared.tables.TableId.TheVariants.{Hub, Link}
 use Rattle.dv_records.proofs.WellFormedTables.{same_table, table_eq-itself}
 
 -- ---- entries

@@ -1,53 +1,17 @@
 -- What holds of a window of the definition: of its extracts, their rows, references, keys and texts.
-use Rattle.std.specs.declared.cmp.Ordering.TheVariants.{Less}
-use Rattle.std.specs.Cmp.{nat_cmp_is}
-use Rattle.std.specs.Cmp.Lexicographic.{pointwise}
-use Rattle.std.specs.List.{AllByRecursion, list_all, list_any}
-use Rattle.std.specs.List.Sorted.{IsStrictlySortedBy}
-use Rattle.std.specs.Option.{option_map_or}
-use Rattle.std.specs.Ordering.{nat_cmp}
-use Rattle.std.specs.Prelude.{Contains, find, slice_get, sum_by, not}
-use Rattle.std.proofs.Common.{Bool, Option, ◌≤◌, ◌≡◌, ℕ, ◌<◌, ◌==◌, ◌||◌, true, false, List, [], ◌∷◌, Some, None, refl, sym, ◌∙◌, ap, subst, arith, length, map, nat_le, nat_lt, eqb-true}
-use Rattle.std.proofs.lemmas.Bool.{and_parts, false≢true, not-true, leb-true}
-use Rattle.std.proofs.lemmas.Bool.Decides.{nat_tests}
-use Rattle.std.proofs.lemmas.Slice.Eq.{slice_eq-Decides}
-use Rattle.dv_text.specs.declared.rows.Key.{Key}
-use Rattle.dv_text.specs.declared.rows.NRow.{NRow}
-use Rattle.dv_text.specs.declared.rows.Staged.{Staged}
-use Rattle.dv_text.specs.declared.rows.Window.{Window}
-use Rattle.dv_text.specs.Keys.{row_eq, texts_eq, is_missing}
-use Rattle.dv_text.specs.Normal.{norm_field, norm_key}
-use Rattle.dv_text.specs.Orders.{row_cmp}
-use Rattle.dv_text.specs.Sorting.{sorted_by}
-use Rattle.dv_text.proofs.Deciding.{refs_eq-Decides, texts_eq-Decides, row_total}
-use Rattle.dv_text.proofs.Options.{made_of, one_value}
-use Rattle.dv_text.proofs.Passing.{passes_at, found_member}
-use Rattle.dv_text.proofs.SortedLists.{ascending-sorted_by}
-use Rattle.dv_catalog.specs.declared.entries.FeedDef.{FeedDef}
-use Rattle.dv_catalog.specs.declared.entries.Parent.{Parent}
-use Rattle.dv_catalog.specs.declared.entries.Parent.TheVariants.{Hub, Link}
-use Rattle.dv_catalog.specs.Entries.{Mapping}
-use Rattle.dv_catalog.specs.Feeds.{parent_hubs, parts_of}
-use Rattle.dv_records.specs.History.{Extract, extract_of}
-use Rattle.dv_records.specs.Limits.{most_field_bytes, most_records, most_window_records}
-use Rattle.dv_records.specs.States.{are_rows_of, ascends, fit_hubs, holds_of_each_two, is_field, is_keyed, is_one_partner, is_one_row, is_row_of, is_staged, is_window, driver_keys, fits_hub, is_key_part}
-use Rattle.dv_records.proofs.ChangedRows.{row_eq-Decides}
+use Rattle.dv_records.proofs.Vocabulary.{Less, nat_cmp_is, pointwise, list_all, IsStrictlySortedBy, option_map_or, nat_cmp, Contains, find, slice_get, sum_by, not, Bool, Option, ◌≤◌, ◌≡◌, ℕ, ◌<◌, ◌==◌, ◌||◌, true, false, List, [], ◌∷◌, Some, None, refl, sym, ◌∙◌, ap, subst, length, map, nat_le}
+use Rattle.dv_records.proofs.Vocabulary.{nat_lt, eq-eqb, ltb-true, eqb-true, and_parts, false≢true, not-true, leb-true, lt-ltb, le-leb, slice_eq-Decides, Key, NRow, Staged, Window, row_eq, texts_eq, is_missing, norm_field, norm_key, row_cmp, sorted_by, refs_eq-Decides, texts_eq-Decides}
+use Rattle.dv_records.proofs.Vocabulary.{row_total, row_eq-Decides, made_of, one_value, passes_at, found_member, all_pass, ascending-sorted_by, sorted_by-sorted, FeedDef, Mapping, parent_hubs, parts_of, Extract, extract_of, most_field_bytes, most_records, most_window_records, are_rows_of}
+use Rattle.dv_records.proofs.Vocabulary.{ascends, fit_hubs, holds_of_each_two, is_field, is_keyed, is_one_partner, is_one_row, is_row_of, is_staged, is_window, fits_hub, is_key_part, all_members, are_rivals}
 
 -- ---- load order
-
-all_later : (n : ℕ) (later : List ℕ) → list_all (nat_lt n) later ≡ true → AllByRecursion (λ m. nat_cmp n m ≡ Less) later
-all_later n [] all = tt
-all_later n (m ∷ later) all =
-    let parts = and_parts (nat_lt n m) (list_all (nat_lt n) later) all in
-    let less : n < m = grind (arith, nat_tests, parts.0) in
-    (sym (nat_cmp_is n m Less less), all_later n later parts.1)
 
 pub in_order : (loads : List ℕ) → ascends loads ≡ true → IsStrictlySortedBy nat_cmp loads
 unfolding IsStrictlySortedBy
 in_order [] up = tt
 in_order (n ∷ later) up =
-    let parts = and_parts (list_all (nat_lt n) later) (ascends later) up in
-    (all_later n later parts.0, in_order later parts.1)
+    let (all, rest) = and_parts (list_all (nat_lt n) later) (ascends later) up in
+    (all_members (λ m. nat_cmp n m ≡ Less) later (λ m has. let less = ltb-true n m (passes_at (nat_lt n) later m all has) in sym (nat_cmp_is n m Less less)), in_order later rest)
 
 -- ---- texts and keys
 
@@ -75,15 +39,14 @@ one_key mapping hub (key ∷ []) fits = (key, refl, (and_parts (fits_hub mapping
 one_key mapping hub (key ∷ second ∷ rest) fits = absurd (false≢true (and_parts (fits_hub mapping hub key) false fits).1)
 
 -- references are not all missing
-pub some_there : (parent : Parent) (driver : List ℕ) (refs : List Key) → is_keyed parent driver refs ≡ true → list_all is_missing refs ≡ false
-some_there (Hub hub) driver refs e = not-true (list_all is_missing refs) e
-some_there (Link link) driver refs e = not-true (list_all is_missing refs) (and_parts (not (list_all is_missing refs)) (not (list_any is_missing (driver_keys driver refs))) e).0
+pub some_there : (definition : FeedDef) (row : NRow) → is_keyed definition row ≡ true → list_all is_missing row.refs ≡ false
+some_there definition row e = not-true (list_all is_missing row.refs) (and_parts _ _ e).0
 
 -- ---- the rows of an extract
 
 pub record HasForm (mapping : Mapping) (definition : FeedDef) (row : NRow) : Type 0 where
   pub fits : fit_hubs mapping (parent_hubs mapping definition.parent) row.refs ≡ true
-  pub keyed : is_keyed definition.parent definition.driver row.refs ≡ true
+  pub keyed : is_keyed definition row ≡ true
   pub subs : length row.sub ≡ length definition.sub
   pub sub_fields : list_all is_field row.sub ≡ true
   pub attributes : length row.attrs ≡ length definition.attrs
@@ -95,7 +58,7 @@ has_form mapping definition row e =
     let (e2, attributes) = and_parts _ (length row.attrs == length definition.attrs) e1 in
     let (e3, sub_fields) = and_parts _ (list_all is_field row.sub) e2 in
     let (e4, subs) = and_parts _ (length row.sub == length definition.sub) e3 in
-    let (fits, keyed) = and_parts (fit_hubs mapping (parent_hubs mapping definition.parent) row.refs) (is_keyed definition.parent definition.driver row.refs) e4 in
+    let (fits, keyed) = and_parts (fit_hubs mapping (parent_hubs mapping definition.parent) row.refs) (is_keyed definition row) e4 in
     record {
       fits = fits;
       keyed = keyed;
@@ -105,17 +68,21 @@ has_form mapping definition row e =
       attr_fields = attr_fields;
     }
 
+pub form_holds : (mapping : Mapping) (definition : FeedDef) (row : NRow) → HasForm mapping definition row → is_row_of mapping definition row ≡ true
+form_holds mapping definition row form =
+    rw (form.fits, form.keyed, eq-eqb (length row.sub) (length definition.sub) form.subs, form.sub_fields, eq-eqb (length row.attrs) (length definition.attrs) form.attributes, form.attr_fields) refl
+
 -- two rows that have the same references and the same sub are one
 one_row : (a b : NRow) → is_one_row a b ≡ true → a.refs ≡ b.refs → a.sub ≡ b.sub → a ≡ b
 one_row a b e refs sub = by (texts_eq a.attrs b.attrs) refl
   where
     by : (t : Bool) → texts_eq a.attrs b.attrs ≡ t → a ≡ b
     by true t = let attrs = (texts_eq-Decides a.attrs b.attrs).0 t in λ i. record { refs = refs i; sub = sub i; attrs = attrs i }
-    by false t =
-        let same_refs = (refs_eq-Decides a.refs b.refs).1 refs in
-        let same_sub = (texts_eq-Decides a.sub b.sub).1 sub in
-        let no : false ≡ true = rw (same_refs, same_sub, t) at e in
-        cc
+    by false t = let no : false ≡ true = rw ((refs_eq-Decides a.refs b.refs).1 refs, (texts_eq-Decides a.sub b.sub).1 sub, t) at e in cc
+
+-- a test that holds of each two
+pub of_each_two : (test : NRow → NRow → Bool) (rows : List NRow) → ((a b : NRow) → Contains rows a → Contains rows b → test a b ≡ true) → holds_of_each_two test rows ≡ true
+of_each_two test rows each = all_pass (λ a. list_all (test a) rows) rows (λ a a_in. all_pass (test a) rows (λ b b_in. each a b a_in b_in))
 
 -- the rows of an extract ascend, each has its feed's form, and there is one for each reference list and sub
 pub record AreRows (mapping : Mapping) (definition : FeedDef) (rows : List NRow) : Type 0 where
@@ -137,6 +104,20 @@ are_rows mapping definition rows e =
       single = λ a b a_in b_in. one_row a b (passes_at (is_one_row a) rows b (passes_at (λ a. list_all (is_one_row a) rows) rows a each_two a_in) b_in);
       few = few;
     }
+
+-- rows that ascend, have their feed's form and no rivals, and are few, are a feed's
+pub rows_hold : (mapping : Mapping) (definition : FeedDef) (rows : List NRow) → IsStrictlySortedBy row_cmp rows → ((row : NRow) → Contains rows row → HasForm mapping definition row)
+    → ((a b : NRow) → Contains rows a → Contains rows b → are_rivals a b ≡ false) → ((length definition.driver == 0) || holds_of_each_two (is_one_partner definition) rows) ≡ true
+    → length rows ≤ most_records → are_rows_of mapping definition rows ≡ true
+rows_hold mapping definition rows up forms apart partners few =
+    rw (
+      (slice_eq-Decides row_eq-Decides (sorted_by row_cmp rows) rows _ refl).1 (sorted_by-sorted row_cmp rows up),
+      all_pass (is_row_of mapping definition) rows (λ row has. form_holds mapping definition row (forms row has)),
+      of_each_two is_one_row rows (λ a b a_in b_in. ap not (apart a b a_in b_in)),
+      partners,
+      le-leb (length rows) most_records few,
+    )
+    refl
 
 -- an extract that stands in a window is one of a feed of the mapping, and has its rows
 pub staged_rows : (mapping : Mapping) (staged : Staged) → is_staged mapping staged ≡ true → (definition : FeedDef) × (slice_get mapping.feeds staged.feed ≡ Some definition) × AreRows mapping definition staged.rows
@@ -160,18 +141,25 @@ window_parts mapping window e =
     let (e1, few) = and_parts _ (nat_le (sum_by (λ staged. length staged.rows) window.extracts) most_window_records) e in
     let (e2, staged) = and_parts _ (list_all (is_staged mapping) window.extracts) e1 in
     let (some, ascending) = and_parts (nat_lt 0 (length window.extracts)) (ascends (map (λ staged. staged.feed) window.extracts)) e2 in
-    record { some = more (length window.extracts) some; ascending = ascending; staged = staged; few = leb-true (sum_by (λ staged. length staged.rows) window.extracts) most_window_records few }
-  where
-    more : (n : ℕ) → nat_lt 0 n ≡ true → 0 < n
-    more n h = grind (arith, nat_tests, h)
+    record { some = ltb-true 0 (length window.extracts) some; ascending = ascending; staged = staged; few = leb-true (sum_by (λ staged. length staged.rows) window.extracts) most_window_records few }
+
+pub window_holds : (mapping : Mapping) (window : Window) → WindowParts mapping window → is_window mapping window ≡ true
+window_holds mapping window parts =
+    rw (lt-ltb 0 (length window.extracts) parts.some, parts.ascending, parts.staged, le-leb (sum_by (λ staged. length staged.rows) window.extracts) most_window_records parts.few) refl
+
+-- the extract of a feed in a window is one that stands there
+pub staged_of : (feed : ℕ) (window : Window) (extract : Extract) → extract_of feed window ≡ Some extract → (staged : Staged) × Contains window.extracts staged × (staged.feed ≡ feed) × (staged.rows ≡ extract.rows)
+staged_of feed window extract is =
+    let (staged, found, made) = made_of _ (find (λ (staged : Staged). staged.feed == feed) window.extracts) extract is in
+    let (member, same) = found_member (λ (staged : Staged). staged.feed == feed) window.extracts staged found in
+    (staged, member, eqb-true staged.feed feed same, ap (λ (x : Extract). x.rows) made)
 
 module _ (mapping : Mapping) (window : Window) (whole : is_window mapping window ≡ true) (feed : ℕ) (extract : Extract) (is : extract_of feed window ≡ Some extract) where
-  -- the extract of a feed in a window is one that stands there
+  -- which is an extract of a feed
   pub staged_at : (staged : Staged) × Contains window.extracts staged × (staged.feed ≡ feed) × (is_staged mapping staged ≡ true) × (staged.rows ≡ extract.rows)
   staged_at =
-      let (staged, found, made) = made_of _ (find (λ (staged : Staged). staged.feed == feed) window.extracts) extract is in
-      let (member, same) = found_member (λ (staged : Staged). staged.feed == feed) window.extracts staged found in
-      (staged, member, eqb-true staged.feed feed same, passes_at (is_staged mapping) window.extracts staged (window_parts mapping window whole).staged member, ap (λ (x : Extract). x.rows) made)
+      let (staged, member, number, rows) = staged_of feed window extract is in
+      (staged, member, number, passes_at (is_staged mapping) window.extracts staged (window_parts mapping window whole).staged member, rows)
 
   -- and has the feed's rows
   pub rows_at : (definition : FeedDef) → slice_get mapping.feeds feed ≡ Some definition → AreRows mapping definition extract.rows

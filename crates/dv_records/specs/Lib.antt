@@ -14,6 +14,7 @@ pub mod Loads
 pub mod Marts
 pub mod MemoryKeepers
 pub mod Outcomes
+pub mod RawTables
 pub mod ReadBack
 pub mod Reconstruction
 pub mod RowViews

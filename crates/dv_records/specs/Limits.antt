@@ -1,27 +1,8 @@
 -- The limits of windows, of the vault, of snapshots and of paths.
 use Rattle.std.specs.Prelude.{ℕ}
-
 -- ---- windows
 
--- the bytes of an extract
-abbrev pub most_extract_bytes : ℕ
-most_extract_bytes = 33_554_432
-
--- the bytes of the extracts of a window together
-abbrev pub most_window_bytes : ℕ
-most_window_bytes = 67_108_864
-
--- the bytes of a field of a record
-abbrev pub most_field_bytes : ℕ
-most_field_bytes = 4_096
-
--- the records of an extract
-abbrev pub most_records : ℕ
-most_records = 200_000
-
--- the records of the extracts of a window together
-abbrev pub most_window_records : ℕ
-most_window_records = 400_000
+pub use Rattle.dv_catalog.specs.Limits.{most_extract_bytes, most_field_bytes, most_records, most_window_bytes, most_window_records}
 
 -- ---- the vault
 

@@ -1,6 +1,6 @@
 -- The state of the warehouse: its sealed windows in order, the open one, and the dates of its snapshots; and what makes it valid.
 use Rattle.std.specs.Cmp.Lexicographic.{pointwise}
-use Rattle.std.specs.List.{list_all, list_any, filter_map, last_or}
+use Rattle.std.specs.List.{list_all, list_any, last_or}
 use Rattle.std.specs.Option.{option_map_or, option_to_list}
 use Rattle.std.specs.Prelude.{ℕ, ◌==◌, Bool, true, false, ◌&&◌, ◌||◌, not, nat_le, nat_lt, is_none, List, [], ◌∷◌, ◌++◌, Option, Some, None, map, length, sum_by, slice_get}
 use Rattle.dv_text.specs.declared.rows.Key.{Key}
@@ -13,12 +13,10 @@ use Rattle.dv_text.specs.Normal.{norm_field, norm_key}
 use Rattle.dv_text.specs.Orders.{row_cmp}
 use Rattle.dv_text.specs.Sorting.{sorted_by}
 use Rattle.dv_catalog.specs.declared.entries.FeedDef.{FeedDef}
-use Rattle.dv_catalog.specs.declared.entries.Parent.{Parent}
-use Rattle.dv_catalog.specs.declared.entries.Parent.TheVariants.{Hub, Link}
 use Rattle.dv_catalog.specs.Entries.{Mapping}
 use Rattle.dv_catalog.specs.Feeds.{parent_hubs, parts_of}
 use Rattle.dv_catalog.specs.Readings.{part_ways}
-use Rattle.dv_catalog.specs.Records.{are_rivals}
+use Rattle.dv_catalog.specs.Records.{are_rivals, driver_keys}
 use Rattle.dv_records.specs.Collisions.{collision}
 use Rattle.dv_records.specs.Limits.{most_field_bytes, most_records, most_snapshot_weight, most_snapshots, most_weight, most_window_records, most_windows}
 use Rattle.dv_records.specs.Snapshots.{snapshot}
@@ -70,19 +68,14 @@ fit_hubs mapping [] [] = true
 fit_hubs mapping (hub ∷ hubs) (key ∷ refs) = fits_hub mapping hub key && fit_hubs mapping hubs refs
 fit_hubs mapping hubs refs = false
 
--- the driving keys of references: those at the driver's places
-abbrev pub driver_keys : List ℕ → List Key → List Key
-driver_keys driver refs = filter_map (slice_get refs) driver
-
--- the keys that have to be there are: a hub's key; some reference of a link, and all driving keys
-abbrev pub is_keyed : Parent → List ℕ → List Key → Bool
-is_keyed (Hub hub) driver refs = not (list_all is_missing refs)
-is_keyed (Link link) driver refs = not (list_all is_missing refs) && not (list_any is_missing (driver_keys driver refs))
+-- the keys that have to be there are: some reference, so also a hub's one key, and all driving keys
+abbrev pub is_keyed : FeedDef → NRow → Bool
+is_keyed feed row = not (list_all is_missing row.refs) && not (list_any is_missing (driver_keys feed row))
 
 -- a row has the feed's form
 abbrev pub is_row_of : Mapping → FeedDef → NRow → Bool
 is_row_of mapping feed row =
-    fit_hubs mapping (parent_hubs mapping feed.parent) row.refs && is_keyed feed.parent feed.driver row.refs
+    fit_hubs mapping (parent_hubs mapping feed.parent) row.refs && is_keyed feed row
     && (length row.sub == length feed.sub) && list_all is_field row.sub
     && (length row.attrs == length feed.attrs) && list_all is_field row.attrs
 

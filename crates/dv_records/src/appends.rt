@@ -1,5 +1,5 @@
 ghost use Rattle.std.specs.Prelude.{◌≡◌, OnOk, OnErr};
-ghost use Rattle.std.specs.List.{position_from};
+ghost use Rattle.std.specs.List.{position};
 ghost use Rattle.dv_records.specs.Stores.{appended_to, rows_then, table_eq};
 
 use crate::pages::is_same_table;
@@ -28,7 +28,7 @@ fn put_behind(rows: &mut Rows, more: Rows) -> Result<(), Memory>
 }
 
 fn place_of(tables: &[TableRows], table: TableId) -> Option<usize>
-    ensures { result ≡ position_from (λ entry. table_eq entry.table table) 0 tables.now }
+    ensures { result ≡ position (λ entry. table_eq entry.table table) tables.now }
 {
     tables
         .iter()

@@ -1,6 +1,6 @@
 ghost use Rattle.std.specs.Prelude.{◌≡◌, ◌==◌, find};
 ghost use Rattle.std.specs.Bool.{OnTrue, OnFalse};
-ghost use Rattle.std.specs.List.{position_from};
+ghost use Rattle.std.specs.List.{position};
 ghost use Rattle.dv_records.specs.Changes.{KeeperCause};
 ghost use Rattle.dv_records.specs.Turns.{next_turn, new_plan, read_fails, takes_effect, turn_of, without_first, EndsTurn, ReadTurn};
 
@@ -55,7 +55,7 @@ impl Model for Turns {
 
 // The place of the first failure that is planned for a reading call.
 fn read_failure(fails: &[Fail]) -> Option<usize>
-    ensures { result ≡ position_from (λ fail. fail.change == 0) 0 fails.now }
+    ensures { result ≡ position (λ fail. fail.change == 0) fails.now }
 {
     fails.iter().position(|fail| fail.change == 0)
 }

@@ -1,13 +1,5 @@
 -- Columns among names: the mapped columns are those of the keys, then the sub, then the attributes.
-use Rattle.std.proofs.Common.{◌≡◌, ◌+◌, ◌∷◌, ◌++◌, ◌||◌, ℕ, List, [], Some, Bool, drop, refl, ap, ◌∙◌}
-use Rattle.std.specs.Prelude.{find, flat_map, bytes_eq}
-use Rattle.std.specs.List.{list_any, slice_get}
-use Rattle.std.specs.Option.{option_or}
-use Rattle.std.proofs.lemmas.List.Folds.{find-append, list_any-append}
-use Rattle.dv_catalog.specs.declared.entries.FeedDef.{FeedDef}
-use Rattle.dv_catalog.specs.Headers.{known_columns, mapped_columns}
-use Rattle.dv_catalog.specs.Lookups.{is_among}
-use Rattle.dv_stage.proofs.FieldFacts.{drop_at}
+use Rattle.dv_stage.proofs.Vocabulary.{◌≡◌, ◌+◌, ◌∷◌, ◌++◌, ◌||◌, ℕ, List, [], Some, Bool, drop, refl, ap, ◌∙◌, find, flat_map, bytes_eq, list_any, slice_get, option_or, find-append, list_any-append, FeedDef, known_columns, mapped_columns, is_among, drop_got}
 
 pub list_any-flat_map : {X : Type 0} (test : X → Bool) (lists : List (List X)) → list_any test (flat_map (λ xs. xs) lists) ≡ list_any (λ xs. list_any test xs) lists
 list_any-flat_map test [] = refl
@@ -28,7 +20,7 @@ known-among feed name =
 -- a look through lists one after another
 pub find-flat_map : {X : Type 0} (test : X → Bool) (lists : List (List X)) (i : ℕ) (xs : List X) → slice_get lists i ≡ Some xs
     → find test (flat_map (λ xs. xs) (drop i lists)) ≡ option_or (find test xs) (find test (flat_map (λ xs. xs) (drop (i + 1) lists)))
-find-flat_map test lists i xs e = rw (drop_at lists i xs e) (find-append test xs (flat_map (λ xs. xs) (drop (i + 1) lists)))
+find-flat_map test lists i xs e = rw (drop_got lists i xs e) (find-append test xs (flat_map (λ xs. xs) (drop (i + 1) lists)))
 
 pub ruleset among_known = (known-among)
 

@@ -3,7 +3,6 @@ pub mod FieldFacts
 pub mod NeighbourFacts
 pub mod Neighbouring
 pub mod PartnerFacts
-pub mod Places
 pub mod RecordsFacts
 pub mod RestFacts
 pub mod RivalFacts
@@ -11,4 +10,5 @@ pub mod RowFacts
 pub mod RuleFacts
 pub mod SeenFacts
 pub mod TextTests
+pub mod Vocabulary
 pub mod WholeFacts

@@ -1,18 +1,6 @@
 -- Rows in order, none of which has the name of the one before it, have no rivals.
-use Rattle.std.proofs.Common.{◌≡◌, ◌<◌, ℕ, List, Option, Some, None, true, false, length, get_or, refl, sym}
-use Rattle.std.specs.Prelude.{Contains, is_some}
-use Rattle.std.specs.Cmp.Lexicographic.{slice_cmp}
-use Rattle.std.specs.List.Sorted.{IsStrictlySortedBy}
-use Rattle.std.specs.Ordering.{ordering_then}
-use Rattle.std.specs.declared.cmp.Ordering.TheVariants.{Less}
-use Rattle.std.proofs.lemmas.Bool.{and_parts, false_from_ne_true}
-use Rattle.dv_text.specs.Keys.{refs_eq, texts_eq}
-use Rattle.dv_text.specs.Orders.{row_cmp, text_cmp}
-use Rattle.dv_text.specs.declared.rows.NRow.{NRow}
-use Rattle.dv_text.proofs.Deciding.{refs_eq-Decides, refs_exact, refs_total, texts_eq-Decides, texts_exact, texts_total}
-use Rattle.dv_catalog.specs.Records.{are_rivals}
-use Rattle.dv_stage.specs.Neighbours.{first_neighbour}
-use Rattle.dv_stage.specs.Rivals.{HasNoRivals, repeats_name, share_name}
+use Rattle.dv_stage.proofs.Vocabulary.{◌≡◌, ◌<◌, ℕ, List, Option, Some, None, true, false, length, get_or, refl, sym, Contains, is_some, slice_cmp, IsStrictlySortedBy, ordering_then, Less, and_parts, false_from_ne_true, refs_eq, texts_eq, row_cmp, text_cmp, NRow, refs_eq-Decides, refs_exact}
+use Rattle.dv_stage.proofs.Vocabulary.{refs_total, texts_eq-Decides, texts_exact, texts_total, are_rivals, first_neighbour, HasNoRivals, repeats_name, share_name}
 use Rattle.dv_stage.proofs.Neighbouring.{by_places, none_pass, tied}
 use Rattle.dv_stage.proofs.RivalFacts.{no_rival_of_itself, rival_parts, rivals-turned}
 

@@ -1,27 +1,17 @@
 -- Neighbours that pass a test, and what they say of a list in order.
-use Rattle.std.proofs.Common.{◌≡◌, ℕ, zero, suc, ◌+◌, ◌-◌, ◌<◌, ◌≤◌, ◌⊎◌, inl, inr, Bool, true, false, cond, List, [], ◌∷◌, Option, Some, None, length, get_or, drop, refl, sym, ◌∙◌, ap, subst, arith, length-drop}
-use Rattle.std.specs.Prelude.{Contains, slice_get}
-use Rattle.std.specs.declared.cmp.Ordering.{Ordering}
-use Rattle.std.specs.declared.cmp.Ordering.TheVariants.{Less, Equal}
-use Rattle.std.specs.Cmp.{IsTotalOrder, tied_back}
-use Rattle.std.specs.List.Sorted.{IsStrictlySortedBy}
-use Rattle.std.specs.Ordering.{ordering_then}
-use Rattle.std.proofs.lemmas.Bool.{both_ways, cases_eq, cases_order}
-use Rattle.std.proofs.lemmas.List.{get_or_default}
-use Rattle.std.proofs.lemmas.Map.Keys.{Less-from_sorted}
-use Rattle.std.proofs.lemmas.Option.{same_Some}
-use Rattle.dv_text.proofs.Orderings.{asymmetric, less_equal, then_less}
-use Rattle.dv_stage.specs.Neighbours.{first_neighbour}
-use Rattle.dv_stage.proofs.FieldFacts.{drop_at}
+use Rattle.dv_stage.proofs.Vocabulary.{◌≡◌, ℕ, zero, suc, ◌+◌, ◌-◌, ◌<◌, ◌≤◌, ◌⊎◌, inl, inr, Bool, true, false, cond, List, [], ◌∷◌, Some, None, length, get_or, drop, refl, sym, ◌∙◌, ap, subst, arith, length-drop, Contains, Ordering, Less, Equal, IsTotalOrder, tied_back, IsStrictlySortedBy}
+use Rattle.dv_stage.proofs.Vocabulary.{ordering_then, both_ways, cases_eq, cases_order, get_or_default, Less-from_sorted, same_Some, slice_get_read, asymmetric, less_equal, then_less, first_neighbour, drop_got}
 
 module _ {X : Type 0} (test : X → X → Bool) where
   -- a loop's step, at the places h and i
-  pub neighbour_found : (xs : List X) (h i : ℕ) (a b : X) → i ≡ h + 1 → slice_get xs h ≡ Some a → slice_get xs i ≡ Some b → test a b ≡ true → first_neighbour test (drop h xs) ≡ Some a
-  neighbour_found xs h i a b is at next e = rw (drop_at xs h a at, ← is, drop_at xs i b next, e) refl
+  pub neighbour_found : (xs : List X) (h i : ℕ) (a b : X) → i ≡ h + 1 → i < length xs → a ≡ get_or xs h a → b ≡ get_or xs i b → test a b ≡ true → first_neighbour test (drop h xs) ≡ Some a
+  neighbour_found xs h i a b is under at next e =
+      rw (drop_got xs h a (slice_get_read xs (length xs) h a refl (omega arith) at), ← is, drop_got xs i b (slice_get_read xs (length xs) i b refl under next), e) refl
 
-  pub neighbour_passed : (xs : List X) (h i k : ℕ) (a b : X) → i ≡ h + 1 → k ≡ i → slice_get xs h ≡ Some a → slice_get xs i ≡ Some b → test a b ≡ false
+  pub neighbour_passed : (xs : List X) (h i k : ℕ) (a b : X) → i ≡ h + 1 → k ≡ i → i < length xs → a ≡ get_or xs h a → b ≡ get_or xs i b → test a b ≡ false
       → first_neighbour test (drop h xs) ≡ first_neighbour test (drop k xs)
-  neighbour_passed xs h i k a b is same at next e = rw (same, drop_at xs h a at, ← is, drop_at xs i b next, e) refl
+  neighbour_passed xs h i k a b is same under at next e =
+      rw (same, drop_got xs h a (slice_get_read xs (length xs) h a refl (omega arith) at), ← is, drop_got xs i b (slice_get_read xs (length xs) i b refl under next), e) refl
 
   few : (xs : List X) → length xs ≤ 1 → first_neighbour test xs ≡ None
   few [] le = refl
@@ -65,7 +55,8 @@ module _ {X : Type 0} (test : X → X → Bool) where
   none_neighbour (x ∷ []) e k d under = absurd (omega arith)
   none_neighbour (x ∷ y ∷ rest) e k d under = by (test x y) refl e (none_neighbour (y ∷ rest))
     where
-      by : (b : Bool) → test x y ≡ b → cond b (Some x) (first_neighbour test (y ∷ rest)) ≡ None → (first_neighbour test (y ∷ rest) ≡ None → FailBefore (y ∷ rest) (length (y ∷ rest) - 1)) → test (get_or (x ∷ y ∷ rest) k d) (get_or (y ∷ rest) k d) ≡ false
+      by : (b : Bool) → test x y ≡ b → cond b (Some x) (first_neighbour test (y ∷ rest)) ≡ None → (first_neighbour test (y ∷ rest) ≡ None → FailBefore (y ∷ rest) (length (y ∷ rest) - 1))
+          → test (get_or (x ∷ y ∷ rest) k d) (get_or (y ∷ rest) k d) ≡ false
       by true t e later = cc
       by false t e later = fails_next x y rest (length rest) t (λ j c small. later e j c (omega arith)) k d (omega arith)
 

@@ -1,33 +1,8 @@
 -- Driving keys that stand beside themselves in a list in order.
-use Rattle.std.proofs.Common.{◌≡◌, ◌+◌, ◌<◌, ◌≤◌, ◌∷◌, ℕ, suc, get_or, List, [], Some, None, Bool, true, false, length, refl, sym, ap, ◌∙◌, subst, inl, inr, ◌⊎◌, ◌↔◌, ◌||◌, not, arith, cond, map}
-use Rattle.std.specs.Prelude.{Contains, filter, slice_get}
-use Rattle.std.specs.Cmp.{IsTotalOrder, tied_itself}
-use Rattle.std.specs.FinMap.{IsAntisymmetric}
-use Rattle.std.specs.List.{AllByRecursion, list_any}
-use Rattle.std.specs.List.Sorted.{IsStrictlySortedBy}
-use Rattle.std.specs.Ordering.{ordering_reverse, ordering_then}
-use Rattle.std.specs.declared.cmp.Ordering.{Ordering}
-use Rattle.std.specs.declared.cmp.Ordering.TheVariants.{Less, Equal, Greater}
-use Rattle.std.proofs.lemmas.Bool.{and_parts, both_ways, cases_order, false_from_ne_true, not-true}
-use Rattle.std.proofs.lemmas.List.Elements.{Contains-get_or}
-use Rattle.std.proofs.lemmas.Map.Keys.{Less-from_sorted}
-use Rattle.dv_text.proofs.Options.{made_of, none_before_map}
-use Rattle.dv_text.specs.Keys.{refs_eq}
-use Rattle.dv_text.specs.Orders.{refs_cmp}
-use Rattle.dv_text.specs.Sorting.{sorted_by}
-use Rattle.dv_text.specs.declared.rows.Key.{Key}
-use Rattle.dv_text.specs.declared.rows.NRow.{NRow}
-use Rattle.dv_text.proofs.Deciding.{refs_eq-Decides, refs_exact, refs_total}
-use Rattle.dv_text.proofs.Members.{Contains-cons_cases, Contains-cons_here, Contains-cons_there, Contains-map, filtered_members, map_member, member_of_all}
-use Rattle.dv_text.proofs.Orderings.{greater_equal, less_equal, less_greater, then_less}
-use Rattle.dv_text.proofs.Passing.{some_passes, some_passes_at}
-use Rattle.dv_text.proofs.SortedLists.{ascending-sorted_by, member_after_sort, member_before_sort}
-use Rattle.dv_catalog.specs.declared.entries.FeedDef.{FeedDef}
-use Rattle.dv_catalog.specs.Records.{driver_keys}
-use Rattle.dv_catalog.specs.Readings.{part_ways, shared_drivers}
-use Rattle.dv_stage.specs.declared.partners.Partner.{Partner}
-use Rattle.dv_stage.specs.Partners.{first_pair, partner_cmp, partner_of, share_driver}
-use Rattle.dv_stage.specs.Neighbours.{first_neighbour}
+use Rattle.dv_stage.proofs.Vocabulary.{◌≡◌, ◌<◌, ◌∷◌, ℕ, suc, get_or, List, [], Some, None, Bool, true, false, length, refl, sym, ap, ◌∙◌, subst, inl, inr, ◌⊎◌, ◌↔◌, not, arith, map, Contains, filter, slice_get, list_any, IsTotalOrder, tied_itself, IsAntisymmetric, IsStrictlySortedBy}
+use Rattle.dv_stage.proofs.Vocabulary.{ordering_reverse, ordering_then, Ordering, Less, Equal, Greater, and_parts, both_ways, cases_order, false_from_ne_true, not-true, Contains-get_or, Less-from_sorted, made_of, none_before_map, refs_eq, refs_cmp, sorted_by, Key, NRow, refs_eq-Decides}
+use Rattle.dv_stage.proofs.Vocabulary.{refs_exact, refs_total, Contains-cons_cases, Contains-cons_here, Contains-map, filtered_members, map_member, member_of_all, greater_equal, less_equal, less_greater, then_less, some_passes, some_passes_at, filter-none, ascending-sorted_by, member_after_sort}
+use Rattle.dv_stage.proofs.Vocabulary.{member_before_sort, FeedDef, driver_keys, part_ways, shared_drivers, Partner, first_pair, partner_cmp, partner_of, share_driver, first_neighbour}
 use Rattle.dv_stage.proofs.Neighbouring.{by_places, first_neighbour-is, IsFirstNeighbour, none_pass, passes_next, tied}
 
 refs_cmp-same : (a b : List Key) → a ≡ b → refs_cmp a b ≡ Equal
@@ -133,10 +108,6 @@ least_first {X} R o exact xs m has least = by (sorted_by R xs) (ascending-sorted
               let less : R y m ≡ Less = member_of_all (λ z. R y z ≡ Less) ys m up.0 rest in
               absurd (least y (before y (Contains-cons_here y ys)) (o.antisymm m y ∙ ap ordering_reverse less))
         ]
-
-filter-none : {X : Type 0} (test : X → Bool) (xs : List X) → ((x : X) → Contains xs x → test x ≡ false) → filter test xs ≡ []
-filter-none test [] none = refl
-filter-none test (x ∷ xs) none = rw (none x (Contains-cons_here x xs)) (filter-none test xs (λ y has. none y (Contains-cons_there x xs y has)))
 
 -- rows of the same driving keys and different references
 part : (feed : FeedDef) (a b : NRow) → part_ways feed a b ≡ true → (driver_keys feed a ≡ driver_keys feed b) × (a.refs ≡ b.refs → ⊥)

@@ -1,15 +1,8 @@
 -- The list of all records of a text, from its records one by one.
-use Rattle.std.proofs.Common.{◌≡◌, ◌≤◌, ◌+◌, ◌-◌, ◌∷◌, ◌++◌, ℕ, zero, suc, List, [], length, Some, None, true, false, Bool, refl, sym, subst, arith, ◌∙◌, ◌&&◌, ◌==◌, if◌then◌else◌}
-use Rattle.std.proofs.lemmas.Option.{none-some, same_Some}
-use Rattle.std.proofs.lemmas.List.{append-nil}
-use Rattle.csv.specs.Machine.{Read, next_record, ends_at_end, is_end, step, fields_after, field_after, is_byte, ends_with, after_end, in_field, start_field, start_record, carriage_return, line_feed}
-use Rattle.csv.specs.Reading.{AreRecords, Reached, records, records_from}
-use Rattle.csv.specs.declared.parser.Config.{Config}
-use Rattle.csv.specs.declared.parser.Terminator.{Terminator}
+use Rattle.dv_stage.proofs.Vocabulary.{◌≡◌, ◌≤◌, ◌+◌, ◌-◌, ◌∷◌, ◌++◌, ℕ, zero, suc, List, [], length, Some, None, true, false, Bool, refl, sym, subst, arith, ◌∙◌, ◌&&◌, ◌==◌, if◌then◌else◌, none-some, same_Some, append-nil, Read, next_record, ends_at_end, is_end, step, fields_after, field_after}
+use Rattle.dv_stage.proofs.Vocabulary.{is_byte, ends_with, after_end, in_field, start_field, start_record, carriage_return, line_feed, AreRecords, Reached, records, records_from, Config, Terminator, State, Action}
 use Rattle.csv.specs.declared.parser.Terminator.TheVariants as term
-use Rattle.csv.specs.declared.parser.State.{State}
 use Rattle.csv.specs.declared.parser.State.TheVariants as st
-use Rattle.csv.specs.declared.parser.Action.{Action}
 use Rattle.csv.specs.declared.parser.Action.TheVariants as act
 
 -- an answer of the machine that ends a record leaves it between records

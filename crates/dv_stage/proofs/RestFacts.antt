@@ -1,16 +1,7 @@
 -- The records that are left, one by one: what a loop over a reader's records goes by.
-use Rattle.std.proofs.Common.{Bor, ◌≡◌, ◌<◌, ◌∷◌, ℕ, zero, suc, List, [], length, Option, Some, None, true, false, refl, sym, ap, arith, ◌∙◌, add-one, inl}
-use Rattle.csv.specs.Machine.{Read, next_record, ends_at_end}
-use Rattle.csv.specs.Reading.{ReadRecord, Reached, default_config, records_from, records_next, source_of, strip_bom}
-use Rattle.csv.specs.declared.parser.Config.{Config}
-use Rattle.csv.specs.declared.parser.State.{State}
-use Rattle.csv.specs.declared.reader.Reader.{Reader}
-use Rattle.csv.proofs.ReadFacts.{rows-end, rows-more}
+use Rattle.dv_stage.proofs.Vocabulary.{Bor, ◌≡◌, ◌<◌, ◌∷◌, ℕ, zero, suc, List, [], length, Option, Some, None, true, false, refl, sym, ap, arith, ◌∙◌, add-one, inl, Read, next_record, ends_at_end, ReadRecord, Reached, default_config, records_from, records_next, source_of, strip_bom, Config}
+use Rattle.dv_stage.proofs.Vocabulary.{State, Reader, rows-end, rows-more, none-some, IsSome, extract_records, IsExtractReader, bytes_left, records_left, rest_records}
 use Rattle.csv.specs.declared.parser.State.TheVariants as st
-use Rattle.std.proofs.lemmas.Option.{none-some}
-use Rattle.std.specs.Prelude.{IsSome}
-use Rattle.dv_catalog.specs.Extracts.{extract_records}
-use Rattle.dv_stage.specs.Remaining.{IsExtractReader, bytes_left, records_left, rest_records}
 use Rattle.dv_stage.proofs.RecordsFacts.{next_record-takes}
 
 has_byte : (cfg : Config) (s : State) (xs : List ℕ) (p : Read) → ends_at_end s ≡ false → next_record cfg s [] [] xs ≡ Some p → 0 < length xs

@@ -1,25 +1,7 @@
 -- Names of rows, the first row of each name, and the first rival of a row.
-use Rattle.std.proofs.Common.{◌≡◌, ◌∷◌, ◌++◌, ℕ, List, [], Option, Some, None, Bool, true, false, length, refl, sym, ap, ◌∙◌, subst, inl, inr, ◌⊎◌, ◌&&◌, not, Decides}
-use Rattle.std.specs.Prelude.{Contains, cond, position}
-use Rattle.std.specs.BTreeMap.{BTreeMap, Updates, get}
-use Rattle.std.specs.Cmp.{tied_then}
-use Rattle.std.specs.Cmp.Lexicographic.{slice_cmp}
-use Rattle.std.specs.List.{slice_get}
-use Rattle.std.specs.Option.{option_or}
-use Rattle.std.specs.Ordering.{is_eq}
-use Rattle.std.proofs.lemmas.Bool.{and_parts, both_ways, false_from_ne_true, not-true}
-use Rattle.std.proofs.lemmas.List.Elements.{Contains-push_cases}
-use Rattle.std.proofs.lemmas.Option.{same_Some}
-use Rattle.dv_text.specs.Keys.{refs_eq, texts_eq}
-use Rattle.dv_text.specs.Orders.{refs_cmp, text_cmp}
-use Rattle.dv_text.specs.declared.rows.NRow.{NRow}
-use Rattle.dv_text.proofs.Deciding.{refs_eq-Decides, refs-tie, texts_eq-Decides, texts-tie}
-use Rattle.dv_text.proofs.Options.{option_or-none}
-use Rattle.dv_catalog.specs.Records.{are_rivals}
-use Rattle.dv_stage.specs.declared.taken_rows.RowName.{RowName}
-use Rattle.dv_stage.specs.declared.taken_rows.TakenRows.{TakenRows}
-use Rattle.dv_stage.specs.Rivals.{HasNoRivals, IsFirsts, IsTakenRows, is_named, name_cmp, name_of}
-use Rattle.dv_stage.proofs.Places.{found_at, none_passes, place_where-last, place_where-narrow, place_where-none, position-is}
+use Rattle.dv_stage.proofs.Vocabulary.{◌≡◌, ◌∷◌, ◌++◌, ℕ, List, [], Some, None, Bool, true, false, length, refl, sym, ap, ◌∙◌, subst, inl, inr, ◌⊎◌, ◌&&◌, not, cond, Contains, position, BTreeMap, Updates, get, tied_then, slice_cmp, slice_get, option_or, is_eq, and_parts, both_ways}
+use Rattle.dv_stage.proofs.Vocabulary.{false_from_ne_true, not-true, Contains-push_cases, same_Some, refs_eq, texts_eq, refs_cmp, text_cmp, NRow, refs_eq-Decides, refs-tie, texts_eq-Decides, texts-tie, option_or-none, are_rivals, RowName, TakenRows, HasNoRivals, IsFirsts, IsTakenRows, is_named}
+use Rattle.dv_stage.proofs.Vocabulary.{name_cmp, name_of, found_at, none_placed, placed_narrower, position-last, unplaced}
 
 -- a row has a name where its own name ties with it
 named-tie : (row : NRow) (name : RowName) → is_eq (name_cmp (name_of row) name) ≡ is_named name row
@@ -39,7 +21,7 @@ name-is row name e =
 first_more : (rows : List NRow) (row : NRow) (name : RowName) (b : Bool) → is_named name row ≡ b
     → position (is_named name) (rows ++ row ∷ []) ≡ option_or (position (is_named name) rows) (cond b (Some (length rows)) None)
 first_more rows row name b e =
-    position-is (is_named name) (rows ++ row ∷ []) ∙ place_where-last (is_named name) rows row ∙ rw (e, position-is (is_named name) rows) refl
+    rw (← e) (position-last (is_named name) rows row)
 
 -- a row of a name that was there leaves the first rows
 pub firsts_more-old : (firsts : BTreeMap RowName ℕ) (rows : List NRow) (row : NRow) (first : ℕ) → IsFirsts firsts rows → position (is_named (name_of row)) rows ≡ Some first
@@ -81,24 +63,23 @@ pub rival-first : (rows : List NRow) (row : NRow) (first : ℕ) (x : NRow) → p
     → texts_eq x.attrs row.attrs ≡ false → position (λ other. are_rivals other row) rows ≡ Some first
 rival-first rows row first x e at differ =
     let wide = is_named (name_of row) in
-    let found = found_at wide rows first (sym (position-is wide rows) ∙ e) in
+    let found = found_at wide rows first e in
     let same : found.item ≡ x = same_Some _ _ (sym found.there ∙ at) in
     let named : wide x ≡ true = ap wide (sym same) ∙ found.passes in
     let narrow : are_rivals x row ≡ true = rw (named, differ) refl in
-    position-is (λ other. are_rivals other row) rows
-    ∙ place_where-narrow wide (λ other. are_rivals other row) (λ other. not_named row other) rows first x (sym (position-is wide rows) ∙ e) at narrow
+    placed_narrower wide (λ other. are_rivals other row) (λ other. not_named row other) rows first x e at narrow
 
 -- and there is none where its attributes are the same
 pub rival-none : (rows : List NRow) (row : NRow) (first : ℕ) (x : NRow) → HasNoRivals rows → position (is_named (name_of row)) rows ≡ Some first → slice_get rows first ≡ Some x
     → texts_eq x.attrs row.attrs ≡ true → position (λ other. are_rivals other row) rows ≡ None
 rival-none rows row first x apart e at same =
     let wide = is_named (name_of row) in
-    let found = found_at wide rows first (sym (position-is wide rows) ∙ e) in
+    let found = found_at wide rows first e in
     let is_x : found.item ≡ x = same_Some _ _ (sym found.there ∙ at) in
     let named : name_of x ≡ name_of row = name-is x (name_of row) (ap wide (sym is_x) ∙ found.passes) in
     let member : Contains rows x = subst (Contains rows) is_x found.member in
     let attrs : x.attrs ≡ row.attrs = (texts_eq-Decides x.attrs row.attrs).0 same in
-    position-is (λ other. are_rivals other row) rows ∙ place_where-none (λ other. are_rivals other row) rows (λ y has. false_from_ne_true (are_rivals y row) (λ e.
+    unplaced (λ other. are_rivals other row) rows (λ y has. false_from_ne_true (are_rivals y row) (λ e.
     let parts = rival_parts y row e in
     let refs : y.refs ≡ x.refs = parts.0 ∙ sym (ap (λ (n : RowName). n.refs) named) in
     let sub : y.sub ≡ x.sub = parts.1 ∙ sym (ap (λ (n : RowName). n.sub) named) in
@@ -107,15 +88,12 @@ rival-none rows row first x apart e at same =
 -- a row of a new name has no rival
 pub rival-new : (rows : List NRow) (row : NRow) → position (is_named (name_of row)) rows ≡ None → position (λ other. are_rivals other row) rows ≡ None
 rival-new rows row e =
-    let wide = is_named (name_of row) in
-    position-is (λ other. are_rivals other row) rows
-    ∙ place_where-none (λ other. are_rivals other row) rows (λ y has. not_named row y (none_passes wide rows (sym (position-is wide rows) ∙ e) y has))
+    unplaced (λ other. are_rivals other row) rows (λ y has. not_named row y (none_placed (is_named (name_of row)) rows e y has))
 
 -- rows without attributes have no rivals
 pub rival-bare : (rows : List NRow) (row : NRow) → ((other : NRow) → Contains rows other → other.attrs ≡ []) → row.attrs ≡ [] → position (λ other. are_rivals other row) rows ≡ None
 rival-bare rows row bare none =
-    position-is (λ other. are_rivals other row) rows
-    ∙ place_where-none (λ other. are_rivals other row) rows (λ y has. false_from_ne_true (are_rivals y row) (λ e.
+    unplaced (λ other. are_rivals other row) rows (λ y has. false_from_ne_true (are_rivals y row) (λ e.
     both_ways _ (rival_parts y row e).2 ((texts_eq-Decides y.attrs row.attrs).1 (bare y has ∙ sym none))))
 
 pub rivals-turned : (a b : NRow) → are_rivals a b ≡ true → are_rivals b a ≡ true
@@ -133,7 +111,7 @@ apart_more rows row apart e a b has_a has_b =
     false_from_ne_true (are_rivals a b) (λ rivals. by (Contains-push_cases rows row a has_a) (Contains-push_cases rows row b has_b) rivals)
   where
     none : (y : NRow) → Contains rows y → are_rivals y row ≡ false
-    none = none_passes (λ other. are_rivals other row) rows (sym (position-is (λ other. are_rivals other row) rows) ∙ e)
+    none = none_placed (λ other. are_rivals other row) rows e
 
     by : Contains rows a ⊎ (row ≡ a) → Contains rows b ⊎ (row ≡ b) → are_rivals a b ≡ true → ⊥
     by (inr x) (inr y) rivals = no_rival_of_itself a b (sym x ∙ y) rivals

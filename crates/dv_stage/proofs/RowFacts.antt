@@ -1,14 +1,6 @@
 -- The fields at places: one place more, and the row by the places of a feed's columns.
-use Rattle.std.proofs.Common.{◌≡◌, ◌+◌, ◌<◌, ◌∷◌, ◌++◌, ℕ, List, [], Option, Some, None, length, take, map, get_or, refl, ap, ◌∙◌}
-use Rattle.std.specs.Prelude.{filter_map, option_and_then, option_to_list}
-use Rattle.std.specs.List.{cons_option, slice_get}
-use Rattle.std.proofs.lemmas.List.{map-append}
-use Rattle.dv_text.specs.Normal.{norm_field, norm_key}
-use Rattle.dv_text.proofs.Members.{filter_map_more}
-use Rattle.dv_catalog.specs.declared.entries.FeedDef.{FeedDef}
-use Rattle.dv_catalog.specs.Records.{fields_under, key_under, place_of, row_of}
-use Rattle.dv_stage.specs.declared.layouts.Layout.{Layout}
-use Rattle.dv_stage.specs.Layouts.{IsLayoutOf, fields_at, key_at, places_of, row_at}
+use Rattle.dv_stage.proofs.Vocabulary.{◌≡◌, ◌+◌, ◌<◌, ◌∷◌, ◌++◌, ℕ, List, [], Option, Some, None, length, take, map, get_or, refl, ap, ◌∙◌, filter_map, option_and_then, option_to_list, cons_option, slice_get, map-append, norm_field, norm_key, filter_map_more, FeedDef, fields_under, key_under}
+use Rattle.dv_stage.proofs.Vocabulary.{place_of, row_of, Layout, IsLayoutOf, fields_at, key_at, places_of, row_at}
 
 -- what stands at one place more
 pub map-filter_map-more : {X Y Z : Type 0} (g : Y → Z) (f : X → Option Y) (xs : List X) (i : ℕ) (d : X) → i < length xs

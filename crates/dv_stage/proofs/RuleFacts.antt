@@ -1,15 +1,6 @@
 -- The rules of a record in their order.
-use Rattle.std.proofs.Common.{◌≡◌, ℕ, List, [], ◌∷◌, Option, Some, None, Bool, false, ◌||◌, refl, ap}
-use Rattle.std.specs.Prelude.{filter_map, slice_get}
-use Rattle.std.specs.List.{list_any, cons_option}
-use Rattle.std.specs.Option.{option_map_or, option_or}
-use Rattle.dv_text.specs.Keys.{is_missing}
-use Rattle.dv_text.specs.declared.rows.NRow.{NRow}
-use Rattle.dv_text.proofs.Options.{option_or-none}
-use Rattle.dv_catalog.specs.declared.entries.FeedDef.{FeedDef}
-use Rattle.dv_catalog.specs.declared.rules.Rule.{Rule}
-use Rattle.dv_catalog.specs.Records.{driver_keys, empty_key, field_long, not_utf8, ragged, record_rule, row_of, too_many_rows, two_rows}
-use Rattle.dv_stage.specs.Checks.{own_rule}
+use Rattle.dv_stage.proofs.Vocabulary.{◌≡◌, ℕ, List, [], ◌∷◌, Option, Some, None, Bool, false, ◌||◌, refl, ap, filter_map, slice_get, list_any, cons_option, option_map_or, option_or, is_missing, NRow, option_or-none, FeedDef, Rule, driver_keys, empty_key, field_long, not_utf8, ragged}
+use Rattle.dv_stage.proofs.Vocabulary.{record_rule, row_of, too_many_rows, two_rows, own_rule}
 
 list_any-filter_map : {X Y : Type 0} (test : Y → Bool) (f : X → Option Y) (xs : List X) → list_any test (filter_map f xs) ≡ list_any (λ x. option_map_or test (f x) false) xs
 list_any-filter_map test f [] = refl

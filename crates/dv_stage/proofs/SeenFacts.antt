@@ -1,14 +1,6 @@
 -- Names that were seen, held in a set.
-use Rattle.std.proofs.Common.{◌≡◌, ◌+◌, [], ◌∷◌, ◌++◌, ◌||◌, ℕ, List, drop, Some, Bool, true, false, not, cond, refl, sym, ◌∙◌}
-use Rattle.std.specs.Prelude.{bytes_eq}
-use Rattle.std.specs.Ordering.{nat_cmp}
-use Rattle.std.specs.Cmp.Lexicographic.{slice_cmp}
-use Rattle.std.specs.BTreeSet.{BTreeSet, Updates, contains}
-use Rattle.std.proofs.lemmas.Map.Text.{is_eq-slice_cmp}
-use Rattle.std.specs.List.{slice_get}
-use Rattle.std.proofs.lemmas.List.Folds.{list_any-append}
-use Rattle.dv_catalog.specs.Lookups.{again_after, is_among}
-use Rattle.dv_stage.proofs.FieldFacts.{drop_at}
+use Rattle.dv_stage.proofs.Vocabulary.{◌≡◌, ◌+◌, [], ◌∷◌, ◌++◌, ◌||◌, ℕ, List, drop, Some, Bool, true, false, cond, refl, ◌∙◌, bytes_eq, nat_cmp, slice_cmp, BTreeSet, contains, is_eq-slice_cmp, slice_get, list_any-append, again_after, is_among, drop_got}
+use Rattle.std.specs.BTreeSet.{Updates}
 
 cond-or : (a b : Bool) → cond a true b ≡ (b || (a || false))
 cond-or true true = refl
@@ -25,18 +17,8 @@ seen_more s n seen name had updates q =
 -- the next name is none of those before it
 pub again_more : (seen names : List (List ℕ)) (i : ℕ) (name : List ℕ) → slice_get names i ≡ Some name → is_among seen name ≡ false
     → again_after bytes_eq seen (drop i names) ≡ again_after bytes_eq (seen ++ name ∷ []) (drop (i + 1) names)
-again_more seen names i name e new = rw (drop_at names i name e, new) refl
+again_more seen names i name e new = rw (drop_got names i name e, new) refl
 
 -- or it is one of them
 pub again_here : (seen names : List (List ℕ)) (i : ℕ) (name : List ℕ) → slice_get names i ≡ Some name → is_among seen name ≡ true → again_after bytes_eq seen (drop i names) ≡ Some name
-again_here seen names i name e old = rw (drop_at names i name e, old) refl
-
--- a name that was put in anew was not there
-pub was_new : (added had seen : Bool) → added ≡ not had → added ≡ true → had ≡ seen → seen ≡ false
-was_new added true seen e h s = cc
-was_new added false seen e h s = sym s
-
--- and one that was not put in was there
-pub was_old : (added had seen : Bool) → added ≡ not had → added ≡ false → had ≡ seen → seen ≡ true
-was_old added true seen e h s = sym s
-was_old added false seen e h s = cc
+again_here seen names i name e old = rw (drop_got names i name e, old) refl

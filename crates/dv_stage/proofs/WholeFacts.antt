@@ -1,30 +1,13 @@
 -- Records that break no rule by themselves, whose rows have no rivals, break none.
-use Rattle.std.proofs.Common.{◌≡◌, ◌↔◌, ◌≤◌, ◌+◌, ◌∷◌, ◌++◌, ℕ, List, [], None, Bool, true, false, length, map, refl, sym, ap, ◌∙◌, subst}
-use Rattle.std.specs.Prelude.{Contains, if◌then◌else◌, nat_lt, position}
-use Rattle.std.specs.List.Sorted.{IsStrictlySortedBy}
-use Rattle.std.proofs.lemmas.Bool.{le-ltb}
-use Rattle.std.proofs.lemmas.List.{append_assoc, length-map}
-use Rattle.std.proofs.lemmas.List.Elements.{Contains-append_left, Contains-append_right}
-use Rattle.dv_text.specs.Orders.{row_cmp}
-use Rattle.dv_text.specs.Sorting.{sorted_by}
-use Rattle.dv_text.specs.declared.rows.NRow.{NRow}
-use Rattle.dv_text.proofs.Members.{Contains-cons_here}
-use Rattle.dv_catalog.specs.declared.entries.FeedDef.{FeedDef}
-use Rattle.dv_catalog.specs.Headers.{header_names, header_rule}
-use Rattle.dv_catalog.specs.Readings.{behind_header, two_drivers}
-use Rattle.dv_catalog.specs.Readings.Read.{Taken}
-use Rattle.dv_catalog.specs.Records.{are_rivals, record_rule, records_rule, row_of}
-use Rattle.dv_stage.specs.Checks.{own_rule}
-use Rattle.dv_stage.specs.Rivals.{HasNoRivals, repeats_name}
+use Rattle.dv_stage.proofs.Vocabulary.{◌≡◌, ◌↔◌, ◌≤◌, ◌+◌, ◌∷◌, ◌++◌, ℕ, List, [], None, Bool, true, false, length, map, refl, sym, ap, ◌∙◌, subst, if◌then◌else◌, nat_lt, Contains, position, IsStrictlySortedBy, le-ltb, append_assoc, length-map, Contains-append_left, Contains-append_right}
+use Rattle.dv_stage.proofs.Vocabulary.{row_cmp, sorted_by, NRow, Contains-cons_here, FeedDef, header_names, header_rule, behind_header, two_drivers, Taken, are_rivals, record_rule, records_rule, row_of, own_rule, HasNoRivals, repeats_name, unplaced}
 use Rattle.dv_stage.proofs.NeighbourFacts.{apart_among, names_apart}
-use Rattle.dv_stage.proofs.Places.{place_where-none, position-is}
 use Rattle.dv_stage.proofs.RuleFacts.{record_rule-parts}
 
 -- a row among rows without rivals has none before it
 none_before : (earlier later : List NRow) (row : NRow) → HasNoRivals (earlier ++ row ∷ later) → position (λ other. are_rivals other row) earlier ≡ None
 none_before earlier later row apart =
-    position-is (λ other. are_rivals other row) earlier
-    ∙ place_where-none (λ other. are_rivals other row) earlier
+    unplaced (λ other. are_rivals other row) earlier
     (λ other has. apart other row (Contains-append_left earlier (row ∷ later) other has) (Contains-append_right earlier (row ∷ later) row (Contains-cons_here row later)))
 
 -- such a record breaks no rule while there is room

@@ -3,6 +3,7 @@ ghost use Rattle.std.specs.Prelude.{◌≡◌, ◌<◌, Some, length, nat_lt, op
 ghost use Rattle.std.specs.List.{list_all, list_any};
 ghost use Rattle.std.specs.Str.{is_utf8};
 ghost use Rattle.csv.specs.Records.{fields_of};
+ghost use Rattle.dv_catalog.specs.Limits.{most_field_bytes};
 
 use csv::ByteRecord;
 
@@ -35,7 +36,7 @@ fn is_text(bytes: &[u8]) -> bool
 }
 
 fn is_long(bytes: &[u8]) -> bool
-    ensures { result ≡ nat_lt 4096 (length bytes.now) }
+    ensures { result ≡ nat_lt most_field_bytes (length bytes.now) }
 {
     bytes.len() > LONGEST_FIELD
 }
@@ -54,7 +55,7 @@ pub(crate) fn are_texts(row: &ByteRecord) -> bool
 
 // Whether a field is too long.
 pub(crate) fn has_long_field(row: &ByteRecord) -> bool
-    ensures { result ≡ list_any (λ field. nat_lt 4096 (length field)) (fields_of row.now) }
+    ensures { result ≡ list_any (λ field. nat_lt most_field_bytes (length field)) (fields_of row.now) }
 {
     for place in 0..row.len() {
         if is_long(field_in(row, place)) {

@@ -1,6 +1,7 @@
 // The records behind a header, one by one: their rows, or the first rule that one breaks.
 ghost use Rattle.std.specs.Prelude.{◌≡◌, ◌∷◌, ◌++◌, ◌+◌, ◌<◌, ◌≤◌, [], IfOk, IfErr, OnOk, None, true, length, map};
 ghost use Rattle.csv.specs.Records.{fields_of};
+ghost use Rattle.dv_catalog.specs.Limits.{most_records};
 ghost use Rattle.dv_catalog.specs.declared.rules.Rule.TheVariants.{TooManyRows, TwoRows};
 ghost use Rattle.dv_catalog.specs.Records.{record_rule, records_rule, row_of};
 ghost use Rattle.dv_stage.specs.Checks as checks;
@@ -112,7 +113,7 @@ pub(crate) fn read_rows(
 ) -> Result<List<NRow>, StageFault>
     requires header { IsHeader header.now }
     requires reader { IsExtractReader reader.old }
-    requires room { room ≤ 200000 }
+    requires room { room ≤ most_records }
     ensures ok { IfOk result (λ rows. records_rule header.now.feed.now header.now.names room 1 [] (records_left reader.old) ≡ None) }
     ensures rows { IfOk result (λ rows. rows ≡ map (row_of header.now.feed.now header.now.names) (records_left reader.old)) }
     ensures few { IfOk result (λ rows. length rows ≤ room) }

@@ -1,6 +1,7 @@
 ghost use Rattle.std.specs.Prelude.{◌≡◌, ◌<◌, ◌≤◌, ◌∷◌, IfOk, IfErr, Some, length, slice_get};
 ghost use Rattle.csv.specs.Records.{fields_of};
 ghost use Rattle.dv_catalog.specs.Extracts.{extract_records};
+ghost use Rattle.dv_catalog.specs.Limits.{most_records};
 ghost use Rattle.dv_catalog.specs.Readings.{behind_header, records_read, reads};
 ghost use Rattle.dv_catalog.specs.Readings.Read.{Taken};
 ghost use Rattle.dv_stage.specs.Faults.{TellsRead};
@@ -42,7 +43,7 @@ fn read_behind(
     row: &mut ByteRecord,
 ) -> Result<TakenExtract, StageFault>
     requires reader { IsExtractReader reader.old }
-    requires room { room ≤ 200000 }
+    requires room { room ≤ most_records }
     ensures ok { IfOk result (λ taken. behind_header feed.now room (fields_of row.old) (records_left reader.old) ≡ Taken taken.rows taken.count) }
     ensures broken { IfErr result (λ e. TellsRead e (behind_header feed.now room (fields_of row.old) (records_left reader.old))) }
 {
@@ -74,7 +75,7 @@ pub(crate) fn read_extract(
     bytes: &[u8],
     room: u32,
 ) -> Result<TakenExtract, StageFault>
-    requires { room ≤ 200000 }
+    requires { room ≤ most_records }
     ensures ok { IfOk result (λ taken. records_read feed.now room (extract_records bytes.now) ≡ Taken taken.rows taken.count) }
     ensures broken { IfErr result (λ e. TellsRead e (records_read feed.now room (extract_records bytes.now))) }
 {
@@ -103,7 +104,7 @@ pub fn stage(
     room: u32,
 ) -> Result<Staged2, StageFault>
     requires place { feed < length catalog.now.feeds }
-    requires room { room ≤ 200000 }
+    requires room { room ≤ most_records }
     ensures ok { IfOk result (λ s. (s.staged.feed ≡ feed) × (reads catalog.now feed bytes.now room ≡ Taken s.staged.rows s.taken)) }
     ensures broken { IfErr result (λ e. TellsRead e (reads catalog.now feed bytes.now room)) }
 {

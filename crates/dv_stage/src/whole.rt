@@ -3,6 +3,7 @@
 ghost use Rattle.std.specs.Prelude.{◌≡◌, ◌≤◌, [], IfOk, IfSome, IsTrue, None, length, map};
 ghost use Rattle.csv.specs.Records.{fields_of};
 ghost use Rattle.dv_catalog.specs.Extracts.{extract_records};
+ghost use Rattle.dv_catalog.specs.Limits.{most_records};
 ghost use Rattle.dv_catalog.specs.Readings.{behind_header, records_read};
 ghost use Rattle.dv_catalog.specs.Readings.Read.{Taken};
 ghost use Rattle.dv_catalog.specs.Records.{records_rule, row_of};
@@ -71,7 +72,7 @@ fn whole_rows(
 ) -> Result<Option<List<NRow>>, Memory>
     requires header { IsHeader header.now }
     requires reader { IsExtractReader reader.old }
-    requires room { room ≤ 200000 }
+    requires room { room ≤ most_records }
     ensures ok { IfOk result (λ found. IfSome found (λ rows. spec.HasNoRivals rows → records_rule header.now.feed.now header.now.names room 1 [] (records_left reader.old) ≡ None)) }
     ensures rows { IfOk result (λ found. IfSome found (λ rows. rows ≡ map (row_of header.now.feed.now header.now.names) (records_left reader.old))) }
     ensures few { IfOk result (λ found. IfSome found (λ rows. length rows ≤ room)) }
@@ -105,7 +106,7 @@ fn whole_behind(
     row: &mut ByteRecord,
 ) -> Result<Option<TakenExtract>, Memory>
     requires reader { IsExtractReader reader.old }
-    requires room { room ≤ 200000 }
+    requires room { room ≤ most_records }
     ensures { IfOk result (λ found. IfSome found (λ taken. behind_header feed.now room (fields_of row.old) (records_left reader.old) ≡ Taken taken.rows taken.count)) }
 {
     let names = header_names(alloc, row)?;
@@ -139,7 +140,7 @@ pub(crate) fn whole_extract(
     bytes: &[u8],
     room: u32,
 ) -> Result<Option<TakenExtract>, Memory>
-    requires { room ≤ 200000 }
+    requires { room ≤ most_records }
     ensures { IfOk result (λ found. IfSome found (λ taken. records_read feed.now room (extract_records bytes.now) ≡ Taken taken.rows taken.count)) }
 {
     let mut reader = extract_reader(alloc, bytes);

@@ -1,5 +1,4 @@
-use Rattle.std.proofs.Common.{◌∙◌, ap}
-use Rattle.std.specs.Prelude.{is_some}
+use Rattle.dv_judge.proofs.Vocabulary.{◌∙◌, ap, is_some}
 use Rattle.dv_judge.proofs.GivenSteps.{feed_place}
 use Rattle.dv_judge.proofs.given_rules.is_feed.Goals as goal
 

@@ -1,6 +1,4 @@
-use Rattle.std.proofs.Common.{◌≡◌, [], map, take, drop}
-use Rattle.std.specs.Prelude.{reverse}
-use Rattle.dv_records.specs.Outcomes.{repeated_name}
+use Rattle.dv_judge.proofs.Vocabulary.{◌≡◌, [], map, take, drop, reverse, repeated_name}
 use Rattle.dv_judge.proofs.given_rules.repeated.Given as goal
 
 -- the names so far are none again, and those behind them tell

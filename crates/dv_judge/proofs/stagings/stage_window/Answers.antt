@@ -1,5 +1,4 @@
-use Rattle.std.proofs.Common.{rules, ◌<◌, length, sym, ◌∙◌, arith}
-use Rattle.std.proofs.lemmas.Result.{err_from_is_err_and}
+use Rattle.dv_judge.proofs.Vocabulary.{rules, ◌<◌, length, sym, ◌∙◌, arith, err_from_is_err_and}
 use Rattle.dv_judge.proofs.FeedSteps.{fault_told, rows_absent, rows_taken, rule_absent, rule_taken}
 use Rattle.dv_judge.proofs.stagings.stage_window.Goals.{in-Some+in_ok-push, in_default}
 use Rattle.dv_judge.proofs.stagings.stage_window.Goals as goal

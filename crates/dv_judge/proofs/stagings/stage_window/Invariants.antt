@@ -1,5 +1,4 @@
-use Rattle.std.proofs.Common.{◌≡◌, ◌≤◌, ◌*◌, ◌++◌, length}
-use Rattle.dv_catalog.specs.Windows.{window_of, window_rule}
+use Rattle.dv_judge.proofs.Vocabulary.{◌≡◌, ◌≤◌, ◌*◌, ◌++◌, length, ◌-◌, ◌^◌, window_of, window_rule}
 use Rattle.dv_judge.proofs.FeedSteps.{rows_from, rule_from}
 use Rattle.dv_judge.proofs.stagings.stage_window.Given as goal
 
@@ -7,7 +6,7 @@ use Rattle.dv_judge.proofs.stagings.stage_window.Given as goal
 abbrev pub invariant-loop-feed : goal.invariant-loop-feed
 invariant-loop-feed l = record {
   within : l.feed ≤ length l.catalog.feeds;
-  counted : l.taken ≤ l.feed * 4294967295;
+  counted : l.taken ≤ l.feed * (2 ^ 32 - 1);
   rule : rule_from l.catalog l.given.extracts l.feed l.taken ≡ window_rule l.catalog l.given;
   extracts : l.extracts ++ rows_from l.catalog l.given.extracts l.feed l.taken ≡ (window_of l.catalog l.given).extracts;
 }

@@ -1,5 +1,4 @@
-use Rattle.std.proofs.Common.{◌≡◌, drop}
-use Rattle.dv_records.specs.Stores.{rows_in}
+use Rattle.dv_records.proofs.Vocabulary.{◌≡◌, drop, rows_in}
 use Rattle.dv_records.proofs.pages.table_page.Given as goal
 
 -- no entry before is the table's

@@ -1,6 +1,4 @@
-use Rattle.std.proofs.Common.{◌∙◌, sym}
-use Rattle.std.specs.Str.{is_utf8}
-use Rattle.csv.specs.Records.{fields_of}
+use Rattle.dv_stage.proofs.Vocabulary.{◌∙◌, sym, is_utf8, fields_of}
 use Rattle.dv_stage.proofs.FieldFacts.{list_all_fails, list_all_passes}
 use Rattle.dv_stage.proofs.fields.are_texts.Goals as goal
 

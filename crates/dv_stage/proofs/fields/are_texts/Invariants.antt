@@ -1,7 +1,4 @@
-use Rattle.std.proofs.Common.{◌≡◌, drop}
-use Rattle.std.specs.List.{list_all}
-use Rattle.std.specs.Str.{is_utf8}
-use Rattle.csv.specs.Records.{fields_of}
+use Rattle.dv_stage.proofs.Vocabulary.{◌≡◌, drop, list_all, is_utf8, fields_of}
 use Rattle.dv_stage.proofs.fields.are_texts.Given as goal
 
 abbrev pub invariant-loop-place : goal.invariant-loop-place

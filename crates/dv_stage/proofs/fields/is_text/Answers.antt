@@ -1,4 +1,4 @@
-use Rattle.std.proofs.Common.{◌∙◌}
+use Rattle.dv_stage.proofs.Vocabulary.{◌∙◌}
 use Rattle.dv_stage.proofs.TextTests.{is_ok-is_utf8}
 use Rattle.dv_stage.proofs.fields.is_text.Goals as goal
 

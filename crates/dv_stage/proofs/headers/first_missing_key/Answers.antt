@@ -1,6 +1,4 @@
-use Rattle.std.proofs.Common.{◌∙◌, ℕ, List, length, not, refl, sym}
-use Rattle.std.proofs.lemmas.Option.{slice_get_read}
-use Rattle.dv_catalog.specs.Lookups.{is_among}
+use Rattle.dv_stage.proofs.Vocabulary.{◌∙◌, ℕ, List, length, not, refl, sym, slice_get_read, is_among}
 use Rattle.dv_stage.proofs.ColumnFacts.{find-flat_map}
 use Rattle.dv_stage.proofs.headers.first_missing_key.Goals as goal
 

@@ -1,6 +1,4 @@
-use Rattle.std.proofs.Common.{◌≡◌, ℕ, List, drop, not}
-use Rattle.std.specs.Prelude.{find, flat_map}
-use Rattle.dv_catalog.specs.Lookups.{is_among}
+use Rattle.dv_stage.proofs.Vocabulary.{◌≡◌, ℕ, List, drop, not, find, flat_map, is_among}
 use Rattle.dv_stage.proofs.headers.first_missing_key.Given as goal
 
 abbrev pub invariant-loop-columns : goal.invariant-loop-columns

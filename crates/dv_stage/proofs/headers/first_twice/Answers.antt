@@ -1,6 +1,5 @@
-use Rattle.std.proofs.Common.{◌∙◌, [], ◌∷◌, ◌++◌, length, Some, ap, refl, sym}
-use Rattle.std.proofs.lemmas.Option.{slice_get_read}
-use Rattle.dv_stage.proofs.SeenFacts.{again_here, again_more, seen_more, was_new, was_old}
+use Rattle.dv_stage.proofs.Vocabulary.{◌∙◌, [], ◌∷◌, ◌++◌, length, Some, ap, refl, sym, slice_get_read, not-false, not-true}
+use Rattle.dv_stage.proofs.SeenFacts.{again_here, again_more, seen_more}
 use Rattle.dv_stage.proofs.headers.first_twice.Goals as goal
 
 pub loop-name-preserved : goal.loop-name-preserved
@@ -11,7 +10,7 @@ loop-name-preserved c =
     let here = slice_get_read names (length names) _ name refl c.loop-name-test.true c.name-item.is in
     let updates = rw c.in_ok-copy.ensures at c.in_ok-insert.ensures.updates in
     let added = rw c.in_ok-copy.ensures at c.in_ok-insert.ensures.added in
-    let new = was_new _ _ _ added c.if-not-branch.false (had name) in
+    let new = sym (had name) ∙ not-true _ (sym added ∙ c.if-not-branch.false) in
     (seen ++ name ∷ [], seen_more c.loop-name.earlier c.insert.new.self seen name had updates, sym (again_more seen names c.loop-name.name-index name here new) ∙ rest)
 
 pub returns-then-not-branch : goal.returns-then-not-branch
@@ -21,5 +20,5 @@ returns-then-not-branch c =
     let name = c.name-item.result in
     let here = slice_get_read names (length names) _ name refl c.loop-name-test.true c.name-item.is in
     let added = rw c.in_ok-copy.ensures at c.in_ok-insert.ensures.added in
-    let old = was_old _ _ _ added c.if-not-branch.true (had name) in
+    let old = sym (had name) ∙ not-false _ (sym added ∙ c.if-not-branch.true) in
     ap Some c.in_ok-copy-2.ensures ∙ sym (again_here seen names c.loop-name.name-index name here old) ∙ rest

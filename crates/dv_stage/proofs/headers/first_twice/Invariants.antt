@@ -1,9 +1,4 @@
-use Rattle.std.proofs.Common.{◌≡◌, ℕ, List, drop}
-use Rattle.std.specs.Prelude.{bytes_eq}
-use Rattle.std.specs.Ordering.{nat_cmp}
-use Rattle.std.specs.Cmp.Lexicographic.{slice_cmp}
-use Rattle.std.specs.BTreeSet.{contains}
-use Rattle.dv_catalog.specs.Lookups.{again_after, is_among, text_twice}
+use Rattle.dv_stage.proofs.Vocabulary.{◌≡◌, ℕ, List, drop, bytes_eq, nat_cmp, slice_cmp, contains, again_after, is_among, text_twice}
 use Rattle.dv_stage.proofs.headers.first_twice.Given as goal
 
 -- the set has the names so far

@@ -1,8 +1,4 @@
-use Rattle.std.proofs.Common.{◌∷◌, [], refl, take}
-use Rattle.std.proofs.lemmas.List.{map-append}
-use Rattle.csv.specs.Records.{fields_of}
-use Rattle.dv_text.specs.Normal.{norm_field}
-use Rattle.dv_stage.proofs.FieldFacts.{take_at}
+use Rattle.dv_stage.proofs.Vocabulary.{◌∷◌, [], refl, take, map-append, fields_of, norm_field, take_got}
 use Rattle.dv_stage.proofs.headers.header_names.Goals as goal
 
 pub loop-place-preserved : goal.loop-place-preserved
@@ -10,4 +6,4 @@ loop-place-preserved c =
     let fields = fields_of c.args.header.now in
     let place = c.loop-place.place in
     let field = c.field_in.result.now in
-    rw (c.in_ok-push.ensures.ok, c.in_ok-name.ensures, take_at fields place field c.field_in.ensures, map-append norm_field (take place fields) (field ∷ []), c.loop-place.invariant) refl
+    rw (c.in_ok-push.ensures.ok, c.in_ok-name.ensures, take_got fields place field c.field_in.ensures, map-append norm_field (take place fields) (field ∷ []), c.loop-place.invariant) refl

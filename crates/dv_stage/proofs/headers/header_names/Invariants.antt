@@ -1,6 +1,4 @@
-use Rattle.std.proofs.Common.{◌≡◌, map, take}
-use Rattle.csv.specs.Records.{fields_of}
-use Rattle.dv_text.specs.Normal.{norm_field}
+use Rattle.dv_stage.proofs.Vocabulary.{◌≡◌, map, take, fields_of, norm_field}
 use Rattle.dv_stage.proofs.headers.header_names.Given as goal
 
 abbrev pub invariant-loop-place : goal.invariant-loop-place

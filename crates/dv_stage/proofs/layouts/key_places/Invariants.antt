@@ -1,5 +1,4 @@
-use Rattle.std.proofs.Common.{◌≡◌, map, take}
-use Rattle.dv_stage.specs.Layouts.{places_of}
+use Rattle.dv_stage.proofs.Vocabulary.{◌≡◌, map, take, places_of}
 use Rattle.dv_stage.proofs.layouts.key_places.Given as goal
 
 abbrev pub invariant-loop-columns : goal.invariant-loop-columns

@@ -1,5 +1,4 @@
-use Rattle.std.proofs.Common.{◌≡◌, map, take}
-use Rattle.dv_stage.specs.Partners.{partner_of}
+use Rattle.dv_stage.proofs.Vocabulary.{◌≡◌, map, take, partner_of}
 use Rattle.dv_stage.proofs.partners.all_partners.Given as goal
 
 abbrev pub invariant-loop-row : goal.invariant-loop-row

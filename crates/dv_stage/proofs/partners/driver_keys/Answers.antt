@@ -1,7 +1,4 @@
-use Rattle.std.proofs.Common.{◌∙◌, sym}
-use Rattle.std.specs.Prelude.{slice_get}
-use Rattle.std.proofs.lemmas.List.{append-nil}
-use Rattle.dv_text.proofs.Members.{filter_map_more}
+use Rattle.dv_stage.proofs.Vocabulary.{◌∙◌, sym, slice_get, append-nil, filter_map_more}
 use Rattle.dv_stage.proofs.partners.driver_keys.Goals as goal
 use Rattle.dv_stage.proofs.partners.driver_keys.Goals.{in-Some+in_ok-copy+in_ok-push, in_default}
 

@@ -1,5 +1,4 @@
-use Rattle.std.proofs.Common.{◌≡◌, take}
-use Rattle.std.specs.Prelude.{filter_map, slice_get}
+use Rattle.dv_stage.proofs.Vocabulary.{◌≡◌, take, filter_map, slice_get}
 use Rattle.dv_stage.proofs.partners.driver_keys.Given as goal
 
 abbrev pub invariant-loop-place : goal.invariant-loop-place

@@ -1,5 +1,4 @@
-use Rattle.std.proofs.Common.{◌≡◌, ◌-◌, drop}
-use Rattle.dv_stage.specs.Partners.{first_pair}
+use Rattle.dv_stage.proofs.Vocabulary.{◌≡◌, ◌-◌, drop, first_pair}
 use Rattle.dv_stage.proofs.partners.first_pair.Given as goal
 
 abbrev pub invariant-loop-i : goal.invariant-loop-i

@@ -1,9 +1,4 @@
-use Rattle.std.proofs.Common.{◌∙◌, ap, map}
-use Rattle.std.proofs.lemmas.Result.{IfOk-weaker}
-use Rattle.csv.specs.Records.{fields_of}
-use Rattle.dv_text.specs.Normal.{norm_field}
-use Rattle.dv_text.specs.declared.rows.NRow.{NRow}
-use Rattle.dv_stage.specs.Layouts.{fields_at}
+use Rattle.dv_stage.proofs.Vocabulary.{◌∙◌, ap, map, IfOk-weaker, fields_of, norm_field, NRow, fields_at}
 use Rattle.dv_stage.proofs.RowFacts.{row_at-layout}
 use Rattle.dv_stage.proofs.readings.feed_row.Goals as goal
 

@@ -1,7 +1,4 @@
-use Rattle.std.proofs.Common.{◌≡◌, ◌+◌, ◌≤◌, ◌++◌, [], length, map, true}
-use Rattle.dv_catalog.specs.Records.{records_rule, row_of}
-use Rattle.dv_stage.specs.Remaining.{IsExtractReader, records_left}
-use Rattle.dv_stage.specs.Rivals.{IsTakenRows}
+use Rattle.dv_stage.proofs.Vocabulary.{◌≡◌, ◌+◌, ◌≤◌, ◌++◌, [], length, map, true, records_rule, row_of, IsExtractReader, records_left, IsTakenRows}
 use Rattle.dv_stage.proofs.readings.read_rows.Given as goal
 
 -- what the records that are left still say, behind the rows that were taken

@@ -1,4 +1,4 @@
-use Rattle.csv.specs.Records.{fields_of}
+use Rattle.dv_stage.proofs.Vocabulary.{fields_of}
 use Rattle.dv_stage.proofs.RestFacts.{left-end, left-read}
 use Rattle.dv_stage.proofs.records.next_row.Goals as goal
 

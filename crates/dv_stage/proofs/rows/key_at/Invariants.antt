@@ -1,7 +1,4 @@
-use Rattle.std.proofs.Common.{◌≡◌, map, take}
-use Rattle.csv.specs.Records.{fields_of}
-use Rattle.dv_text.specs.Normal.{norm_key}
-use Rattle.dv_stage.specs.Layouts.{fields_at}
+use Rattle.dv_stage.proofs.Vocabulary.{◌≡◌, map, take, fields_of, norm_key, fields_at}
 use Rattle.dv_stage.proofs.rows.key_at.Given as goal
 
 abbrev pub invariant-loop-place : goal.invariant-loop-place

@@ -1,6 +1,4 @@
-use Rattle.std.proofs.Common.{◌≡◌, map, take}
-use Rattle.csv.specs.Records.{fields_of}
-use Rattle.dv_stage.specs.Layouts.{key_at}
+use Rattle.dv_stage.proofs.Vocabulary.{◌≡◌, map, take, fields_of, key_at}
 use Rattle.dv_stage.proofs.rows.refs_at.Given as goal
 
 abbrev pub invariant-loop-places : goal.invariant-loop-places

@@ -1,7 +1,4 @@
-use Rattle.std.proofs.Common.{◌∙◌, sym, slice_get}
-use Rattle.std.proofs.lemmas.List.{append-nil}
-use Rattle.csv.specs.Records.{fields_of}
-use Rattle.dv_text.specs.Normal.{norm_field}
+use Rattle.dv_stage.proofs.Vocabulary.{◌∙◌, sym, slice_get, append-nil, fields_of, norm_field}
 use Rattle.dv_stage.proofs.RowFacts.{map-filter_map-more}
 use Rattle.dv_stage.proofs.rows.texts_at.Goals as goal
 use Rattle.dv_stage.proofs.rows.texts_at.Goals.{in-Some+in_ok-text+in_ok-push, in_default}

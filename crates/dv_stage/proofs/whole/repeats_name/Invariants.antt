@@ -1,5 +1,4 @@
-use Rattle.std.proofs.Common.{◌≡◌, ◌-◌, drop}
-use Rattle.dv_stage.specs.Rivals.{repeats_name}
+use Rattle.dv_stage.proofs.Vocabulary.{◌≡◌, ◌-◌, drop, repeats_name}
 use Rattle.dv_stage.proofs.whole.repeats_name.Given as goal
 
 abbrev pub invariant-loop-i : goal.invariant-loop-i

@@ -1,6 +1,4 @@
-use Rattle.std.proofs.Common.{◌∙◌, ap, length, sym}
-use Rattle.csv.specs.Records.{fields_of}
-use Rattle.dv_stage.specs.Remaining.{records_left}
+use Rattle.dv_stage.proofs.Vocabulary.{◌∙◌, ap, length, sym, fields_of, records_left}
 use Rattle.dv_stage.proofs.WholeFacts.{whole_read}
 use Rattle.dv_stage.proofs.whole.whole_behind.Goals as goal
 

@@ -1,6 +1,4 @@
-use Rattle.std.proofs.Common.{◌∙◌, ◌∷◌, [], arith, length-append}
-use Rattle.csv.specs.Records.{fields_of}
-use Rattle.dv_stage.specs.Remaining.{records_left}
+use Rattle.dv_stage.proofs.Vocabulary.{◌∙◌, ◌∷◌, [], arith, length-append, fields_of, records_left}
 use Rattle.dv_stage.proofs.WholeFacts.{left_more, rows_more, rule_more}
 use Rattle.dv_stage.proofs.whole.whole_rows.Goals as goal
 

@@ -1,7 +1,4 @@
-use Rattle.std.proofs.Common.{◌≡◌, ◌+◌, ◌≤◌, ◌++◌, [], length, map}
-use Rattle.dv_catalog.specs.Records.{records_rule, row_of}
-use Rattle.dv_stage.specs.Remaining.{IsExtractReader, records_left}
-use Rattle.dv_stage.specs.Rivals.{HasNoRivals}
+use Rattle.dv_stage.proofs.Vocabulary.{◌≡◌, ◌+◌, ◌≤◌, ◌++◌, [], length, map, records_rule, row_of, IsExtractReader, records_left, HasNoRivals}
 use Rattle.dv_stage.proofs.whole.whole_rows.Given as goal
 
 -- what the records that are left still say, behind the rows that were read

@@ -1,7 +1,4 @@
-use Rattle.std.proofs.Common.{refl}
-use Rattle.std.proofs.lemmas.Bool.{and_from, and_parts}
-use Rattle.std.specs.Prelude.{◌&&◌}
-use Rattle.dv_records.specs.Stores.{are_apart, are_snapshots_in_order, have_kinds}
+use Rattle.dv_records.proofs.Vocabulary.{refl, and_from, and_parts, ◌&&◌, are_apart, are_snapshots_in_order, have_kinds}
 use Rattle.dv_records.proofs.WellFormedTables.{well_formed-appended_to}
 use Rattle.dv_records.proofs.memory_keepers.MemoryKeeperKeeper.append.Goals as goal
 
