@@ -1,27 +1,7 @@
 -- The rows of new lists are a batch, and may stand behind the rows of which the lists are new.
-use Rattle.std.proofs.Common.{◌≡◌, ℕ, Bool, true, false, List, [], ◌∷◌, ◌++◌, Option, Some, None, refl, sym, ◌∙◌, ap, subst}
-use Rattle.std.specs.Prelude.{Contains, ◌||◌}
-use Rattle.std.specs.Cmp.{on_total, tied_itself}
-use Rattle.std.specs.Cmp.Lexicographic.{nat_list_cmp_total}
-use Rattle.std.specs.List.{AllByRecursion, filter_map, list_all}
-use Rattle.std.specs.List.Sorted.{IsStrictlySortedBy}
-use Rattle.std.specs.declared.cmp.Ordering.{Ordering}
-use Rattle.std.specs.declared.cmp.Ordering.TheVariants.{Less, Equal, Greater}
-use Rattle.std.specs.Option.{option_to_list}
-use Rattle.std.proofs.lemmas.List.Elements.{filter_map-append}
-use Rattle.dv_text.specs.Keys.{Hashes, is_missing}
-use Rattle.dv_text.proofs.Members.{Contains-cons_here, Contains-cons_there, filter_map_member, member_of_filter_map}
-use Rattle.dv_text.proofs.SortedLists.{sorted_by-sorted}
-use Rattle.dv_catalog.specs.Entries.{Mapping}
-use Rattle.dv_records.specs.declared.deliveries.Delivery.{Delivery}
-use Rattle.dv_records.specs.Batches.{IsBatchOf, batch_of, digest_cmp}
-use Rattle.dv_records.specs.Deltas.{Hashed, HasNoClash}
-use Rattle.dv_records.proofs.BatchTies.{IsBatchOf-batch_of, batch_of-IsBatchOf}
-use Rattle.dv_keys.specs.declared.hashed_lists.HashedList.{HashedList}
-use Rattle.dv_keys.specs.HashedLists.{hashed_cmp, hashed_item}
-use Rattle.dv_keys.specs.HashedOrder.{hashed_cmp-IsAntisymmetric}
-use Rattle.dv_keys.specs.HeldLists.{is_held}
-use Rattle.dv_keys.specs.NewLists.{all_hashed, new_item, new_lists}
+use Rattle.dv_keys.proofs.Vocabulary.{◌≡◌, ℕ, Bool, true, false, List, [], ◌∷◌, ◌++◌, Option, Some, None, refl, sym, ◌∙◌, ap, subst, Contains, ◌||◌, on_total, tied_itself, nat_list_cmp_total, AllByRecursion, filter_map, list_all, IsStrictlySortedBy, Ordering, Less, Equal, Greater, option_to_list}
+use Rattle.dv_keys.proofs.Vocabulary.{filter_map-append, Hashes, is_missing, Contains-cons_here, Contains-cons_there, filter_map_member, member_of_filter_map, sorted_by-sorted, Mapping, Delivery, IsBatchOf, batch_of, digest_cmp, Hashed, HasNoClash, IsBatchOf-batch_of, batch_of-IsBatchOf}
+use Rattle.dv_keys.proofs.Vocabulary.{HashedList, hashed_cmp, hashed_item, hashed_cmp-IsAntisymmetric, is_held, all_hashed, new_item, new_lists}
 use Rattle.dv_keys.proofs.Brought.{item_in, one_list}
 use Rattle.dv_keys.proofs.Clashes.{hashed_total, same_digest}
 

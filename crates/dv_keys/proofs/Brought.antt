@@ -1,29 +1,8 @@
 -- The hashed lists of deliveries are what they bring, and those that are new.
-use Rattle.std.proofs.Common.{◌≡◌, ◌⊎◌, ℕ, inl, inr, Bool, true, false, List, [], ◌∷◌, Option, Some, None, refl, sym, ◌∙◌, ap, subst, map}
-use Rattle.std.specs.Prelude.{Contains, ◌||◌, not, filter}
-use Rattle.std.specs.List.{list_all}
-use Rattle.std.specs.List.Sorted.{IsStrictlySortedBy}
-use Rattle.std.specs.declared.cmp.Ordering.{Ordering}
-use Rattle.std.specs.declared.cmp.Ordering.TheVariants.{Less, Equal, Greater}
-use Rattle.std.proofs.lemmas.List.Elements.{Contains-append_cases, Contains-append_left, Contains-append_right}
-use Rattle.std.proofs.lemmas.List.Kept.{IsStrictlySortedBy-filter}
-use Rattle.dv_text.specs.declared.rows.Key.{Key}
-use Rattle.dv_text.specs.Keys.{Hashes, is_missing}
-use Rattle.dv_text.specs.Orders.{refs_cmp}
-use Rattle.dv_text.proofs.Members.{Contains-cons_cases, Contains-cons_here, Contains-cons_there, Contains-map, filtered_members, map_member}
-use Rattle.dv_text.proofs.SortedLists.{ascending-sorted_by, member_after_sort, member_before_sort}
-use Rattle.dv_catalog.specs.Entries.{Mapping}
-use Rattle.dv_records.specs.declared.deliveries.Delivery.{Delivery}
-use Rattle.dv_records.specs.Batches.{IsBatchOf}
-use Rattle.dv_records.specs.Deltas.{Hashed, HasNoClash, brought, hashed_by, missing_in}
-use Rattle.dv_records.proofs.BatchTies.{batch_of-IsBatchOf}
-use Rattle.dv_keys.specs.declared.hashed_lists.HashedList.{HashedList}
-use Rattle.dv_keys.specs.HashedLists.{hashed_cmp, hashed_item, hashed_list, hashed_lists}
-use Rattle.dv_keys.specs.HashedOrder.{hashed_cmp-IsAntisymmetric}
-use Rattle.dv_keys.specs.HeldLists.{is_held}
-use Rattle.dv_keys.specs.NewLists.{all_hashed, is_new, new_item, new_lists}
+use Rattle.dv_keys.proofs.Vocabulary.{◌≡◌, ◌⊎◌, ℕ, inl, inr, Bool, true, false, List, [], ◌∷◌, Option, Some, None, refl, sym, ◌∙◌, ap, subst, map, Contains, ◌||◌, not, filter, list_all, IsStrictlySortedBy, Ordering, Less, Equal, Greater, Contains-append_cases, Contains-append_left}
+use Rattle.dv_keys.proofs.Vocabulary.{Contains-append_right, IsStrictlySortedBy-filter, Key, Hashes, is_missing, refs_cmp, Contains-cons_cases, Contains-cons_here, Contains-cons_there, Contains-map, filtered_members, map_member, ascending-sorted_by, member_after_sort, member_before_sort, Mapping}
+use Rattle.dv_keys.proofs.Vocabulary.{Delivery, IsBatchOf, Hashed, HasNoClash, brought, hashed_by, missing_in, batch_of-IsBatchOf, HashedList, hashed_cmp, hashed_item, hashed_list, hashed_lists, hashed_cmp-IsAntisymmetric, is_held, all_hashed, is_new, new_item, new_lists, refs_exact, refs_total}
 use Rattle.dv_keys.proofs.Clashes.{AreAll, IsEntry, hashed_total}
-use Rattle.dv_text.proofs.Deciding.{refs_exact, refs_total}
 
 -- where nothing clashes, lists of one hash key are one
 pub one_list : (all : List Hashed) → HasNoClash all → (digest : List ℕ) (a b : List Key) → Contains all (record { digest = digest; refs = a }) → Contains all (record { digest = digest; refs = b }) → a ≡ b

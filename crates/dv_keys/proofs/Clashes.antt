@@ -1,39 +1,10 @@
 -- The least pair of rivals among hashed lists and held ones is the least clash, and there is no clash where there is none.
-use Rattle.std.proofs.Common.{◌≡◌, ◌⊎◌, ℕ, inl, inr, Bool, true, false, List, [], ◌∷◌, Option, Some, None, refl, sym, ◌∙◌, ap, subst}
-use Rattle.std.specs.Prelude.{Contains, find, slice_get}
-use Rattle.std.specs.Cmp.{IsTotalOrder, on_total, then_total, tied_itself}
-use Rattle.std.specs.Cmp.Lexicographic.{nat_list_cmp_total}
-use Rattle.std.specs.FinMap.{nat_cmp-IsAntisymmetric, slice_cmp-IsAntisymmetric}
-use Rattle.std.specs.List.{AllByRecursion, cons_option, filter_map}
-use Rattle.std.specs.List.Sorted.{IsStrictlySortedBy}
-use Rattle.std.specs.Option.{option_map}
-use Rattle.std.specs.Ordering.{ordering_reverse}
-use Rattle.std.specs.Str.{bytes_eq}
-use Rattle.std.specs.declared.cmp.Ordering.{Ordering}
-use Rattle.std.specs.declared.cmp.Ordering.TheVariants.{Less, Equal, Greater}
-use Rattle.std.proofs.lemmas.Cmp.{nat_cmp_total}
-use Rattle.std.proofs.lemmas.List.Elements.{Contains-append_cases, Contains-append_left, Contains-append_right}
-use Rattle.std.proofs.lemmas.Slice.Eq.{bytes_eq-Decides}
-use Rattle.dv_text.specs.declared.rows.Key.{Key}
-use Rattle.dv_text.specs.Keys.{refs_eq}
-use Rattle.dv_text.specs.Orders.{refs_cmp}
-use Rattle.dv_text.specs.Sorting.{sorted_by}
-use Rattle.dv_text.proofs.Members.{Contains-cons_cases, Contains-cons_here, Contains-cons_there, Contains-nil, filter_map_member, member_of_all, member_of_filter_map}
-use Rattle.dv_text.proofs.SortedLists.{ascending-sorted_by, member_after_sort, member_before_sort}
-use Rattle.dv_records.specs.Batches.{digest_cmp}
-use Rattle.dv_records.specs.Collisions.{Pair, pair_cmp}
-use Rattle.dv_records.specs.Deltas.{Hashed, HasNoClash, IsClash, IsLeastClash}
-use Rattle.dv_keys.specs.declared.hashed_lists.HashedList.{HashedList}
-use Rattle.dv_keys.specs.declared.rivals.Rivals.{Rivals}
-use Rattle.dv_keys.specs.HashedLists.{hashed_cmp}
-use Rattle.dv_keys.specs.HashedOrder.{rivals_cmp-IsAntisymmetric}
-use Rattle.dv_keys.specs.HeldLists.{are_held_apart, is_other_held, list_under}
-use Rattle.dv_keys.specs.Rivalries.{all_neighbours, all_rivals, least_rivals, neighbours, rivals_cmp, rivals_of, held_rival}
+use Rattle.dv_keys.proofs.Vocabulary.{◌≡◌, ◌⊎◌, ℕ, inl, inr, Bool, true, false, List, [], ◌∷◌, Option, Some, None, refl, sym, ◌∙◌, ap, subst, option_map, Contains, find, slice_get, IsTotalOrder, on_total, then_total, tied_itself, nat_list_cmp_total, nat_cmp-IsAntisymmetric}
+use Rattle.dv_keys.proofs.Vocabulary.{slice_cmp-IsAntisymmetric, AllByRecursion, cons_option, filter_map, IsStrictlySortedBy, ordering_reverse, bytes_eq, Ordering, Less, Equal, Greater, nat_cmp_total, Contains-append_cases, Contains-append_left, Contains-append_right, bytes_eq-Decides, Key}
+use Rattle.dv_keys.proofs.Vocabulary.{refs_eq, refs_cmp, sorted_by, Contains-cons_cases, Contains-cons_here, Contains-cons_there, Contains-nil, filter_map_member, member_of_all, member_of_filter_map, ascending-sorted_by, member_after_sort, member_before_sort, digest_cmp, Pair, pair_cmp, Hashed}
+use Rattle.dv_keys.proofs.Vocabulary.{HasNoClash, IsClash, IsLeastClash, HashedList, Rivals, hashed_cmp, rivals_cmp-IsAntisymmetric, are_held_apart, is_other_held, list_under, all_neighbours, all_rivals, least_rivals, neighbours, rivals_cmp, rivals_of, held_rival, refs_eq-Decides, refs_exact}
+use Rattle.dv_keys.proofs.Vocabulary.{refs_total, finds, found_member, made_of, asymmetric, irreflexive}
 use Rattle.dv_keys.proofs.Held.{one_held}
-use Rattle.dv_text.proofs.Deciding.{refs_eq-Decides, refs_exact, refs_total}
-use Rattle.dv_text.proofs.Passing.{finds, found_member}
-use Rattle.dv_text.proofs.Options.{made_of}
-use Rattle.dv_text.proofs.Orderings.{asymmetric, irreflexive}
 
 -- ---- orders
 
@@ -216,7 +187,8 @@ has_neighbours (last ∷ next ∷ rest) up x y x_in y_in same less =
           | inr is ↦ irreflexive refs_total x.refs (subst (λ k. refs_cmp x.refs k ≡ Less) is less)
         ]
 
-    from_here : last ≡ x → Contains (next ∷ rest) y → ((v w : HashedList) → Contains (next ∷ rest) v → Contains (next ∷ rest) w → v.digest ≡ w.digest → refs_cmp v.refs w.refs ≡ Less → IsAtMost (all_neighbours (next ∷ rest)) v.refs w.refs) → IsAtMost (all_neighbours (last ∷ next ∷ rest)) x.refs y.refs
+    from_here : last ≡ x → Contains (next ∷ rest) y → ((v w : HashedList) → Contains (next ∷ rest) v → Contains (next ∷ rest) w → v.digest ≡ w.digest → refs_cmp v.refs w.refs ≡ Less → IsAtMost (all_neighbours (next ∷ rest)) v.refs w.refs)
+        → IsAtMost (all_neighbours (last ∷ next ∷ rest)) x.refs y.refs
     from_here x_is y_more later =
         let ahead : hashed_cmp x next ≡ Less = subst (λ w. hashed_cmp w next ≡ Less) x_is up.0.0 in
         elim (Contains-cons_cases next rest y y_more) [

@@ -1,32 +1,8 @@
 -- The lists of deliveries can be hashed, and their tables, hubs and feeds are in the mapping.
-use Rattle.std.proofs.Common.{◌≡◌, ◌<◌, ◌≤◌, ◌==◌, ℕ, zero, suc, Bool, Option, true, false, List, [], ◌∷◌, Some, None, refl, sym, ◌∙◌, ap, subst, length, map, nat_le, nat_lt, replicate, arith, le-leb, leb-true, lt-ltb, eqb-true}
-use Rattle.std.specs.Prelude.{Contains, slice_get}
-use Rattle.std.specs.List.{filter_map, list_all, zip}
-use Rattle.dv_text.specs.declared.rows.Key.{Key}
-use Rattle.dv_text.specs.Keys.{Hashes, is_missing}
-use Rattle.dv_text.proofs.Members.{filter_map_member}
-use Rattle.dv_text.proofs.SortedLists.{member_before_sort}
-use Rattle.dv_digest.specs.Fits.{refs_fit, texts_fit}
-use Rattle.dv_catalog.specs.declared.entries.HubDef.{HubDef}
-use Rattle.dv_catalog.specs.declared.entries.LinkDef.{LinkDef}
-use Rattle.dv_catalog.specs.declared.entries.Parent.{Parent}
-use Rattle.dv_catalog.specs.declared.entries.Parent.TheVariants.{Hub, Link}
-use Rattle.dv_catalog.specs.Entries.{Mapping}
-use Rattle.dv_catalog.specs.Feeds.{parent_hubs, parts_of}
-use Rattle.dv_catalog.specs.Limits.{has_name_form, is_within}
-use Rattle.dv_catalog.specs.Mappings.{is_declared, is_valid, is_valid_hub}
-use Rattle.dv_catalog.proofs.ValidReads.{valid_link, valid_parts}
-use Rattle.dv_records.specs.declared.deliveries.Delivery.{Delivery}
-use Rattle.dv_records.specs.Collisions.{missing_refs}
-use Rattle.dv_records.specs.Deliveries.{table_of}
-use Rattle.dv_records.specs.Deltas.{Hashed, missing_in}
-use Rattle.dv_keys.specs.declared.hashed_lists.HashedList.{HashedList}
-use Rattle.dv_keys.specs.HashedLists.{hashed_cmp, hashed_item}
-use Rattle.dv_keys.specs.Items.{AreItems, IsItem, is_key_of, is_parent_table, missing_key}
-use Rattle.dv_keys.specs.NewLists.{new_item, new_lists}
+use Rattle.dv_keys.proofs.Vocabulary.{◌≡◌, ◌<◌, ◌≤◌, ◌==◌, ℕ, zero, suc, Bool, Option, true, false, List, [], ◌∷◌, Some, None, refl, sym, ◌∙◌, ap, subst, length, map, nat_le, nat_lt, replicate, arith, le-leb, leb-true, lt-ltb, eqb-true, Contains, slice_get, filter_map, list_all, zip, Key, Hashes}
+use Rattle.dv_keys.proofs.Vocabulary.{is_missing, filter_map_member, member_before_sort, refs_fit, texts_fit, HubDef, LinkDef, Parent, Hub, Link, Mapping, parent_hubs, parts_of, has_name_form, is_within, is_declared, is_valid, is_valid_hub, valid_link, valid_parts, Delivery, missing_refs}
+use Rattle.dv_keys.proofs.Vocabulary.{table_of, Hashed, missing_in, HashedList, hashed_cmp, hashed_item, AreItems, IsItem, is_key_of, is_parent_table, missing_key, new_item, new_lists, and_from, and_parts, all_pass}
 use Rattle.dv_keys.proofs.Batches.{new_of}
-use Rattle.std.proofs.lemmas.Bool.{and_from, and_parts}
-use Rattle.dv_text.proofs.Passing.{all_pass}
 
 few_parts : (hubs : List HubDef) → list_all is_valid_hub hubs ≡ true → (hub : ℕ) → parts_of (slice_get hubs hub) ≤ 4
 few_parts [] all hub = omega arith

@@ -1,17 +1,6 @@
 -- Held lists: those under one hash key are one, and those of rows are found with the rows.
-use Rattle.std.proofs.Common.{◌≡◌, ℕ, inl, inr, Bool, true, false, ◌&&◌, List, [], ◌∷◌, Option, Some, None, refl, sym, ◌∙◌, ap, cond, map, option_map}
-use Rattle.std.specs.Prelude.{Contains, find, not}
-use Rattle.std.specs.List.{list_any}
-use Rattle.std.specs.Str.{bytes_eq}
-use Rattle.std.proofs.lemmas.Bool.{and_parts, false≢true, not-true}
-use Rattle.std.proofs.lemmas.Slice.Eq.{bytes_eq-Decides}
-use Rattle.dv_text.specs.declared.rows.Key.{Key}
-use Rattle.dv_text.proofs.Members.{Contains-cons_cases, Contains-nil}
-use Rattle.dv_index.specs.Places.{Place}
-use Rattle.dv_records.specs.Deltas.{Hashed}
-use Rattle.dv_keys.specs.HeldLists.{are_held_apart, is_held, list_under}
-use Rattle.dv_keys.specs.PlacedRows.{are_parents_apart, has_row_under, row_under}
-use Rattle.dv_text.proofs.Passing.{some_passes_at}
+use Rattle.dv_keys.proofs.Vocabulary.{◌≡◌, ℕ, inl, inr, Bool, true, false, ◌&&◌, List, [], ◌∷◌, Option, Some, None, refl, sym, ◌∙◌, ap, cond, map, option_map, Contains, find, not, list_any, bytes_eq, and_parts, false≢true, not-true, bytes_eq-Decides, Key, Contains-cons_cases, Contains-nil, Place}
+use Rattle.dv_keys.proofs.Vocabulary.{Hashed, are_held_apart, is_held, list_under, are_parents_apart, has_row_under, row_under, some_passes_at}
 
 -- of lists whose hash keys are apart, those with one hash key are one
 pub one_held : (held : List Hashed) → are_held_apart held ≡ true → (a b : Hashed) → Contains held a → Contains held b → a.digest ≡ b.digest → a ≡ b

@@ -1,18 +1,7 @@
 -- Deliveries to a hub.
-use Rattle.std.proofs.Common.{◌≡◌, ◌==◌, ℕ, Bool, true, List, [], ◌∷◌, Option, Some, None, refl, sym, ◌∙◌, ap, subst, length, map, option_map, nat_le, lt-ltb, ltb-true, eqb-true, Bor, arith}
-use Rattle.std.specs.Prelude.{slice_get}
-use Rattle.std.specs.List.{list_all, zip}
-use Rattle.std.proofs.lemmas.Bool.{eq-eqb}
-use Rattle.dv_text.specs.declared.rows.Key.{Key}
-use Rattle.dv_catalog.specs.declared.entries.Parent.TheVariants.{Hub}
-use Rattle.dv_catalog.specs.Entries.{Mapping}
-use Rattle.dv_catalog.specs.Feeds.{parts_of}
-use Rattle.dv_records.specs.declared.deliveries.Delivery.{Delivery}
-use Rattle.dv_keys.specs.Items.{AreItems, IsItem, are_keys_of, is_key_of}
-use Rattle.dv_keys.specs.ItemTests.{are_items as is_items}
+use Rattle.dv_keys.proofs.Vocabulary.{◌≡◌, ◌==◌, ℕ, Bool, true, List, [], ◌∷◌, Option, Some, None, refl, sym, ◌∙◌, ap, subst, length, map, option_map, nat_le, lt-ltb, ltb-true, eqb-true, Bor, arith, slice_get, list_all, zip, eq-eqb, and_from, and_parts, Key, Hub, Mapping, parts_of, Delivery}
+use Rattle.dv_keys.proofs.Vocabulary.{AreItems, IsItem, are_keys_of, is_key_of, are_items as is_items, AreHubItems, IsHubItem}
 use Rattle.dv_keys.proofs.ItemTests.{passed}
-use Rattle.dv_keys.specs.HubDeltas.{AreHubItems, IsHubItem}
-use Rattle.std.proofs.lemmas.Bool.{and_from, and_parts}
 
 item_is : (mapping : Mapping) (hub : ℕ) (item : Delivery) → IsHubItem mapping hub item → IsItem mapping (Hub hub) item
 item_is mapping hub item is = record { table = is.table; feed = is.feed; keys = subst (λ r. are_keys_of mapping (hub ∷ []) r ≡ true) (sym is.single) (and_from (is_key_of mapping hub is.key) true key_is refl) }

@@ -1,30 +1,10 @@
 -- Over the table of a hub after windows, what clashes is what collides, and the rows that are added are the batch.
-use Rattle.std.proofs.Common.{Option, ◌≡◌, ℕ, Bool, true, false, List, [], ◌∷◌, Some, None, refl, sym, ◌∙◌, ap, subst, map, reverse}
-use Rattle.std.specs.Prelude.{Contains, IfOk, Result}
-use Rattle.std.specs.List.{flat_map, list_all}
-use Rattle.dv_text.specs.declared.rows.Key.{Key}
-use Rattle.dv_text.specs.declared.rows.Window.{Window}
-use Rattle.dv_text.specs.Keys.{Hashes, is_missing}
-use Rattle.dv_text.specs.Sorting.{sorted_by}
-use Rattle.dv_catalog.specs.declared.entries.Parent.TheVariants.{Hub}
-use Rattle.dv_catalog.specs.Entries.{Mapping}
-use Rattle.dv_records.specs.declared.deliveries.DeltaFault.{DeltaFault}
-use Rattle.dv_records.specs.declared.deliveries.Delivery.{Delivery}
-use Rattle.dv_records.specs.declared.raw_rows.HubRow.{HubRow}
-use Rattle.dv_records.specs.Batches.{appended}
-use Rattle.dv_records.specs.Collisions.{Pair, collision_in}
-use Rattle.dv_records.specs.Deliveries.{deliveries, is_known, offered_refs}
-use Rattle.dv_records.specs.Deltas.{Answers, Hashed, HasNoClash, IfCollides, IsLeastClash, hashed_by}
-use Rattle.dv_records.specs.HubPlaces.{hub_place}
-use Rattle.dv_records.specs.Hubs.{hub_batch, only_key}
-use Rattle.dv_catalog.specs.Feeds.{source}
-use Rattle.dv_keys.specs.declared.hashed_lists.HashedList.{HashedList}
-use Rattle.dv_records.proofs.HubTables.{offered_key, table_has, table_row}
+use Rattle.dv_keys.proofs.Vocabulary.{Option, ◌≡◌, ℕ, Bool, true, false, List, [], ◌∷◌, Some, None, refl, sym, ◌∙◌, ap, subst, map, reverse, Contains, IfOk, Result, flat_map, list_all, Key, Window, Hashes, is_missing, sorted_by, Hub, Mapping, DeltaFault, Delivery, HubRow, appended, Pair}
+use Rattle.dv_keys.proofs.Vocabulary.{collision_in, deliveries, is_known, offered_refs, Answers, Hashed, HasNoClash, IfCollides, IsLeastClash, hashed_by, hub_place, hub_batch, only_key, source, HashedList, offered_key, table_has, table_row, IsHeld, IsNext, hub_delta, hub_hashed, hub_row_of}
+use Rattle.dv_keys.proofs.Vocabulary.{Contains-map, flat_map_member, map_member}
 use Rattle.dv_keys.proofs.KeyDeltas.{answers, held_nothing, next_rows}
 use Rattle.dv_keys.proofs.WindowLists.{HoldsOffered, held_none as lists_none, known_offered, next_least as lists_least, next_none as lists_free, offered_apart, offered_known}
-use Rattle.dv_keys.specs.HubDeltas.{IsHeld, IsNext, hub_delta, hub_hashed, stored}
-use Rattle.dv_keys.specs.NewRows.{hub_row_of}
-use Rattle.dv_text.proofs.Members.{Contains-map, flat_map_member, map_member}
+use Rattle.dv_keys.specs.HubDeltas.{stored}
 
 -- a row stands under the hash key of its list, and has the load date
 pub hub_row_has : (mapping : Mapping) (load : ℕ) (list : HashedList) (row : HubRow) → hub_row_of mapping load list ≡ Some row → (row.digest ≡ list.digest) × (row.load ≡ load)

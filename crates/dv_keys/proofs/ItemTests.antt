@@ -1,23 +1,7 @@
 -- Deliveries that pass the tests are such as new lists are told from.
-use Rattle.std.proofs.Common.{◌≡◌, ◌==◌, ◌&&◌, inl, inr, Bool, true, List, [], ◌∷◌, refl, sym, ◌∙◌, ap, length, nat_lt, eqb-true, ltb-true}
-use Rattle.std.specs.Prelude.{Contains, not}
-use Rattle.std.specs.List.{list_all}
-use Rattle.std.proofs.lemmas.Bool.{and_parts, false≢true, not-true}
-use Rattle.dv_text.specs.Keys.{refs_eq}
-use Rattle.dv_text.proofs.Members.{Contains-cons_cases, Contains-nil}
-use Rattle.dv_catalog.specs.declared.entries.Parent.{Parent}
-use Rattle.dv_catalog.specs.declared.entries.Parent.TheVariants.{Hub, Link}
-use Rattle.dv_catalog.specs.declared.tables.TableId.{TableId}
-use Rattle.dv_catalog.specs.declared.tables.TableId.TheVariants.{Hub as HubTable, Link as LinkTable, Sat, Multi, Status, Effect}
-use Rattle.dv_catalog.specs.Entries.{Mapping}
-use Rattle.dv_catalog.specs.Feeds.{parent_hubs}
-use Rattle.dv_catalog.specs.Mappings.{is_declared}
-use Rattle.dv_records.specs.declared.deliveries.Delivery.{Delivery}
-use Rattle.dv_records.specs.Deliveries.{table_of}
-use Rattle.dv_keys.specs.Items.{AreItems, IsItem, are_keys_of}
-use Rattle.dv_keys.specs.ItemTests.{are_apart, are_items, is_alone, is_item, is_table_of}
-use Rattle.dv_text.proofs.Deciding.{refs_eq-Decides}
-use Rattle.dv_text.proofs.Passing.{passes_at}
+use Rattle.dv_keys.proofs.Vocabulary.{◌≡◌, ◌==◌, ◌&&◌, inl, inr, Bool, true, List, [], ◌∷◌, refl, sym, ◌∙◌, ap, length, nat_lt, eqb-true, ltb-true, Contains, not, list_all, and_parts, false≢true, not-true, refs_eq, Contains-cons_cases, Contains-nil, Parent, Hub, Link, TableId, Sat, Multi, Status}
+use Rattle.dv_keys.proofs.Vocabulary.{Effect, Mapping, parent_hubs, is_declared, Delivery, table_of, AreItems, IsItem, are_keys_of, are_apart, are_items, is_alone, is_item, is_table_of, refs_eq-Decides, passes_at}
+use Rattle.dv_catalog.specs.declared.tables.TableId.TheVariants.{Hub as HubTable, Link as LinkTable}
 
 table_is : (parent : Parent) (table : TableId) → is_table_of parent table ≡ true → table ≡ table_of parent
 table_is (Hub hub) (HubTable other) e = ap HubTable (sym (eqb-true hub other e))

@@ -1,29 +1,7 @@
 -- The rows that are made of new lists are the delta, stand behind those of the table, and over windows are the batch.
-use Rattle.std.proofs.Common.{◌≡◌, ℕ, Bool, true, false, List, [], ◌∷◌, ◌++◌, Option, Some, None, refl, sym, ◌∙◌, ap, subst, reverse, nat_le, append-nil, option_map, map, Bor}
-use Rattle.std.specs.Prelude.{Contains, Result, Ok, Err, IfOk, if◌then◌else◌}
-use Rattle.std.specs.List.{filter_map, list_all}
-use Rattle.dv_text.specs.declared.rows.Key.{Key}
-use Rattle.dv_text.specs.declared.rows.Window.{Window}
-use Rattle.dv_text.specs.Keys.{Hashes, is_missing}
-use Rattle.dv_text.specs.Sorting.{sorted_by}
-use Rattle.dv_text.proofs.Members.{filter_map_member}
-use Rattle.dv_index.specs.Places.{Place}
-use Rattle.dv_catalog.specs.declared.entries.Parent.{Parent}
-use Rattle.dv_catalog.specs.Entries.{Mapping}
-use Rattle.dv_records.specs.declared.deliveries.DeltaFault.{DeltaFault}
-use Rattle.dv_records.specs.declared.deliveries.DeltaFault.TheVariants.{Collision, Memory}
-use Rattle.dv_records.specs.declared.deliveries.Delivery.{Delivery}
-use Rattle.dv_records.specs.Batches.{batch_of}
-use Rattle.dv_records.specs.Collisions.{Pair, collision_in}
-use Rattle.dv_records.specs.Deliveries.{deliveries, is_known}
-use Rattle.dv_records.specs.Deltas.{Answers, Hashed, HasNoClash, IfCollides, IsLeastClash}
-use Rattle.dv_keys.specs.declared.hashed_lists.HashedList.{HashedList}
-use Rattle.dv_keys.specs.HashedLists.{hashed_item}
-use Rattle.dv_keys.specs.HeldLists.{is_held, list_under}
-use Rattle.dv_keys.specs.Items.{AreItems}
-use Rattle.dv_keys.specs.KeyDeltas.{delta, lists_of, new_row, row_cmp}
-use Rattle.dv_keys.specs.NewLists.{all_hashed, new_item, new_lists}
-use Rattle.dv_keys.specs.PlacedRows.{are_placed_rows, has_row_under, row_under}
+use Rattle.dv_keys.proofs.Vocabulary.{◌≡◌, ℕ, Bool, true, false, List, [], ◌∷◌, ◌++◌, Option, Some, None, refl, sym, ◌∙◌, ap, subst, reverse, nat_le, append-nil, option_map, map, Bor, Ok, Err, Contains, Result, IfOk, if◌then◌else◌, filter_map, list_all, Key, Window, Hashes, is_missing, sorted_by}
+use Rattle.dv_keys.proofs.Vocabulary.{filter_map_member, Place, Parent, Mapping, DeltaFault, Collision, Memory, Delivery, batch_of, Pair, collision_in, deliveries, is_known, Answers, Hashed, HasNoClash, IfCollides, IsLeastClash, HashedList, hashed_item, is_held, list_under, AreItems, delta}
+use Rattle.dv_keys.proofs.Vocabulary.{lists_of, new_row, row_cmp, all_hashed, new_item, new_lists, are_placed_rows, has_row_under, row_under}
 use Rattle.dv_keys.proofs.Batches.{filter_map_none, filter_map_same, made_from, rows_are, rows_ascend, rows_new}
 use Rattle.dv_keys.proofs.Held.{is_held-rows, list_under-rows}
 use Rattle.dv_keys.proofs.Placed.{whole}

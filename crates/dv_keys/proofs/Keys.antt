@@ -1,10 +1,5 @@
 -- Keys that are missing or fit, and keys beside hubs and digests.
-use Rattle.std.proofs.Common.{◌≡◌, ◌⊎◌, ◌==◌, ◌&&◌, ℕ, inl, inr, Bool, true, false, List, [], ◌∷◌, refl, sym, ◌∙◌, ap, suc, length, map, nat_le, replicate, arith, eqb-true}
-use Rattle.std.specs.List.{list_all, zip}
-use Rattle.dv_text.specs.declared.rows.Key.{Key}
-use Rattle.dv_text.specs.Keys.{key_eq, refs_eq, texts_eq}
-use Rattle.dv_digest.specs.Fits.{refs_fit, texts_fit}
-use Rattle.std.proofs.lemmas.Bool.{and_from, and_parts}
+use Rattle.dv_keys.proofs.Vocabulary.{◌≡◌, ◌⊎◌, ◌==◌, ◌&&◌, ℕ, inl, inr, Bool, true, false, List, [], ◌∷◌, refl, sym, ◌∙◌, ap, suc, length, map, nat_le, replicate, arith, eqb-true, list_all, zip, Key, key_eq, refs_eq, texts_eq, refs_fit, texts_fit, and_from, and_parts}
 
 -- parts are all empty exactly where they equal so many empty ones
 pub missing_same : (parts : List (List ℕ)) (n : ℕ) → length parts ≡ n → list_all (λ (part : List ℕ). length part == 0) parts ≡ texts_eq (replicate n []) parts

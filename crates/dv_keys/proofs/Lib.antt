@@ -13,4 +13,5 @@ pub mod LinkWindows
 pub mod NewCases
 pub mod Placed
 pub mod ToldLists
+pub mod Vocabulary
 pub mod WindowLists

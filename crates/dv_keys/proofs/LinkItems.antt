@@ -1,20 +1,8 @@
 -- Deliveries to a link.
-use Rattle.std.proofs.Common.{◌≡◌, ℕ, Bool, true, false, List, [], ◌∷◌, Option, Some, None, refl, sym, ◌∙◌, ap, subst, length, map, option_map, lt-ltb, ltb-true, Bor}
-use Rattle.std.specs.Prelude.{Contains}
-use Rattle.dv_text.specs.declared.rows.Key.{Key}
-use Rattle.dv_text.proofs.Members.{Contains-cons_here, Contains-cons_there}
-use Rattle.std.specs.List.{list_all}
-use Rattle.dv_catalog.specs.declared.entries.Parent.TheVariants.{Link}
+use Rattle.dv_keys.proofs.Vocabulary.{◌≡◌, ℕ, Bool, true, false, List, [], ◌∷◌, Option, Some, None, refl, sym, ◌∙◌, ap, subst, length, map, option_map, lt-ltb, ltb-true, Bor, Contains, Key, Contains-cons_here, Contains-cons_there, list_all, Link, Mapping, parent_hubs, Delivery, AreItems}
+use Rattle.dv_keys.proofs.Vocabulary.{are_items as is_items, AreLinkItems, are_of_links, is_of_link, all_pass}
 use Rattle.dv_catalog.specs.declared.tables.TableId.TheVariants.{Link as LinkTable}
-use Rattle.dv_catalog.specs.Entries.{Mapping}
-use Rattle.dv_catalog.specs.Feeds.{parent_hubs}
-use Rattle.dv_records.specs.declared.deliveries.Delivery.{Delivery}
-use Rattle.dv_keys.specs.Items.{AreItems}
-use Rattle.dv_keys.specs.ItemTests.{are_items as is_items}
 use Rattle.dv_keys.proofs.ItemTests.{passed}
-use Rattle.dv_keys.specs.LinkDeltas.{AreLinkItems}
-use Rattle.dv_keys.specs.LinkLists.{are_of_links, is_of_link}
-use Rattle.dv_text.proofs.Passing.{all_pass}
 
 pub are_items : (mapping : Mapping) (items : List Delivery) → AreLinkItems mapping items → AreItems mapping items
 are_items mapping items are = record { parent = Link are.link; declared = lt-ltb are.link (length mapping.links) are.declared; each = are.each; apart = are.apart }

@@ -1,38 +1,12 @@
 -- Over the table of a link after windows, with names that tell their lists, what clashes is what collides, and the rows
 -- that are added are the batch.
-use Rattle.std.proofs.Common.{◌≡◌, ℕ, Bool, true, false, List, [], ◌∷◌, ◌++◌, Some, None, refl, sym, ◌∙◌, ap, subst, map, reverse}
-use Rattle.std.specs.Prelude.{Contains, IfOk, Result}
-use Rattle.std.specs.List.{flat_map, list_all}
-use Rattle.std.specs.declared.cmp.Ordering.TheVariants.{Less, Equal}
-use Rattle.dv_text.specs.declared.rows.Key.{Key}
-use Rattle.dv_text.specs.declared.rows.Window.{Window}
-use Rattle.dv_text.specs.Keys.{Hashes, is_missing}
-use Rattle.dv_text.specs.Orders.{refs_cmp}
-use Rattle.dv_text.specs.Sorting.{sorted_by}
-use Rattle.dv_text.proofs.Members.{Contains-cons_here, Contains-map, map_member}
-use Rattle.dv_catalog.specs.declared.entries.Parent.TheVariants.{Link}
-use Rattle.dv_catalog.specs.Entries.{Mapping}
-use Rattle.dv_catalog.specs.Feeds.{parent_hubs}
-use Rattle.dv_records.specs.declared.deliveries.DeltaFault.{DeltaFault}
-use Rattle.dv_records.specs.declared.deliveries.Delivery.{Delivery}
-use Rattle.dv_records.specs.declared.raw_rows.LinkRow.{LinkRow}
-use Rattle.dv_records.specs.Batches.{appended}
-use Rattle.dv_records.specs.Collisions.{Pair, collision_in}
-use Rattle.dv_records.specs.Deliveries.{deliveries, is_known, offered_refs}
-use Rattle.dv_records.specs.Deltas.{Answers, Hashed, HasNoClash, IfCollides, IsClash, IsLeastClash, brought, hashed_by}
-use Rattle.dv_records.specs.HubNames.{HubName}
-use Rattle.dv_records.specs.Hubs.{link_batch}
-use Rattle.dv_records.specs.LinkPlaces.{link_place}
+use Rattle.dv_keys.proofs.Vocabulary.{◌≡◌, ℕ, Bool, true, false, List, [], ◌∷◌, ◌++◌, Some, None, refl, sym, ◌∙◌, ap, subst, map, reverse, Contains, IfOk, Result, flat_map, list_all, Less, Equal, Key, Window, Hashes, is_missing, refs_cmp, sorted_by, Contains-cons_here, Contains-map, map_member}
+use Rattle.dv_keys.proofs.Vocabulary.{Link, Mapping, parent_hubs, DeltaFault, Delivery, LinkRow, appended, Pair, collision_in, deliveries, is_known, offered_refs, Answers, Hashed, HasNoClash, IfCollides, IsClash, IsLeastClash, brought, hashed_by, HubName, link_batch, link_place, HashedList}
+use Rattle.dv_keys.proofs.Vocabulary.{all_hashed, refs_total, irreflexive, TellLists, link_delta, link_hashed, link_row, hubs_in, hubs_of, keys_under, stored}
 use Rattle.dv_records.proofs.LinkTables.{table_has, table_row}
-use Rattle.dv_keys.specs.declared.hashed_lists.HashedList.{HashedList}
-use Rattle.dv_keys.specs.NewLists.{all_hashed}
 use Rattle.dv_keys.proofs.KeyDeltas.{answers, held_nothing, next_rows}
-use Rattle.dv_text.proofs.Deciding.{refs_total}
-use Rattle.dv_text.proofs.Orderings.{irreflexive}
 use Rattle.dv_keys.proofs.WindowLists.{HoldsOffered, delivery_kept, held_none as lists_none, holds_clear, known_offered, next_least as lists_least, next_none as lists_free, offered_apart, offered_known}
-use Rattle.dv_keys.specs.LinkDeltas.{IsHeld, IsNext, TellLists, link_delta, link_hashed}
-use Rattle.dv_keys.specs.NewRows.{link_row}
-use Rattle.dv_keys.specs.LinkLists.{hubs_in, hubs_of, keys_under, stored}
+use Rattle.dv_keys.specs.LinkDeltas.{IsHeld, IsNext}
 use Rattle.dv_keys.proofs.ToldLists.{list_told}
 
 -- rows without hubs stand for one list

@@ -1,29 +1,10 @@
 -- What is answered of deliveries, by whether their lists have rivals.
-use Rattle.std.proofs.Common.{◌≡◌, true, List, [], ◌∷◌, Some, None, refl, sym, ◌∙◌, ap, subst}
-use Rattle.std.specs.Prelude.{Contains, filter, slice_get}
-use Rattle.std.specs.declared.cmp.Ordering.TheVariants.{Less, Equal}
-use Rattle.std.specs.Cmp.{tied_itself}
-use Rattle.dv_text.specs.declared.rows.Key.{Key}
-use Rattle.dv_text.specs.Keys.{Hashes}
-use Rattle.dv_text.specs.Orders.{refs_cmp}
-use Rattle.dv_text.proofs.Members.{Contains-cons_here}
-use Rattle.dv_catalog.specs.Entries.{Mapping}
-use Rattle.dv_catalog.specs.Mappings.{is_valid}
-use Rattle.dv_records.specs.declared.deliveries.Delivery.{Delivery}
-use Rattle.dv_records.specs.Deltas.{Hashed, HasNoClash, IsLeastClash, missing_in}
-use Rattle.dv_keys.specs.declared.hashed_lists.HashedList.{HashedList}
-use Rattle.dv_keys.specs.declared.rivals.Rivals.{Rivals}
-use Rattle.dv_keys.specs.HashedLists.{hashed_lists}
-use Rattle.dv_keys.specs.HeldLists.{are_held_apart}
-use Rattle.dv_keys.specs.Items.{AreItems}
-use Rattle.dv_keys.specs.NewLists.{all_hashed, is_new, new_lists}
-use Rattle.dv_keys.specs.Rivalries.{least_rivals}
+use Rattle.dv_keys.proofs.Vocabulary.{◌≡◌, true, List, [], ◌∷◌, Some, None, refl, sym, ◌∙◌, ap, subst, Contains, filter, slice_get, Less, Equal, tied_itself, Key, Hashes, refs_cmp, Contains-cons_here, Mapping, is_valid, Delivery, Hashed, HasNoClash, IsLeastClash, missing_in, HashedList, Rivals}
+use Rattle.dv_keys.proofs.Vocabulary.{hashed_lists, are_held_apart, AreItems, all_hashed, is_new, new_lists, least_rivals, refs_total, irreflexive}
 use Rattle.dv_keys.proofs.Brought.{are_all, kept_are, lists_ascend}
 use Rattle.dv_keys.proofs.Clashes.{least_clash, no_clash}
 use Rattle.dv_keys.proofs.Hashables.{missing_none}
 use Rattle.dv_keys.proofs.Held.{one_held}
-use Rattle.dv_text.proofs.Deciding.{refs_total}
-use Rattle.dv_text.proofs.Orderings.{irreflexive}
 
 -- held lists alone don't clash
 pub held_clear : (held : List Hashed) → are_held_apart held ≡ true → HasNoClash held

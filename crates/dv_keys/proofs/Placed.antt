@@ -1,22 +1,8 @@
 -- Rows of which each has a digest of its own: the one under a digest is the last one in load order that has it, and new rows
 -- of a date that is not earlier may stand behind them.
-use Rattle.std.proofs.Common.{◌≡◌, ◌-◌, ℕ, inl, inr, Bool, true, false, ◌&&◌, List, [], ◌∷◌, ◌++◌, Option, Some, None, refl, sym, ◌∙◌, ap, subst, arith, length, reverse, nat_le, option_map, is_some, Bor}
-use Rattle.std.specs.Prelude.{Contains, not, slice_get}
-use Rattle.std.specs.Cmp.{tied_itself}
-use Rattle.std.specs.Cmp.Lexicographic.{nat_list_cmp_total}
-use Rattle.std.specs.List.{list_all}
-use Rattle.std.specs.List.Sorted.{IsStrictlySortedBy}
-use Rattle.std.specs.Str.{bytes_eq}
-use Rattle.std.specs.declared.cmp.Ordering.TheVariants.{Less, Equal}
-use Rattle.std.proofs.lemmas.Bool.{and_from, and_parts, false≢true, le-leb, not-true}
-use Rattle.std.proofs.lemmas.List.Elements.{Contains-append_cases}
-use Rattle.std.proofs.lemmas.Slice.Eq.{bytes_eq-Decides}
-use Rattle.dv_text.proofs.Members.{Contains-cons_cases, Contains-cons_here, Contains-cons_there, Contains-nil, member_of_all, reverse_member}
-use Rattle.dv_index.specs.Places.{Place, are_in_load_order, latest_at}
-use Rattle.dv_records.specs.Batches.{digest_cmp}
-use Rattle.dv_records.proofs.DatedRows.{up_to_last}
-use Rattle.dv_keys.specs.PlacedRows.{are_parents_apart, are_placed_rows, has_row_under, row_under}
-use Rattle.dv_text.proofs.Passing.{all_pass, passes_at, finds, found_member, some_passes, some_passes_at}
+use Rattle.dv_keys.proofs.Vocabulary.{◌≡◌, ◌-◌, ℕ, inl, inr, Bool, true, false, ◌&&◌, List, [], ◌∷◌, ◌++◌, Option, Some, None, refl, sym, ◌∙◌, ap, subst, arith, length, reverse, nat_le, option_map, is_some, Bor, le-leb, Contains, not, slice_get, tied_itself, nat_list_cmp_total, list_all}
+use Rattle.dv_keys.proofs.Vocabulary.{IsStrictlySortedBy, bytes_eq, Less, Equal, and_from, and_parts, false≢true, not-true, Contains-append_cases, bytes_eq-Decides, Contains-cons_cases, Contains-cons_here, Contains-cons_there, Contains-nil, member_of_all, reverse_member, Place, are_in_load_order}
+use Rattle.dv_keys.proofs.Vocabulary.{latest_at, digest_cmp, up_to_last, are_parents_apart, are_placed_rows, has_row_under, row_under, all_pass, passes_at, finds, found_member, some_passes, some_passes_at}
 
 module _ {R : Type 0} (place : R → Place) where
   -- of rows whose digests are apart, those with one digest are one
@@ -92,7 +78,8 @@ module _ {R : Type 0} (place : R → Place) where
   has_by_row rows digest (Some row) e b is = is ∙ sym (has_row rows digest row.now (sym e))
 
   -- the last row with a digest that is not later than the last of the rows
-  pub row_is : (rows : List R) (digest : List ℕ) → are_placed_rows place rows ≡ true → (listed : List R) → listed ≡ rows → (last : R) → Some last ≡ slice_get listed (length listed - 1) → (found : Option R) → found ≡ latest_at place rows digest (place last).load → found ≡ row_under place digest rows
+  pub row_is : (rows : List R) (digest : List ℕ) → are_placed_rows place rows ≡ true → (listed : List R) → listed ≡ rows → (last : R) → Some last ≡ slice_get listed (length listed - 1) → (found : Option R) → found ≡ latest_at place rows digest (place last).load
+      → found ≡ row_under place digest rows
   row_is rows digest are listed same last is found latest =
       latest
       ∙ latest_is rows digest (place last).load are
@@ -170,7 +157,8 @@ module _ {R : Type 0} (place : R → Place) where
       (order_both load rows made parts.1 early.1 is)
 
   -- rows of a table, and new ones behind them
-  pub whole : (load : ℕ) (rows made : List R) → are_placed_rows place rows ≡ true → list_all (λ row. nat_le (place row).load load) rows ≡ true → IsStrictlySortedBy (λ a b. digest_cmp (place a).parent (place b).parent) made → ((row : R) → Contains made row → ((place row).load ≡ load) × (has_row_under place (place row).parent rows ≡ false)) → are_placed_rows place (rows ++ made) ≡ true
+  pub whole : (load : ℕ) (rows made : List R) → are_placed_rows place rows ≡ true → list_all (λ row. nat_le (place row).load load) rows ≡ true → IsStrictlySortedBy (λ a b. digest_cmp (place a).parent (place b).parent) made
+      → ((row : R) → Contains made row → ((place row).load ≡ load) × (has_row_under place (place row).parent rows ≡ false)) → are_placed_rows place (rows ++ made) ≡ true
   whole load rows made are dated up new =
       let parts = and_parts (are_parents_apart place rows) (are_in_load_order place rows) are in
       and_from (are_parents_apart place (rows ++ made)) (are_in_load_order place (rows ++ made))

@@ -1,41 +1,10 @@
 -- The names of hubs tell the reference lists that windows bring to a link, so that its rows stand for them.
-use Rattle.std.proofs.Common.{◌≡◌, ◌<◌, ◌==◌, ℕ, zero, suc, inl, inr, Bool, true, false, List, [], ◌∷◌, Option, Some, None, refl, sym, ◌∙◌, ap, subst, length, map, option_map, nat_lt, replicate, reverse, arith, eqb-true, ltb-true}
-use Rattle.std.specs.Prelude.{Contains, find, not, slice_get}
-use Rattle.std.specs.List.{flat_map, list_all, zip}
-use Rattle.std.specs.Str.{bytes_eq}
-use Rattle.std.proofs.lemmas.Bool.{and_from, and_parts, false≢true, not-true}
-use Rattle.std.proofs.lemmas.Bool.Decides.{nat_tests}
-use Rattle.std.proofs.lemmas.Slice.Eq.{bytes_eq-Decides}
-use Rattle.dv_text.specs.declared.rows.Key.{Key}
-use Rattle.dv_text.specs.declared.rows.NRow.{NRow}
-use Rattle.dv_text.specs.declared.rows.Staged.{Staged}
-use Rattle.dv_text.specs.declared.rows.Window.{Window}
-use Rattle.dv_text.specs.Keys.{Hashes, is_missing}
-use Rattle.dv_text.proofs.Members.{Contains-cons_cases, Contains-cons_here, Contains-cons_there, Contains-flat_map, Contains-map, Contains-nil, filtered_members, flat_map_member, map_member}
-use Rattle.dv_catalog.specs.declared.entries.FeedDef.{FeedDef}
-use Rattle.dv_catalog.specs.declared.entries.LinkDef.{LinkDef}
-use Rattle.dv_catalog.specs.declared.entries.Parent.{Parent}
-use Rattle.dv_catalog.specs.declared.entries.Parent.TheVariants.{Hub, Link}
-use Rattle.dv_catalog.specs.Entries.{Mapping}
-use Rattle.dv_catalog.specs.Feeds.{feed_hubs, hubs_by, is_fed_by, keys_at, link_hubs, parent_eq, parent_hubs, parts_of}
-use Rattle.dv_catalog.specs.Mappings.{is_hub, is_valid}
-use Rattle.dv_catalog.proofs.ValidReads.{valid_link}
-use Rattle.dv_records.specs.declared.deliveries.Delivery.{Delivery}
-use Rattle.dv_records.specs.declared.raw_rows.HubRow.{HubRow}
-use Rattle.dv_records.specs.Batches.{appended}
-use Rattle.dv_records.specs.Collisions.{collision_in, hashed_refs, missing_refs}
-use Rattle.dv_records.specs.Deliveries.{is_known, offered_refs, offers, offers_of, refs_from, table_of}
-use Rattle.dv_records.specs.History.{all_refs}
-use Rattle.dv_records.specs.HubNames.{HubName, key_named}
-use Rattle.dv_records.specs.Hubs.{each_hash, hub_batch}
-use Rattle.dv_records.specs.States.{are_rows_of, fit_hubs, fits_hub, is_key_part, is_row_of, is_staged, is_window}
-use Rattle.dv_records.proofs.CollisionTies.{collision_free}
-use Rattle.dv_records.proofs.HubTables.{table_has, table_row}
-use Rattle.dv_keys.specs.Items.{missing_key}
+use Rattle.dv_keys.proofs.Vocabulary.{◌≡◌, ◌<◌, ◌==◌, ℕ, zero, suc, inl, inr, Bool, true, false, List, [], ◌∷◌, Option, Some, None, refl, sym, ◌∙◌, ap, subst, length, map, option_map, nat_lt, replicate, reverse, arith, eqb-true, ltb-true, Contains, find, not, slice_get, flat_map, list_all, zip}
+use Rattle.dv_keys.proofs.Vocabulary.{bytes_eq, and_from, and_parts, false≢true, not-true, nat_tests, bytes_eq-Decides, Key, NRow, Staged, Window, Hashes, is_missing, Contains-cons_cases, Contains-cons_here, Contains-cons_there, Contains-flat_map, Contains-map, Contains-nil, filtered_members}
+use Rattle.dv_keys.proofs.Vocabulary.{flat_map_member, map_member, FeedDef, LinkDef, Parent, Hub, Link, Mapping, feed_hubs, hubs_by, is_fed_by, keys_at, link_hubs, parent_eq, parent_hubs, parts_of, is_hub, is_valid, valid_link, Delivery, HubRow, appended, collision_in, hashed_refs, missing_refs}
+use Rattle.dv_keys.proofs.Vocabulary.{is_known, offered_refs, offers, offers_of, refs_from, table_of, all_refs, HubName, key_named, each_hash, hub_batch, are_rows_of, fit_hubs, fits_hub, is_key_part, is_row_of, is_staged, is_window, collision_free, table_has, table_row, missing_key, AreNames}
+use Rattle.dv_keys.proofs.Vocabulary.{TellLists, key_with, key_or, key_under, keys_under, finds, found_member, passes_at}
 use Rattle.dv_keys.proofs.WindowLists.{known_offered, missing_hashed, offered_apart, offered_hashed, offered_known}
-use Rattle.dv_keys.specs.LinkDeltas.{AreNames, TellLists, key_with}
-use Rattle.dv_keys.specs.LinkLists.{key_or, key_under, keys_under}
-use Rattle.dv_text.proofs.Passing.{finds, found_member, passes_at}
 
 -- parts that are all empty are so many empty ones
 all_empty : (parts : List (List ℕ)) (n : ℕ) → length parts ≡ n → list_all (λ (part : List ℕ). length part == 0) parts ≡ true → parts ≡ replicate n []
@@ -152,7 +121,9 @@ module _ (mapping : Mapping) (hashes : Hashes) (hub : ℕ) (windows : List Windo
           let (found_in, alike) = found_member (λ (r : HubRow). bytes_eq r.digest (hashes.hash (key ∷ []))) table found e in
           let its = row_offered found found_in in
           let list : key ∷ [] ≡ missing_refs mapping (Hub hub) = ap (λ k. k ∷ []) is in
-          let same : found.key ∷ [] ≡ key ∷ [] = (collision_free mapping hashes (reverse windows) (Hub hub)).0 free (found.key ∷ []) (key ∷ []) (offered_hashed mapping hashes (Hub hub) windows (found.key ∷ []) its.0) (subst (Contains (hashed_refs mapping (reverse windows) (Hub hub))) (sym list) (missing_hashed mapping hashes (Hub hub) (reverse windows))) (sym its.1 ∙ (bytes_eq-Decides found.digest (hashes.hash (key ∷ []))).0 alike) in
+          let same : found.key ∷ [] ≡ key ∷ [] =
+          (collision_free mapping hashes (reverse windows) (Hub hub)).0 free (found.key ∷ []) (key ∷ []) (offered_hashed mapping hashes (Hub hub) windows (found.key ∷ []) its.0)
+          (subst (Contains (hashed_refs mapping (reverse windows) (Hub hub))) (sym list) (missing_hashed mapping hashes (Hub hub) (reverse windows))) (sym its.1 ∙ (bytes_eq-Decides found.digest (hashes.hash (key ∷ []))).0 alike) in
           let not_missing : list_all is_missing (key ∷ []) ≡ false = subst (λ r. list_all is_missing r ≡ false) same (offered_not_missing (found.key ∷ []) its.0) in
           absurd (false≢true (sym not_missing ∙ and_from (is_missing key) true missing refl))
 
@@ -216,8 +187,10 @@ module _ (mapping : Mapping) (link : ℕ) where
   -- a key of it that isn't missing is offered to its hub
   key_offered : (window : Window) (refs : List Key) → IsFed mapping link window refs → (hub : ℕ) (key : Key) → Contains (zip (parent_hubs mapping (Link link)) refs) (hub, key) → is_missing key ≡ false → Contains (offered_refs mapping (Hub hub) window) (key ∷ [])
   key_offered window refs is hub key has present =
-      let at : Contains (keys_at hub (feed_hubs mapping is.staged.feed) is.row.refs) key = subst (λ hs. Contains (keys_at hub hs is.row.refs) key) (sym is.hubs) (subst (λ r. Contains (keys_at hub (parent_hubs mapping (Link link)) r) key) (sym is.row_is) (zip_key (parent_hubs mapping (Link link)) refs hub key has)) in
-      let from : Contains (refs_from mapping (Hub hub) is.staged) (key ∷ []) = Contains-flat_map (λ (row : NRow). map (λ k. k ∷ []) (keys_at hub (feed_hubs mapping is.staged.feed) row.refs)) is.staged.rows is.row (key ∷ []) is.row_in (Contains-map (λ k. k ∷ []) (keys_at hub (feed_hubs mapping is.staged.feed) is.row.refs) key at) in
+      let at : Contains (keys_at hub (feed_hubs mapping is.staged.feed) is.row.refs) key =
+      subst (λ hs. Contains (keys_at hub hs is.row.refs) key) (sym is.hubs) (subst (λ r. Contains (keys_at hub (parent_hubs mapping (Link link)) r) key) (sym is.row_is) (zip_key (parent_hubs mapping (Link link)) refs hub key has)) in
+      let from : Contains (refs_from mapping (Hub hub) is.staged) (key ∷ []) =
+      Contains-flat_map (λ (row : NRow). map (λ k. k ∷ []) (keys_at hub (feed_hubs mapping is.staged.feed) row.refs)) is.staged.rows is.row (key ∷ []) is.row_in (Contains-map (λ k. k ∷ []) (keys_at hub (feed_hubs mapping is.staged.feed) is.row.refs) key at) in
       let offer : Delivery = record { table = table_of (Hub hub); refs = key ∷ []; feed = is.staged.feed } in
       let offered = Contains-flat_map (offers_of mapping (Hub hub)) window.extracts is.staged offer is.there (Contains-map (λ refs. record { table = table_of (Hub hub); refs = refs; feed = is.staged.feed }) (refs_from mapping (Hub hub) is.staged) (key ∷ []) from) in
       let kept : not (list_all is_missing (key ∷ [])) ≡ true = rw present refl in

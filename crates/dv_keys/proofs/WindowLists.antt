@@ -1,33 +1,10 @@
 -- Over lists that windows bring, held under their hash keys, what clashes is what collides, and a list is held exactly
 -- where a window brings it.
-use Rattle.std.proofs.Common.{◌≡◌, ◌⊎◌, inl, inr, Bool, true, false, List, [], ◌∷◌, ◌++◌, Option, Some, None, refl, sym, ◌∙◌, ap, subst, map, reverse}
-use Rattle.std.specs.Prelude.{Contains, not}
-use Rattle.std.specs.List.{filter_map, flat_map, list_all}
-use Rattle.std.specs.Str.{bytes_eq}
-use Rattle.std.specs.declared.cmp.Ordering.TheVariants.{Less}
-use Rattle.std.proofs.lemmas.Bool.{false≢true, not-true}
-use Rattle.std.proofs.lemmas.List.Elements.{Contains-append_cases, Contains-append_left, Contains-append_right}
-use Rattle.std.proofs.lemmas.Slice.Eq.{bytes_eq-Decides}
-use Rattle.dv_text.specs.declared.rows.Key.{Key}
-use Rattle.dv_text.specs.declared.rows.Window.{Window}
-use Rattle.dv_text.specs.Keys.{Hashes, is_missing}
-use Rattle.dv_text.specs.Orders.{refs_cmp}
-use Rattle.dv_text.proofs.Members.{Contains-cons_cases, Contains-cons_here, Contains-cons_there, Contains-flat_map, Contains-map, Contains-nil, filtered_members, flat_map_member, map_member, reverse_member}
-use Rattle.dv_catalog.specs.declared.entries.Parent.{Parent}
-use Rattle.dv_catalog.specs.declared.entries.Parent.TheVariants.{Hub, Link}
-use Rattle.dv_catalog.specs.Entries.{Mapping}
-use Rattle.dv_records.specs.declared.deliveries.Delivery.{Delivery}
-use Rattle.dv_records.specs.Collisions.{IsApart, IsPairOf, Pair, collision_in, hashed_refs, missing_refs}
-use Rattle.dv_records.specs.Deliveries.{deliveries, first_offer, is_known, is_offered, offered_refs, offers_of, refs_from, table_of}
-use Rattle.dv_records.specs.Deltas.{Hashed, HasNoClash, IsClash, IsLeastClash, brought, hashed_by, missing_in}
-use Rattle.dv_records.proofs.CollisionTies.{collision_free, collision_tied}
-use Rattle.dv_records.proofs.Delivered.{deliveries_member, delivery-offered, first_offer-member, first_offer-refs, has_first_offer, is_offered-member, offered_member}
-use Rattle.dv_keys.specs.HeldLists.{is_held}
-use Rattle.dv_keys.specs.NewLists.{all_hashed}
+use Rattle.dv_keys.proofs.Vocabulary.{◌≡◌, ◌⊎◌, inl, inr, Bool, true, false, List, [], ◌∷◌, ◌++◌, Option, Some, None, refl, sym, ◌∙◌, ap, subst, map, reverse, Contains, not, filter_map, flat_map, list_all, bytes_eq, Less, false≢true, not-true, Contains-append_cases, Contains-append_left}
+use Rattle.dv_keys.proofs.Vocabulary.{Contains-append_right, bytes_eq-Decides, Key, Window, Hashes, is_missing, refs_cmp, Contains-cons_cases, Contains-cons_here, Contains-cons_there, Contains-flat_map, Contains-map, Contains-nil, filtered_members, flat_map_member, map_member, reverse_member}
+use Rattle.dv_keys.proofs.Vocabulary.{Parent, Hub, Link, Mapping, Delivery, IsApart, IsPairOf, Pair, collision_in, hashed_refs, missing_refs, deliveries, first_offer, is_known, is_offered, offered_refs, offers_of, refs_from, table_of, Hashed, HasNoClash, IsClash, IsLeastClash, brought, hashed_by}
+use Rattle.dv_keys.proofs.Vocabulary.{missing_in, collision_free, collision_tied, deliveries_member, delivery-offered, first_offer-member, first_offer-refs, has_first_offer, is_offered-member, offered_member, is_held, all_hashed, refs_total, irreflexive, some_passes, some_passes_at}
 use Rattle.dv_keys.proofs.Brought.{one_list}
-use Rattle.dv_text.proofs.Deciding.{refs_total}
-use Rattle.dv_text.proofs.Orderings.{irreflexive}
-use Rattle.dv_text.proofs.Passing.{some_passes, some_passes_at}
 
 -- the held lists are those that windows bring, each under its hash key
 pub record HoldsOffered (mapping : Mapping) (hashes : Hashes) (parent : Parent) (windows : List Window) (held : List Hashed) : Type 0 where
@@ -146,7 +123,8 @@ module _ (mapping : Mapping) (hashes : Hashes) (parent : Parent) where
       abbrev everything : List Hashed
       everything = all_hashed mapping hashes held (deliveries mapping parent window)
 
-      entry_list : (windows : List Window) → HoldsOffered mapping hashes parent windows held → ((refs : List Key) → Contains (flat_map (offered_refs mapping parent) windows) refs → Contains lists refs) → (entry : Hashed) → Contains everything entry → Contains lists entry.refs × (entry.digest ≡ hashes.hash entry.refs)
+      entry_list : (windows : List Window) → HoldsOffered mapping hashes parent windows held → ((refs : List Key) → Contains (flat_map (offered_refs mapping parent) windows) refs → Contains lists refs) → (entry : Hashed) → Contains everything entry
+          → Contains lists entry.refs × (entry.digest ≡ hashes.hash entry.refs)
       entry_list windows holds among entry has =
           elim (Contains-append_cases (brought mapping hashes items) held entry has) [
             | inl here ↦ brought_list items (λ item item_in. item_in) entry here
@@ -183,7 +161,8 @@ module _ (mapping : Mapping) (hashes : Hashes) (parent : Parent) where
         older_among refs has = offered_hashed (window ∷ older) refs (older_in refs has)
 
         -- an entry that is brought, where something is
-        brought_entry : (all : List Delivery) → ((item : Delivery) → Contains all item → Contains items item) → (some : Delivery) → Contains all some → (refs : List Key) → (missing_refs mapping parent ≡ refs) ⊎ ((item : Delivery) × Contains all item × (item.refs ≡ refs)) → Contains (brought mapping hashes all) (hashed_by hashes refs)
+        brought_entry : (all : List Delivery) → ((item : Delivery) → Contains all item → Contains items item) → (some : Delivery) → Contains all some → (refs : List Key) → (missing_refs mapping parent ≡ refs) ⊎ ((item : Delivery) × Contains all item × (item.refs ≡ refs))
+            → Contains (brought mapping hashes all) (hashed_by hashes refs)
         brought_entry [] from some some_in refs cases = Contains-nil some some_in
         brought_entry (first ∷ rest) from some some_in refs cases =
             let table : missing_in mapping first.table ≡ missing_refs mapping parent = ap (missing_in mapping) (delivery_kept window first (from first (Contains-cons_here first rest))).0 ∙ missing_table in
@@ -271,7 +250,8 @@ module _ (mapping : Mapping) (hashes : Hashes) (parent : Parent) where
             by false false e f = e ∙ sym f
             by true false e f =
                 let (other, member, same) = some_passes (λ (h : Hashed). bytes_eq h.digest (hashes.hash item.refs)) held e in
-                let entry : Contains everything (record { digest = hashes.hash item.refs; refs = other.refs }) = subst (λ d. Contains everything (record { digest = d; refs = other.refs })) ((bytes_eq-Decides other.digest (hashes.hash item.refs)).0 same) (Contains-append_right (brought mapping hashes items) held other member) in
+                let entry : Contains everything (record { digest = hashes.hash item.refs; refs = other.refs }) =
+                subst (λ d. Contains everything (record { digest = d; refs = other.refs })) ((bytes_eq-Decides other.digest (hashes.hash item.refs)).0 same) (Contains-append_right (brought mapping hashes items) held other member) in
                 let is : other.refs ≡ item.refs = one_list everything none (hashes.hash item.refs) other.refs item.refs entry (list_entry item item_in item.refs (delivered_list item item_in)) in
                 let known = subst (λ r. is_known mapping parent older r ≡ true) is (offered_known older other.refs (holds.only other member).0) in
                 absurd (false≢true (sym f ∙ known))

@@ -2,16 +2,15 @@ pub mod HashedLists
 pub mod HashedOrder
 pub mod HeldLists
 pub mod HubDeltas
-pub mod HubLaws
 pub mod HubRows
 pub mod ItemTests
 pub mod Items
 pub mod KeyDeltas
 pub mod LinkDeltas
-pub mod LinkLaws
 pub mod LinkLists
 pub mod LinkRows
 pub mod NewLists
 pub mod NewRows
 pub mod PlacedRows
+pub mod RawTables
 pub mod Rivalries

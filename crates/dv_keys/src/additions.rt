@@ -81,8 +81,7 @@ pub fn new_lists<T: HoldsLists, H: KeyDigest>(
     ensures fits { IfOk result (λ lists. IsTrue (list_all (λ list. refs_fit list.refs) lists)) }
     ensures collision { IfCollides result (IsLeastClash (all_hashed catalog.now (hashes_of H.digest_of H.size) (T.held table.now) items.now)) }
 {
-    // Tells the proof that the mapping is valid.
-    let _hubs = catalog.hub_count();
+    catalog.note_valid();
     let Some(first) = items.items().first() else {
         return Ok(List::new(alloc));
     };

@@ -39,7 +39,7 @@ pub(crate) fn lists_for<R: Placed, L: TellsLists<R>, H: KeyDigest>(
     ensures collision { IfCollides result (IsLeastClash (all_hashed catalog.now (hashes_of H.digest_of H.size) (lists_of R.place (L.list lists.now) rows.now.rows) items.now)) }
     ensures kept { IsTrue (are_placed_rows R.place rows.now.rows) }
 {
-    rows.kept();
+    rows.note_rows();
     let table = ToldRows { rows, lists };
     new_lists(alloc, items, &table, catalog, digest)
 }

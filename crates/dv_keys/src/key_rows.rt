@@ -46,7 +46,7 @@ impl<R: Placed> KeyRows<R> {
     }
 
     /// Does nothing: a call tells a proof what the rows keep to.
-    pub(crate) fn kept(&self)
+    pub(crate) fn note_rows(&self)
         ensures { IsTrue (are_placed_rows R.place self.now.rows) }
     {
         let _rows = self.indexed.rows();

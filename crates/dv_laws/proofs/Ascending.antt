@@ -1,26 +1,6 @@
 -- The rows of a batch ascend strictly.
-use Rattle.std.specs.Cmp.{on_total}
-use Rattle.std.specs.Cmp.Lexicographic.{nat_list_cmp_total}
-use Rattle.std.specs.List.{filter_map}
-use Rattle.std.proofs.Common.{ℕ, List, ◌++◌}
-use Rattle.dv_text.specs.declared.rows.Window.{Window}
-use Rattle.dv_text.specs.Keys.{Hashes}
-use Rattle.dv_text.proofs.SortedLists.{ascending-sorted_by}
-use Rattle.dv_catalog.specs.declared.entries.Parent.TheVariants.{Hub, Link}
-use Rattle.dv_catalog.specs.Entries.{Mapping}
-use Rattle.dv_records.specs.declared.raw_rows.EffectRow.{EffectRow}
-use Rattle.dv_records.specs.declared.raw_rows.HubRow.{HubRow}
-use Rattle.dv_records.specs.declared.raw_rows.LinkRow.{LinkRow}
-use Rattle.dv_records.specs.declared.raw_rows.SatRow.{SatRow}
-use Rattle.dv_records.specs.declared.raw_rows.StatusRow.{StatusRow}
-use Rattle.dv_records.specs.Deliveries.{deliveries}
-use Rattle.dv_records.specs.Effects.{effect_cmp, effect_row}
-use Rattle.dv_records.specs.History.{Extract, all_refs, newest_rows}
-use Rattle.dv_records.specs.Hubs.{hub_cmp, hub_row, link_cmp, link_row}
-use Rattle.dv_records.specs.Satellites.{multi_cmp, multi_row, sat_cmp, sat_row}
-use Rattle.dv_records.specs.Statuses.{status_cmp, status_row}
-use Rattle.dv_records.proofs.SatelliteTies.{multi_total}
-use Rattle.dv_laws.specs.Laws.{ExtractBatchesAscend, WindowBatchesAscend}
+use Rattle.dv_laws.proofs.Vocabulary.{on_total, nat_list_cmp_total, filter_map, ℕ, List, ◌++◌, Window, Hashes, ascending-sorted_by, Hub, Link, Mapping, EffectRow, HubRow, LinkRow, SatRow, StatusRow, deliveries, effect_cmp, effect_row, Extract, all_refs, newest_rows, hub_cmp, hub_row, link_cmp}
+use Rattle.dv_laws.proofs.Vocabulary.{link_row, multi_cmp, multi_row, sat_cmp, sat_row, status_cmp, status_row, multi_total, ExtractBatchesAscend, WindowBatchesAscend}
 
 module _ (mapping : Mapping) (hashes : Hashes) (place : ℕ) (older : List Window) (window : Window) where
   pub window_batches : WindowBatchesAscend mapping hashes place older window

@@ -1,15 +1,6 @@
 -- Effectivity batches are the lists that meet their records.
-use Rattle.std.specs.Prelude.{Contains}
-use Rattle.std.proofs.Common.{◌≡◌, ◌↔◌, ℕ, Bool, true, false, List, [], ◌∷◌, ◌++◌, Option, Some, None, refl}
-use Rattle.dv_text.specs.declared.rows.Key.{Key}
-use Rattle.dv_text.specs.Keys.{Hashes}
-use Rattle.dv_records.specs.declared.raw_rows.EffectRow.{EffectRow}
-use Rattle.dv_records.specs.Collisions.{IsApart}
-use Rattle.dv_records.specs.Effects.{effect_batch, effect_row, span_between, IsEffectBatch}
-use Rattle.dv_records.specs.History.{Extract, all_refs, delivers, newest_rows}
-use Rattle.dv_records.specs.Runs.{run_begin}
-use Rattle.dv_records.proofs.BatchTies.{given, tied_by_digest, tied_whole}
-use Rattle.dv_records.proofs.StatusTies.{is_there, was_there}
+use Rattle.dv_laws.proofs.Vocabulary.{Contains, ◌≡◌, ◌↔◌, ℕ, Bool, true, false, List, [], ◌∷◌, ◌++◌, Option, Some, None, refl, Key, Hashes, EffectRow, IsApart, effect_batch, effect_row, span_between, IsEffectBatch, Extract, all_refs, delivers, newest_rows, run_begin, given, tied_by_digest}
+use Rattle.dv_laws.proofs.Vocabulary.{tied_whole, is_there, was_there}
 
 -- a run that goes on holds the list
 pub in_run : (older : List Extract) (refs : List Key) (begin : ℕ) → run_begin older refs ≡ Some begin → delivers (newest_rows older) refs ≡ true

@@ -1,26 +1,7 @@
 -- What an extract that is a header alone closes.
-use Rattle.std.specs.FinMap.{nat_cmp-IsAntisymmetric, slice_cmp-IsAntisymmetric}
-use Rattle.std.specs.List.{filter_map}
-use Rattle.std.specs.Option.{option_map, unwrap_or}
-use Rattle.std.specs.Prelude.{All, Contains}
-use Rattle.std.proofs.Common.{◌≡◌, ℕ, Bool, true, false, List, [], ◌∷◌, ◌++◌, Option, Some, None, refl, sym, ◌∙◌, ap, subst, append-nil}
-use Rattle.std.proofs.lemmas.Bool.{false≢true}
-use Rattle.std.proofs.lemmas.List.Elements.{All-contains_itself, All-weaker, Contains-append_left}
-use Rattle.dv_text.specs.declared.rows.Key.{Key}
-use Rattle.dv_text.specs.Keys.{Hashes}
-use Rattle.dv_text.proofs.Members.{filter_map_member, member_of_filter_map}
-use Rattle.dv_text.proofs.SortedLists.{member_after_sort}
-use Rattle.dv_records.specs.declared.raw_rows.Code.TheVariants.{D}
-use Rattle.dv_records.specs.declared.raw_rows.EffectRow.{EffectRow}
-use Rattle.dv_records.specs.declared.raw_rows.StatusRow.{StatusRow}
-use Rattle.dv_records.specs.Collisions.{IsApart}
-use Rattle.dv_records.specs.Effects.{span_between, effect_batch, effect_cmp, effect_row}
-use Rattle.dv_records.specs.History.{Extract, all_refs, delivers, newest_rows}
-use Rattle.dv_records.specs.Runs.{run_begin}
-use Rattle.dv_records.specs.Statuses.{code_between, status_batch, status_cmp, status_row}
-use Rattle.dv_records.proofs.BatchTies.{batch_made}
-use Rattle.dv_records.proofs.Deciding.{Contains-all_refs}
-use Rattle.dv_laws.specs.Laws.{Closes}
+use Rattle.dv_laws.proofs.Vocabulary.{nat_cmp-IsAntisymmetric, slice_cmp-IsAntisymmetric, filter_map, option_map, unwrap_or, All, Contains, ◌≡◌, ℕ, Bool, true, false, List, [], ◌∷◌, ◌++◌, Option, Some, None, refl, sym, ◌∙◌, ap, subst, append-nil, false≢true, All-contains_itself, All-weaker}
+use Rattle.dv_laws.proofs.Vocabulary.{Contains-append_left, Key, Hashes, filter_map_member, member_of_filter_map, member_after_sort, D, EffectRow, StatusRow, IsApart, span_between, effect_batch, effect_cmp, effect_row, Extract, all_refs, delivers, newest_rows, run_begin, code_between}
+use Rattle.dv_laws.proofs.Vocabulary.{status_batch, status_cmp, status_row, batch_made, Contains-all_refs, Closes}
 use Rattle.dv_laws.proofs.EffectTies.{effect_tied}
 
 -- a list that is present is in a run

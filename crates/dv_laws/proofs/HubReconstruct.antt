@@ -1,39 +1,10 @@
 -- The content of a feed of keys alone is read back from its hub's table and its status table.
-use Rattle.std.specs.Prelude.{Contains, slice_get}
-use Rattle.std.proofs.Common.{◌≡◌, Bool, ℕ, true, List, [], ◌∷◌, Some, None, sym, ◌∙◌, ap, subst, map, filter, reverse}
-use Rattle.dv_text.specs.declared.rows.Key.{Key}
-use Rattle.dv_text.specs.declared.rows.NRow.{NRow}
-use Rattle.dv_text.specs.declared.rows.Window.{Window}
-use Rattle.dv_text.specs.Exact.{row_cmp-IsAntisymmetric}
-use Rattle.dv_text.specs.Keys.{Hashes, refs_eq}
-use Rattle.dv_text.proofs.Deciding.{refs_eq-Decides, row_total}
-use Rattle.dv_text.proofs.Members.{filter_map_member, filtered_members, flat_map_member, map_member, Contains-map}
-use Rattle.dv_text.proofs.Passing.{some_passes_at, some_passes}
-use Rattle.dv_text.proofs.SortedLists.{sorted_by-members}
-use Rattle.dv_catalog.specs.declared.entries.FeedDef.{FeedDef}
-use Rattle.dv_catalog.specs.declared.entries.Parent.{Parent}
-use Rattle.dv_catalog.specs.declared.entries.Parent.TheVariants.{Hub}
-use Rattle.dv_catalog.specs.declared.tables.TableId.TheVariants.{Hub as HubTable, Status}
-use Rattle.dv_catalog.specs.Entries.{Mapping}
-use Rattle.dv_catalog.specs.Feeds.{keys_at, parent_hubs}
-use Rattle.dv_records.specs.declared.raw_rows.HubRow.{HubRow}
-use Rattle.dv_records.specs.declared.raw_rows.StatusRow.{StatusRow}
-use Rattle.dv_records.specs.declared.stores.Rows.TheVariants.{Hubs, Statuses}
-use Rattle.dv_records.specs.Batches.{appended}
-use Rattle.dv_records.specs.Collisions.{IsApart, collision_in, hashed_refs}
-use Rattle.dv_records.specs.Deliveries.{is_known, is_offered}
-use Rattle.dv_records.specs.History.{Extract, all_refs, content, delivered_refs, delivers, extract_of, history, IsInLoadOrder}
-use Rattle.dv_records.specs.Hubs.{hub_batch}
-use Rattle.dv_records.specs.ReadBack.{hub_rows}
-use Rattle.dv_records.specs.Reconstruction.{HasKeysAlone, key_row, present_at, present_keys}
-use Rattle.dv_records.specs.Vault.{table_after}
-use Rattle.dv_records.proofs.CollisionTies.{collision_free}
-use Rattle.dv_records.proofs.HubTables.{table_has, table_row}
-use Rattle.dv_records.proofs.KnownLists.{key_at_first, key_offered}
-use Rattle.dv_records.proofs.KnownRefs.{known_apart, offers_apart}
-use Rattle.dv_records.proofs.NewestRows.{content_ascends, content_extract}
-use Rattle.dv_records.proofs.Reversing.{history_member}
-use Rattle.dv_records.proofs.StatusReconstruct.{status_tells}
+use Rattle.dv_laws.proofs.Vocabulary.{Contains, slice_get, ◌≡◌, Bool, ℕ, true, List, [], ◌∷◌, Some, None, sym, ◌∙◌, ap, subst, map, filter, reverse, Key, NRow, Window, row_cmp-IsAntisymmetric, Hashes, refs_eq, refs_eq-Decides, row_total, filter_map_member, filtered_members, flat_map_member}
+use Rattle.dv_laws.proofs.Vocabulary.{map_member, Contains-map, some_passes_at, some_passes, sorted_by-members, FeedDef, Parent, Hub, Status, Mapping, keys_at, parent_hubs, HubRow, StatusRow, Hubs, Statuses, appended, IsApart, collision_in, hashed_refs, is_known, is_offered, Extract, all_refs}
+use Rattle.dv_laws.proofs.Vocabulary.{content, delivered_refs, delivers, extract_of, history, IsInLoadOrder, hub_batch, hub_rows, HasKeysAlone, key_row, present_at, present_keys, table_after, collision_free, table_has, table_row, key_at_first, key_offered, known_apart, offers_apart}
+use Rattle.dv_laws.proofs.Vocabulary.{content_extract, history_member, status_tells}
+use Rattle.dv_catalog.specs.declared.tables.TableId.TheVariants.{Hub as HubTable}
+use Rattle.dv_records.proofs.NewestRows.{content_ascends}
 
 -- the row of a key is that of the one key that it has
 same_key_row : (row : NRow) (key other : Key) → row ≡ key_row key → row.refs ≡ other ∷ [] → row ≡ key_row other
@@ -46,7 +17,10 @@ said_of_key statuses date digest hash told same says = ap (λ d. present_at stat
 refs_of_key : (row : NRow) (key : Key) → row ≡ key_row key → refs_eq row.refs (key ∷ []) ≡ true
 refs_of_key row key is = (refs_eq-Decides row.refs (key ∷ [])).1 (ap (λ (row : NRow). row.refs) is)
 
-module _ (mapping : Mapping) (hashes : Hashes) (hub feed : ℕ) (definition : FeedDef) (sealed : List Window) (hubs : List HubRow) (statuses : List StatusRow) (at : slice_get mapping.feeds feed ≡ Some definition) (parent : definition.parent ≡ Hub hub) (hub_table : table_after mapping hashes (reverse sealed) (HubTable hub) ≡ Hubs hubs) (status_table : table_after mapping hashes (reverse sealed) (Status feed) ≡ Statuses statuses) (order : IsInLoadOrder sealed) (keys : HasKeysAlone feed sealed) (none : collision_in mapping hashes sealed (Hub hub) ≡ None) where
+module _ (mapping : Mapping) (hashes : Hashes) (hub feed : ℕ) (definition : FeedDef) (sealed : List Window) (hubs : List HubRow) (statuses : List StatusRow)
+    (at : slice_get mapping.feeds feed ≡ Some definition) (parent : definition.parent ≡ Hub hub) (hub_table : table_after mapping hashes (reverse sealed) (HubTable hub) ≡ Hubs hubs)
+    (status_table : table_after mapping hashes (reverse sealed) (Status feed) ≡ Statuses statuses) (order : IsInLoadOrder sealed) (keys : HasKeysAlone feed sealed)
+    (none : collision_in mapping hashes sealed (Hub hub) ≡ None) where
   all_apart : IsApart hashes (hashed_refs mapping sealed (Hub hub))
   all_apart = (collision_free mapping hashes sealed (Hub hub)).0 none
 

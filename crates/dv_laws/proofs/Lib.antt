@@ -7,4 +7,5 @@ pub mod MultiReconstruct
 pub mod PeriodTies
 pub mod RunTies
 pub mod TableLaws
+pub mod Vocabulary
 pub mod WindowSteps

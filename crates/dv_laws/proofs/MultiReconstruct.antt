@@ -1,31 +1,7 @@
 -- The multi-active satellite rows of a feed say at each date which rows a list had when it was last there.
-use Rattle.std.specs.Prelude.{Contains, nat_le, find, ◌&&◌}
-use Rattle.std.specs.Str.{bytes_eq}
-use Rattle.std.proofs.Common.{◌≡◌, ◌↔◌, ℕ, ◌==◌, inl, inr, Bool, List, [], Option, Some, None, refl, sym, ◌∙◌, ap, subst, reverse, map, eq-eqb, eqb-true, ◌⊎◌}
-use Rattle.std.proofs.lemmas.Bool.{and_from, and_parts}
-use Rattle.std.proofs.lemmas.Slice.Eq.{bytes_eq-Decides}
-use Rattle.dv_text.specs.declared.rows.Key.{Key}
-use Rattle.dv_text.specs.declared.rows.NRow.{NRow}
-use Rattle.dv_text.specs.declared.rows.Window.{Window}
-use Rattle.dv_text.specs.Keys.{Hashes}
-use Rattle.dv_text.proofs.Members.{filtered_members, map_member, Contains-map, Contains-nil}
-use Rattle.dv_catalog.specs.declared.tables.TableId.TheVariants.{Multi}
-use Rattle.dv_catalog.specs.Entries.{Mapping}
-use Rattle.dv_catalog.specs.Feeds.{source as source_of}
-use Rattle.dv_records.specs.declared.raw_rows.MultiRow.{MultiRow}
-use Rattle.dv_records.specs.declared.stores.Rows.TheVariants.{Multis}
-use Rattle.dv_records.specs.Batches.{appended}
-use Rattle.dv_records.specs.Collisions.{IsApart}
-use Rattle.dv_records.specs.History.{Extract, all_refs, delivered_refs, history, up_to, IsInLoadOrder, lists_of}
-use Rattle.dv_records.specs.ReadBack.{multi_rows}
-use Rattle.dv_records.specs.Reconstruction.{all_valid_at, described_row, loaded_with, HasOneRowPerSub}
-use Rattle.dv_records.specs.Satellites.{last_rows, multi_batch, multi_cmp, rows_of, IsMultiBatch, IsOnePerSub}
-use Rattle.dv_records.specs.Vault.{table_after}
-use Rattle.dv_records.proofs.ChangedRows.{AreValid, of_list, valid_rows}
-use Rattle.dv_records.proofs.FeedSteps.{feed_rows}
-use Rattle.dv_records.proofs.LastChange.{IsOwn, apart-reversed}
-use Rattle.dv_records.proofs.Reversing.{IsNewestFirst, history-newest_first, history_member}
-use Rattle.dv_records.proofs.SatelliteTies.{multi_tied}
+use Rattle.dv_laws.proofs.Vocabulary.{Contains, nat_le, find, ◌&&◌, bytes_eq, ◌≡◌, ◌↔◌, ℕ, ◌==◌, inl, inr, Bool, List, [], Option, Some, None, refl, sym, ◌∙◌, ap, subst, reverse, map, eq-eqb, eqb-true, ◌⊎◌, and_from, and_parts, bytes_eq-Decides, Key, NRow, Window, Hashes, filtered_members}
+use Rattle.dv_laws.proofs.Vocabulary.{map_member, Contains-map, Contains-nil, Multi, Mapping, source as source_of, MultiRow, Multis, appended, IsApart, Extract, all_refs, delivered_refs, history, up_to, IsInLoadOrder, lists_of, multi_rows, all_valid_at, described_row, loaded_with}
+use Rattle.dv_laws.proofs.Vocabulary.{HasOneRowPerSub, last_rows, multi_batch, multi_cmp, rows_of, IsMultiBatch, IsOnePerSub, table_after, AreValid, of_list, valid_rows, feed_rows, IsOwn, apart-reversed, IsNewestFirst, history-newest_first, history_member, multi_tied}
 
 module _ (hashes : Hashes) (source : List ℕ) (refs : List Key) (date : ℕ) where
   -- the multi-active row of an extract's row
@@ -40,7 +16,10 @@ module _ (hashes : Hashes) (source : List ℕ) (refs : List Key) (date : ℕ) wh
 
   tells : (all : List Extract) → IsNewestFirst (λ (extract : Extract). extract.load) all → ((extract : Extract) → Contains all extract → IsOnePerSub extract.rows) → IsApart hashes (lists_of all) → IsOwn hashes refs all
       → (said : NRow) → Contains (map (described_row refs) (all_valid_at (appended (multi_batch hashes source) all) (hashes.hash refs) date)) said ↔ Contains (last_rows (up_to date all) refs) said
-  tells all order single apart own said = by (valid_rows (λ (row : MultiRow). row.parent) (λ (row : MultiRow). row.load) multi_cmp made_row (multi_batch hashes source) IsOnePerSub hashes (λ extract made. refl) (λ extract made. refl) is_batch refs date all order (single, (apart, own)))
+  tells all order single apart own said =
+      by
+      (valid_rows (λ (row : MultiRow). row.parent) (λ (row : MultiRow). row.load) multi_cmp made_row (multi_batch hashes source) IsOnePerSub hashes (λ extract made. refl) (λ extract made. refl) is_batch refs date all order
+      (single, (apart, own)))
     where
       is_batch : (older : List Extract) (newest : Extract) → IsOnePerSub newest.rows → IsApart hashes (all_refs newest.rows) → IsMultiBatch hashes source older newest (multi_batch hashes source older newest)
       is_batch older newest single apart = (multi_tied hashes source older newest single apart (multi_batch hashes source older newest)).0 refl
@@ -83,7 +62,8 @@ module _ (hashes : Hashes) (source : List ℕ) (refs : List Key) (date : ℕ) wh
 
 -- ---- windows
 
-module _ (mapping : Mapping) (hashes : Hashes) (feed : ℕ) (sealed : List Window) (rows : List MultiRow) (table : table_after mapping hashes (reverse sealed) (Multi feed) ≡ Multis rows) (order : IsInLoadOrder sealed) (single : HasOneRowPerSub feed sealed) (apart : IsApart hashes (delivered_refs feed sealed)) (refs : List Key) where
+module _ (mapping : Mapping) (hashes : Hashes) (feed : ℕ) (sealed : List Window) (rows : List MultiRow) (table : table_after mapping hashes (reverse sealed) (Multi feed) ≡ Multis rows)
+    (order : IsInLoadOrder sealed) (single : HasOneRowPerSub feed sealed) (apart : IsApart hashes (delivered_refs feed sealed)) (refs : List Key) where
   pub multi_tells : IsOwn hashes refs (history feed sealed)
       → (date : ℕ) (row : NRow) → Contains (map (described_row refs) (all_valid_at rows (hashes.hash refs) date)) row ↔ Contains (last_rows (up_to date (history feed (reverse sealed))) refs) row
   multi_tells own date row =

@@ -1,25 +1,7 @@
 -- The rows of a period mart are the periods in which the content delivers a list.
-use Rattle.std.specs.declared.cmp.Ordering.TheVariants.{Equal}
-use Rattle.std.specs.Cmp.{IsTotalOrder, nat_cmp_total, on_total, then_total}
-use Rattle.std.specs.FinMap.{nat_cmp-IsAntisymmetric}
-use Rattle.std.specs.List.{flat_map}
-use Rattle.std.specs.List.Sorted.{IsStrictlySortedBy}
-use Rattle.std.specs.Prelude.{Contains, nat_le}
-use Rattle.std.proofs.Common.{◌≡◌, ◌↔◌, ℕ, ◌≤◌, inl, inr, Bool, true, false, List, [], ◌∷◌, refl, sym, ◌∙◌, ap, subst, filter, reverse, arith}
-use Rattle.std.proofs.lemmas.Bool.{le-leb, leb-true}
-use Rattle.dv_text.specs.declared.rows.Key.{Key}
-use Rattle.dv_text.specs.declared.rows.Window.{Window}
-use Rattle.dv_text.specs.Exact.{both_tied}
-use Rattle.dv_text.proofs.Deciding.{refs_exact, refs_total}
-use Rattle.dv_text.proofs.Members.{Contains-cons_here, filtered_members, flat_map_member, Contains-flat_map, map_member, Contains-map}
-use Rattle.dv_text.proofs.SortedLists.{ascending-sorted_by, member_after_sort, member_before_sort, same_ascending}
-use Rattle.dv_records.specs.declared.mart_rows.PeriodRow.{PeriodRow}
-use Rattle.dv_records.specs.History.{Extract, all_refs, content, delivers, history, newest_rows, up_to, IsInLoadOrder}
-use Rattle.dv_records.specs.Marts.{period_cmp, period_mart, periods_of}
-use Rattle.dv_records.specs.Runs.{Span, runs}
-use Rattle.dv_records.proofs.Deciding.{Contains-all_refs}
-use Rattle.dv_records.proofs.Reversing.{IsNewestFirst, history-newest_first}
-use Rattle.dv_laws.specs.Ties.{IsPeriod}
+use Rattle.dv_laws.proofs.Vocabulary.{Equal, IsTotalOrder, nat_cmp_total, on_total, then_total, nat_cmp-IsAntisymmetric, flat_map, IsStrictlySortedBy, Contains, nat_le, ◌≡◌, ◌↔◌, ℕ, ◌≤◌, inl, inr, Bool, true, false, List, [], ◌∷◌, refl, sym, ◌∙◌, ap, subst, filter, reverse, arith, le-leb}
+use Rattle.dv_laws.proofs.Vocabulary.{leb-true, Key, Window, both_tied, refs_exact, refs_total, Contains-cons_here, filtered_members, flat_map_member, Contains-flat_map, map_member, Contains-map, ascending-sorted_by, member_after_sort, member_before_sort, same_ascending, PeriodRow, Extract}
+use Rattle.dv_laws.proofs.Vocabulary.{all_refs, content, delivers, history, newest_rows, up_to, IsInLoadOrder, period_cmp, period_mart, periods_of, Span, runs, Contains-all_refs, IsNewestFirst, history-newest_first, IsPeriod}
 use Rattle.dv_laws.proofs.RunTies.{ends_once, ends_or_not, is_run, never_both, present, runs_there}
 
 -- ---- periods of tests that say the same up to a date
@@ -144,8 +126,12 @@ periods_tied feed sealed date row order = (row_period feed sealed date order row
 pub periods_decided : (feed date : ℕ) (a b : List Window) → IsInLoadOrder a → IsInLoadOrder b → ((t : ℕ) → t ≤ date → content feed a t ≡ content feed b t) → period_mart a feed date ≡ period_mart b feed date
 periods_decided feed date a b a_order b_order same =
     same_ascending period_cmp period_total (period_mart a feed date) (period_mart b feed date) (ascends a) (ascends b)
-    (λ row has. period_row feed b date b_order row (period-same (λ t. delivers (content feed a t) row.refs) (λ t. delivers (content feed b t) row.refs) date row.begin row.end (λ t le. ap (λ rows. delivers rows row.refs) (same t le)) (row_period feed a date a_order row has)))
-    (λ row has. period_row feed a date a_order row (period-same (λ t. delivers (content feed b t) row.refs) (λ t. delivers (content feed a t) row.refs) date row.begin row.end (λ t le. ap (λ rows. delivers rows row.refs) (sym (same t le))) (row_period feed b date b_order row has)))
+    (moved a b a_order b_order same) (moved b a b_order a_order (λ t le. sym (same t le)))
   where
+    moved : (a b : List Window) → IsInLoadOrder a → IsInLoadOrder b → ((t : ℕ) → t ≤ date → content feed a t ≡ content feed b t) → (row : PeriodRow) → Contains (period_mart a feed date) row → Contains (period_mart b feed date) row
+    moved a b a_order b_order same row has =
+        let told = λ (windows : List Window) (t : ℕ). delivers (content feed windows t) row.refs in
+        period_row feed b date b_order row (period-same (told a) (told b) date row.begin row.end (λ t le. ap (λ rows. delivers rows row.refs) (same t le)) (row_period feed a date a_order row has))
+
     ascends : (windows : List Window) → IsStrictlySortedBy period_cmp (period_mart windows feed date)
     ascends windows = ascending-sorted_by period_cmp period_total (flat_map (periods_of (up_to date (history feed (reverse windows)))) (flat_map (λ (x : Extract). all_refs x.rows) (up_to date (history feed (reverse windows)))))

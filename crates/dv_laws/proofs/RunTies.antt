@@ -1,17 +1,7 @@
 -- The runs of a reference list are the longest periods in which it is present, up to a date that all extracts have come to.
-use Rattle.std.specs.Option.{unwrap_or}
-use Rattle.std.specs.Prelude.{Contains}
-use Rattle.std.proofs.Common.{◌≡◌, ◌⊎◌, ℕ, ◌+◌, ◌-◌, ◌<◌, ◌≤◌, inl, inr, Bool, true, false, List, [], ◌∷◌, Option, Some, None, refl, sym, ◌∙◌, ap, subst, arith}
-use Rattle.std.proofs.lemmas.Bool.{false≢true, le-leb, lt-leb}
-use Rattle.std.proofs.lemmas.Bool.Decides.{leb_tells}
-use Rattle.std.proofs.lemmas.List.Elements.{Contains-append_cases, Contains-append_left, Contains-append_right}
-use Rattle.dv_text.specs.declared.rows.Key.{Key}
-use Rattle.dv_text.specs.Stamps.{open_end}
-use Rattle.dv_text.proofs.Members.{Contains-cons_cases, Contains-cons_here, Contains-cons_there, Contains-nil}
-use Rattle.dv_records.specs.History.{Extract, delivers, newest_rows, up_to}
-use Rattle.dv_records.specs.Runs.{Span, ended, ended_runs, open_run, run_begin, runs}
-use Rattle.dv_records.proofs.Reversing.{AllBefore, IsNewestFirst}
-use Rattle.dv_laws.specs.Ties.{IsEndedPeriod, IsOpenPeriod, IsPeriod}
+use Rattle.dv_laws.proofs.Vocabulary.{unwrap_or, Contains, nat_le, ◌≡◌, ◌⊎◌, ℕ, ◌+◌, ◌-◌, ◌<◌, ◌≤◌, inl, inr, Bool, true, false, List, [], ◌∷◌, Option, Some, None, refl, sym, ◌∙◌, ap, subst, arith, false≢true, le-leb, lt-leb, leb_tells, Contains-append_cases, Contains-append_left}
+use Rattle.dv_laws.proofs.Vocabulary.{Contains-append_right, Key, open_end, Contains-cons_cases, Contains-cons_here, Contains-cons_there, Contains-nil, Extract, delivers, newest_rows, up_to, Span, ended, ended_runs, open_run, run_begin, runs, AllBefore, IsNewestFirst, IsEndedPeriod, IsOpenPeriod}
+use Rattle.dv_laws.proofs.Vocabulary.{IsPeriod, filter-all}
 
 -- ---- periods of a test of dates
 
@@ -43,10 +33,7 @@ abbrev pub present : List Extract → List Key → ℕ → Bool
 present all refs t = delivers (newest_rows (up_to t all)) refs
 
 pub all_reached : (t : ℕ) (all : List Extract) → ((x : Extract) → Contains all x → x.load ≤ t) → up_to t all ≡ all
-all_reached t [] reached = refl
-all_reached t (newest ∷ older) reached =
-    let first = le-leb newest.load t (reached newest (Contains-cons_here newest older)) in
-    rw (first, all_reached t older (λ x has. reached x (Contains-cons_there newest older x has)))
+all_reached t all reached = filter-all (λ (x : Extract). nat_le x.load t) all (λ x has. le-leb x.load t (reached x has))
 
 -- all extracts have come to a date
 abbrev pub Reached : ℕ → List Extract → Type 0
@@ -167,7 +154,8 @@ module _ (refs : List Key) (date : ℕ) where
   opened [] order reached b e = cc
   opened (newest ∷ older) order reached b e = by (delivers newest.rows refs) (run_begin older refs) refl refl (opened older order.1 (reached-older date newest older reached))
     where
-      by : (now : Bool) (was : Option ℕ) → delivers newest.rows refs ≡ now → run_begin older refs ≡ was → ((c : ℕ) → run_begin older refs ≡ Some c → IsOpenPeriod (present older refs) date c) → IsOpenPeriod (present (newest ∷ older) refs) date b
+      by : (now : Bool) (was : Option ℕ) → delivers newest.rows refs ≡ now → run_begin older refs ≡ was → ((c : ℕ) → run_begin older refs ≡ Some c → IsOpenPeriod (present older refs) date c)
+          → IsOpenPeriod (present (newest ∷ older) refs) date b
       by false was f g later = let no : None ≡ Some b = rw f at e in cc
       by true None f g later =
           let is : Some newest.load ≡ Some b = rw (f, g) at e in
@@ -201,8 +189,10 @@ module _ (refs : List Key) (date : ℕ) where
       by None now f g within = Contains-nil span within
       by (Some b) true f g within = Contains-nil span within
       by (Some b) false f g within =
+          let open_one = opened older order.1 (reached-older date newest older reached) b f in
+          let ends = ended_now newest older order.0 (reached newest (Contains-cons_here newest older)) b open_one f g in
           elim (Contains-cons_cases (record { begin = b; end = newest.load }) [] span within) [
-            | inl same ↦ subst (λ (s : Span). IsEndedPeriod (present (newest ∷ older) refs) date s.begin s.end) same (ended_now newest older order.0 (reached newest (Contains-cons_here newest older)) b (opened older order.1 (reached-older date newest older reached) b f) f g)
+            | inl same ↦ subst (λ (s : Span). IsEndedPeriod (present (newest ∷ older) refs) date s.begin s.end) same ends
             | inr none ↦ Contains-nil span none
           ]
 
@@ -210,7 +200,9 @@ module _ (refs : List Key) (date : ℕ) where
   is_ended [] order reached b e is = let in_order = is.ordered in absurd (false≢true (is.during b (omega arith) in_order))
   is_ended (newest ∷ older) order reached b e is =
       elim (ended_cases newest older order.0 (reached newest (Contains-cons_here newest older)) b e is) [
-        | inl was ↦ Contains-append_right (ended newest.load (run_begin older refs) (delivers newest.rows refs)) (ended_runs older refs) (record { begin = b; end = e }) (is_ended older order.1 (reached-older date newest older reached) b e was)
+        | inl was ↦
+            let early = is_ended older order.1 (reached-older date newest older reached) b e was in
+            Contains-append_right (ended newest.load (run_begin older refs) (delivers newest.rows refs)) (ended_runs older refs) (record { begin = b; end = e }) early
         | inr now ↦ Contains-append_left (ended newest.load (run_begin older refs) (delivers newest.rows refs)) (ended_runs older refs) (record { begin = b; end = e }) (here now)
       ]
     where

@@ -1,34 +1,15 @@
 -- What the tables hold, and how they grow by a window.
-use Rattle.std.specs.List.{flat_map}
-use Rattle.std.specs.Prelude.{Contains, sum_by}
-use Rattle.std.proofs.Common.{◌≡◌, ℕ, List, [], ◌∷◌, refl, sym, ◌∙◌, ap, subst, ◌+◌, ◌++◌, arith, length, reverse, append-nil}
-use Rattle.std.proofs.lemmas.List.{reverse-append, take_all, drop_all}
-use Rattle.dv_text.specs.declared.rows.Window.{Window}
-use Rattle.dv_text.specs.Keys.{Hashes}
-use Rattle.dv_catalog.specs.declared.entries.Parent.TheVariants.{Hub, Link}
-use Rattle.dv_catalog.specs.declared.tables.TableId.{TableId}
+use Rattle.dv_laws.proofs.Vocabulary.{flat_map, Contains, sum_by, ◌≡◌, ℕ, List, [], ◌∷◌, refl, sym, ◌∙◌, ap, subst, ◌+◌, ◌++◌, arith, length, reverse, append-nil, reverse-append, take_all, drop_all, Window, Hashes, Hub, Link, TableId, Mapping, tables, HubRow, LinkRow, Hubs, Links, IsApart}
+use Rattle.dv_laws.proofs.Vocabulary.{offered_refs, loaded, hub_rows, link_rows, rows_in, rows_then, row_count, table_after, table_batch, vault, table_has as hub_has, table_row as hub_row, vault_holds, table_after-newest, batch_adds, grown, HoldsKeys, HoldsLists, PartialEnds}
 use Rattle.dv_catalog.specs.declared.tables.TableId.TheVariants.{Hub as HubTable, Link as LinkTable}
-use Rattle.dv_catalog.specs.Entries.{Mapping}
-use Rattle.dv_catalog.specs.Tables.{tables}
-use Rattle.dv_records.specs.declared.raw_rows.HubRow.{HubRow}
-use Rattle.dv_records.specs.declared.raw_rows.LinkRow.{LinkRow}
-use Rattle.dv_records.specs.declared.stores.Rows.TheVariants.{Hubs, Links}
-use Rattle.dv_records.specs.Collisions.{IsApart}
-use Rattle.dv_records.specs.Deliveries.{offered_refs}
-use Rattle.dv_records.specs.Loads.{loaded}
-use Rattle.dv_records.specs.ReadBack.{hub_rows, link_rows}
-use Rattle.dv_records.specs.Stores.{rows_in, rows_then, row_count}
-use Rattle.dv_records.specs.Vault.{table_after, table_batch, vault}
-use Rattle.dv_records.proofs.HubTables.{table_has as hub_has, table_row as hub_row}
 use Rattle.dv_records.proofs.LinkTables.{table_has as link_has, table_row as link_row}
-use Rattle.dv_records.proofs.VaultRows.{vault_holds}
-use Rattle.dv_records.proofs.VaultSteps.{table_after-newest, batch_adds, grown}
-use Rattle.dv_laws.specs.Laws.{HoldsKeys, HoldsLists, PartialEnds}
 
-pub hub_holds : (mapping : Mapping) (hashes : Hashes) (hub : ℕ) (windows : List Window) (rows : List HubRow) → table_after mapping hashes windows (HubTable hub) ≡ Hubs rows → IsApart hashes (flat_map (offered_refs mapping (Hub hub)) windows) → HoldsKeys mapping hashes hub windows rows
+pub hub_holds : (mapping : Mapping) (hashes : Hashes) (hub : ℕ) (windows : List Window) (rows : List HubRow) → table_after mapping hashes windows (HubTable hub) ≡ Hubs rows
+    → IsApart hashes (flat_map (offered_refs mapping (Hub hub)) windows) → HoldsKeys mapping hashes hub windows rows
 hub_holds mapping hashes hub windows rows table apart = subst (HoldsKeys mapping hashes hub windows) (ap hub_rows table) (record { only = hub_row mapping hub hashes windows; each = hub_has mapping hub hashes windows apart })
 
-pub link_holds : (mapping : Mapping) (hashes : Hashes) (link : ℕ) (windows : List Window) (rows : List LinkRow) → table_after mapping hashes windows (LinkTable link) ≡ Links rows → IsApart hashes (flat_map (offered_refs mapping (Link link)) windows) → HoldsLists mapping hashes link windows rows
+pub link_holds : (mapping : Mapping) (hashes : Hashes) (link : ℕ) (windows : List Window) (rows : List LinkRow) → table_after mapping hashes windows (LinkTable link) ≡ Links rows
+    → IsApart hashes (flat_map (offered_refs mapping (Link link)) windows) → HoldsLists mapping hashes link windows rows
 link_holds mapping hashes link windows rows table apart = subst (HoldsLists mapping hashes link windows) (ap link_rows table) (record { only = link_row mapping link hashes windows; each = link_has mapping link hashes windows apart })
 
 pub table_grows : (mapping : Mapping) (hashes : Hashes) (sealed : List Window) (next : Window) (table : TableId) → Contains (tables mapping) table
@@ -40,7 +21,8 @@ table_grows mapping hashes sealed next table has =
     ∙ table_after-newest mapping hashes (reverse sealed) next table
     ∙ ap (λ rows. rows_then rows (table_batch mapping hashes table (reverse sealed) next)) (sym ((vault_holds mapping hashes sealed table).rows has))
 
-pub count-push : (mapping : Mapping) (hashes : Hashes) (sealed : List Window) (next : Window) → sum_by (λ entry. row_count entry.rows) (vault mapping hashes (sealed ++ next ∷ [])) ≡ sum_by (λ entry. row_count entry.rows) (vault mapping hashes sealed) + loaded mapping hashes sealed next
+pub count-push : (mapping : Mapping) (hashes : Hashes) (sealed : List Window) (next : Window)
+    → sum_by (λ entry. row_count entry.rows) (vault mapping hashes (sealed ++ next ∷ [])) ≡ sum_by (λ entry. row_count entry.rows) (vault mapping hashes sealed) + loaded mapping hashes sealed next
 count-push mapping hashes sealed next =
     rw (reverse-append sealed (next ∷ [])) (grown row_count mapping hashes (reverse sealed) next (λ table. (batch_adds mapping hashes (reverse sealed) next table).count) (tables mapping))
 

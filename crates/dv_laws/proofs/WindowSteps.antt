@@ -1,37 +1,16 @@
 -- What a window more changes of the contents, the marts and the snapshots, and what it leaves.
-use Rattle.std.specs.List.{flat_map, range_with_len}
-use Rattle.std.specs.Prelude.{All, Contains, nat_le, length, slice_get}
-use Rattle.std.proofs.Common.{◌≡◌, ℕ, ◌<◌, List, [], ◌∷◌, ◌++◌, Option, Some, None, refl, ap, append-nil, reverse, map, filter}
-use Rattle.std.proofs.lemmas.Bool.{lt-leb}
-use Rattle.std.proofs.lemmas.List.{reverse-append}
-use Rattle.std.proofs.lemmas.List.Elements.{All-contains, filter-append}
-use Rattle.dv_text.specs.declared.rows.Window.{Window}
-use Rattle.dv_text.specs.Keys.{Hashes}
-use Rattle.dv_text.specs.Sorting.{sorted_by}
-use Rattle.dv_text.proofs.Members.{Contains-cons_here, Contains-cons_there, reverse_member}
-use Rattle.dv_catalog.specs.declared.entries.Parent.TheVariants.{Hub}
-use Rattle.dv_catalog.specs.Entries.{Mapping}
-use Rattle.dv_records.specs.declared.snapshots.SnapId.TheVariants.{Pit, Bridge}
-use Rattle.dv_records.specs.declared.stores.Rows.TheVariants.{Pits, Bridges}
-use Rattle.dv_records.specs.Deliveries.{offered_refs}
-use Rattle.dv_records.specs.History.{Extract, content, delivers, extract_of, history, newest_rows, up_to}
-use Rattle.dv_records.specs.Marts.{hub_feeds, hub_rows, path_rows_by, periods}
-use Rattle.dv_records.specs.Snapshots.{bridge, bridge_cmp, bridge_row, pit, pit_cmp, sat_load, snap_head, snap_tables}
-use Rattle.dv_records.proofs.Reversing.{extract-load}
-use Rattle.dv_laws.specs.Laws.{SameAt, SameMarts, SameOfFeed}
+use Rattle.dv_laws.proofs.Vocabulary.{flat_map, range_with_len, All, Contains, nat_le, slice_get, length, ◌≡◌, ℕ, ◌<◌, List, [], ◌∷◌, ◌++◌, Option, Some, None, refl, ap, append-nil, reverse, map, filter, lt-leb, reverse-append, All-contains, filter-append, Window, Hashes, sorted_by}
+use Rattle.dv_laws.proofs.Vocabulary.{reverse_member, filter_map_member, Hub, Mapping, Pit, Bridge, Pits, Bridges, offered_refs, Extract, content, delivers, extract_of, history, newest_rows, up_to, hub_feeds, path_rows_by, periods, bridge, bridge_cmp, bridge_row, pit, pit_cmp, sat_load}
+use Rattle.dv_laws.proofs.Vocabulary.{snap_head, snap_tables, extract-load, SameAt, SameMarts, SameOfFeed, filter-none}
+use Rattle.dv_records.specs.Marts.{hub_rows}
 
 -- ---- before the first window
 
 none_up_to : (feed date : ℕ) (windows : List Window) → ((window : Window) → Contains windows window → date < window.load) → up_to date (history feed windows) ≡ []
-none_up_to feed date [] later = refl
-none_up_to feed date (window ∷ windows) later =
-    by (none_up_to feed date windows (λ w has. later w (Contains-cons_there window windows w has))) (extract_of feed window) refl
-  where
-    by : up_to date (history feed windows) ≡ [] → (o : Option Extract) → extract_of feed window ≡ o → up_to date (history feed (window ∷ windows)) ≡ []
-    by rest None e = rw e rest
-    by rest (Some extract) e =
-        let is_later : date < extract.load = rw (extract-load feed window extract e) (later window (Contains-cons_here window windows)) in
-        rw (e, lt-leb extract.load date is_later) rest
+none_up_to feed date windows later =
+    filter-none (λ (extract : Extract). nat_le extract.load date) (history feed windows) (λ extract has.
+    let (window, there, is) = filter_map_member (extract_of feed) windows extract has in
+    lt-leb extract.load date (rw (extract-load feed window extract is) (later window there)))
 
 pub empty_before : (feed : ℕ) (sealed : List Window) (date : ℕ) → All (λ window. date < window.load) sealed → content feed sealed date ≡ []
 empty_before feed sealed date later =

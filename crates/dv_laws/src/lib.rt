@@ -4,11 +4,15 @@
 mod batches;
 mod collisions;
 mod contents;
+mod deltas;
 mod tables;
 mod vaults;
 
 pub use batches::{batches_ascend, batches_tied, header_closes};
 pub use collisions::collisions_tied;
 pub use contents::{contents_decide, contents_stay, periods_tied};
+pub use deltas::{
+    hub_delta_is_batch, link_delta_is_batch, sat_delta_is_batch, status_delta_is_batch,
+};
 pub use tables::{tables_hold, tables_tell, vault_tells};
 pub use vaults::{vault_grows, vault_holds};

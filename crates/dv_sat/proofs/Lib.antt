@@ -1,2 +1,3 @@
 pub mod SatDeltaBatch
 pub mod SatFollowing
+pub mod Vocabulary

@@ -1,34 +1,8 @@
 -- Over the satellite of older extracts, what the newest one adds row by row is its batch.
-use Rattle.std.proofs.Common.{◌≡◌, ◌⊎◌, inl, inr, ℕ, ◌==◌, ◌<◌, Bool, true, false, List, [], ◌∷◌, Option, Some, None, refl, sym, ◌∙◌, ap, subst, arith, reverse}
-use Rattle.std.specs.Prelude.{Contains, find, nat_le, not, ◌&&◌}
-use Rattle.std.specs.Cmp.Lexicographic.{pointwise}
-use Rattle.std.specs.declared.cmp.Ordering.TheVariants.{Less}
-use Rattle.std.specs.List.{filter_map}
-use Rattle.std.specs.List.Sorted.{IsStrictlySortedBy}
-use Rattle.std.specs.Option.{option_map}
-use Rattle.std.specs.Str.{bytes_eq}
-use Rattle.std.proofs.lemmas.List.Elements.{Contains-append_cases, Contains-append_left, Contains-append_right}
-use Rattle.std.proofs.lemmas.List.Kept.{IsStrictlySortedBy-filter}
-use Rattle.dv_text.specs.declared.rows.Key.{Key}
-use Rattle.dv_text.specs.declared.rows.NRow.{NRow}
-use Rattle.dv_text.specs.Keys.{Hashes, refs_eq, row_eq, texts_eq}
-use Rattle.dv_text.specs.Orders.{row_cmp}
-use Rattle.dv_text.specs.Sorting.{sorted_by}
-use Rattle.dv_text.proofs.Members.{Contains-cons_cases, Contains-cons_here, Contains-cons_there, Contains-map, Contains-nil, filter_map_member, filtered_members}
-use Rattle.dv_text.proofs.Deciding.{refs_eq-Decides, row_total, texts_eq-Decides}
-use Rattle.dv_text.proofs.Orderings.{irreflexive}
-use Rattle.dv_text.proofs.Passing.{some_passes}
-use Rattle.dv_text.proofs.SortedLists.{member_before_sort}
-use Rattle.dv_records.specs.declared.raw_rows.SatRow.{SatRow}
-use Rattle.dv_records.specs.Batches.{appended}
-use Rattle.dv_records.specs.Collisions.{IsApart}
-use Rattle.dv_records.specs.History.{Extract, all_refs, delivers, lists_of, up_to, AreNewestFirst}
-use Rattle.dv_records.specs.Reconstruction.{first_attrs, valid_at}
-use Rattle.dv_records.specs.Satellites.{is_changed, last_rows, rows_of, sat_batch, sat_cmp, sat_row, IsOnePerList}
-use Rattle.dv_records.proofs.DatedRows.{newest_first, none_loaded}
-use Rattle.dv_records.proofs.SatReconstruct.{tells}
-use Rattle.dv_records.proofs.LastChange.{all_up_to}
-use Rattle.dv_sat.specs.SatRows.{has_attrs, has_load, sat_change, sat_delta, IsPlain}
+use Rattle.dv_sat.proofs.Vocabulary.{◌≡◌, ◌⊎◌, inl, inr, ℕ, ◌==◌, ◌<◌, Bool, true, false, List, [], ◌∷◌, Option, Some, None, refl, sym, ◌∙◌, ap, subst, arith, reverse, Contains, find, nat_le, not, ◌&&◌, pointwise, Less, filter_map, IsStrictlySortedBy, option_map, bytes_eq, Contains-append_cases}
+use Rattle.dv_sat.proofs.Vocabulary.{Contains-append_left, Contains-append_right, IsStrictlySortedBy-filter, Key, NRow, Hashes, refs_eq, row_eq, texts_eq, row_cmp, sorted_by, Contains-cons_cases, Contains-cons_here, Contains-cons_there, Contains-map, Contains-nil, filter_map_member}
+use Rattle.dv_sat.proofs.Vocabulary.{filtered_members, refs_eq-Decides, row_total, texts_eq-Decides, irreflexive, some_passes, member_before_sort, SatRow, appended, IsApart, Extract, all_refs, delivers, lists_of, up_to, AreNewestFirst, first_attrs, valid_at, is_changed, last_rows, rows_of}
+use Rattle.dv_sat.proofs.Vocabulary.{sat_batch, sat_cmp, sat_row, IsOnePerList, newest_first, none_loaded, tells, all_up_to, has_attrs, has_load, sat_change, sat_delta, IsPlain}
 
 module _ (hashes : Hashes) (source : List ℕ) where
   -- a row of a batch has its extract's load date

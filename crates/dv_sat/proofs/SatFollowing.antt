@@ -1,16 +1,5 @@
 -- The row that an extract's row adds to a satellite has the load date.
-use Rattle.std.proofs.Common.{◌≡◌, ℕ, Bool, true, false, List, Option, Some, None, refl, sym, ap}
-use Rattle.std.specs.Prelude.{Contains}
-use Rattle.std.specs.Cmp.{IsTotalOrder, on_total}
-use Rattle.std.specs.Cmp.Lexicographic.{nat_list_cmp_total}
-use Rattle.dv_text.specs.declared.rows.NRow.{NRow}
-use Rattle.dv_text.specs.Keys.{Hashes}
-use Rattle.dv_records.specs.declared.raw_rows.SatRow.{SatRow}
-use Rattle.dv_records.specs.Batches.{batch_of}
-use Rattle.dv_records.specs.Reconstruction.{valid_at}
-use Rattle.dv_records.specs.Satellites.{sat_cmp}
-use Rattle.dv_records.proofs.DatedRows.{batch_stamped}
-use Rattle.dv_sat.specs.SatRows.{has_attrs, sat_change}
+use Rattle.dv_sat.proofs.Vocabulary.{◌≡◌, ℕ, Bool, true, false, List, Option, Some, None, refl, sym, ap, Contains, IsTotalOrder, on_total, nat_list_cmp_total, NRow, Hashes, SatRow, batch_of, valid_at, sat_cmp, batch_stamped, has_attrs, sat_change}
 
 pub sat_total : IsTotalOrder sat_cmp
 sat_total = on_total (λ (row : SatRow). row.parent) nat_list_cmp_total

@@ -1,1 +1,2 @@
+pub mod FeedTables
 pub mod SatRows

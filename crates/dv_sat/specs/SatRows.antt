@@ -54,15 +54,6 @@ pub record IsPlain (rows : List NRow) : Type 0 where
   pub single : IsOnePerList rows
   pub no_sub : (row : NRow) → Contains rows row → row.sub ≡ []
 
--- over the satellite of a feed's older extracts, what the newest one adds is its batch, where no two lists that they
--- deliver have one hash key
-abbrev pub SatDeltaIsBatch : Type 0
-SatDeltaIsBatch =
-    (hashes : Hashes) (source : List ℕ) (older : List Extract) (newest : Extract)
-    → AreNewestFirst (newest ∷ older) → IsApart hashes (lists_of (newest ∷ older))
-    → ((extract : Extract) → Contains (newest ∷ older) extract → IsPlain extract.rows)
-    → sat_delta hashes source (appended (sat_batch hashes source) older) newest.load newest.rows ≡ sat_batch hashes source older newest
-
 -- rows are the batch of an extract, wherever a satellite is that of extracts before it
 abbrev pub IsSatBatchAfter : Hashes → List ℕ → List SatRow → Extract → List SatRow → Type 0
 IsSatBatchAfter hashes source rows newest delta =

@@ -1,31 +1,8 @@
 -- Digests in a list, sorted or not.
-use Rattle.std.proofs.Common.{◌≡◌, ◌↔◌, ℕ, ◌+◌, inl, inr, Bool, true, false, List, [], ◌∷◌, Option, Some, None, Result, Ok, Err, refl, sym, ap, subst, arith, length, get_or, filter, reverse, ◌&&◌, nat_le}
-use Rattle.std.specs.Prelude.{Contains, is_ok}
-use Rattle.std.specs.Bool.{Decides, IsTrue}
-use Rattle.std.specs.declared.cmp.Ordering.{Ordering}
-use Rattle.std.specs.declared.cmp.Ordering.TheVariants.{Equal}
-use Rattle.std.specs.Cmp.{IsTotalOrder}
-use Rattle.std.specs.FinMap.{nat_cmp-IsAntisymmetric, slice_cmp-IsAntisymmetric, IsAntisymmetric}
-use Rattle.std.specs.List.{filter_map}
-use Rattle.std.specs.List.Sorted.{IsBinarySearchResult, IsSearchInRange, IsStrictlySortedBy, IsSortedBy}
-use Rattle.std.specs.Ordering.{is_lt}
-use Rattle.std.specs.Str.{bytes_eq}
-use Rattle.std.proofs.lemmas.Bool.{and_parts, cases_lt, false≢true}
-use Rattle.std.proofs.lemmas.Cmp.{tied_itself}
-use Rattle.std.proofs.lemmas.List.Sorted.{searchable_from_sorted}
-use Rattle.std.proofs.lemmas.Map.Keys.{Less-from_sorted}
-use Rattle.std.proofs.lemmas.Slice.Eq.{bytes_eq-Decides}
-use Rattle.dv_text.specs.Sorting.{sorted_by}
-use Rattle.dv_text.proofs.Passing.{found_member, same_answer, some_passes, some_passes_at}
-use Rattle.dv_text.proofs.SortedLists.{member_after_sort, member_before_sort}
-use Rattle.dv_records.specs.declared.raw_rows.StatusRow.{StatusRow}
-use Rattle.dv_records.specs.declared.raw_rows.Code.{Code}
-use Rattle.dv_records.specs.declared.raw_rows.Code.TheVariants.{I, D}
-use Rattle.dv_records.specs.Batches.{digest_cmp}
-use Rattle.dv_records.specs.StatusPlaces.{status_place}
-use Rattle.dv_index.specs.Places.{latest_at, latest_of_each}
-use Rattle.dv_records.specs.Reconstruction.{is_appearance, says_present}
-use Rattle.dv_track.specs.Tracks.{is_among, parents_of, present_parents}
+use Rattle.dv_track.proofs.Vocabulary.{◌≡◌, ◌↔◌, ℕ, ◌+◌, inl, inr, Bool, true, false, List, [], ◌∷◌, Option, Some, None, Result, Ok, Err, refl, sym, ap, subst, arith, length, get_or, filter, reverse, ◌&&◌, nat_le, Contains, is_ok, Decides, IsTrue, Ordering, Equal, IsTotalOrder}
+use Rattle.dv_track.proofs.Vocabulary.{nat_cmp-IsAntisymmetric, slice_cmp-IsAntisymmetric, IsAntisymmetric, filter_map, IsBinarySearchResult, IsSearchInRange, IsStrictlySortedBy, IsSortedBy, is_lt, bytes_eq, and_parts, cases_lt, false≢true, tied_itself, searchable_from_sorted, Less-from_sorted}
+use Rattle.dv_track.proofs.Vocabulary.{bytes_eq-Decides, sorted_by, found_member, same_answer, some_passes, some_passes_at, member_after_sort, member_before_sort, StatusRow, Code, I, D, digest_cmp, status_place, latest_at, latest_of_each, is_appearance, says_present, is_among, parents_of}
+use Rattle.dv_track.proofs.Vocabulary.{present_parents}
 
 pub is_among-Decides : (digests : List (List ℕ)) (digest : List ℕ) → Decides (is_among digests digest) (Contains digests digest)
 is_among-Decides digests digest = (

@@ -1,20 +1,7 @@
 -- What an extract adds, by the digests that are in one of two lists alone.
-use Rattle.std.proofs.Common.{◌≡◌, ℕ, inl, inr, Bool, true, false, List, [], ◌∷◌, ◌++◌, Option, None, refl, sym, ◌∙◌, ap, filter, not}
-use Rattle.std.specs.Prelude.{Contains}
-use Rattle.std.specs.Cmp.Lexicographic.{nat_list_cmp_total}
-use Rattle.std.specs.List.{filter_map}
-use Rattle.std.proofs.lemmas.Bool.{false≢true, not-true}
-use Rattle.std.proofs.lemmas.List.Elements.{Contains-append_cases, Contains-append_left, Contains-append_right}
-use Rattle.std.proofs.lemmas.List.Kept.{IsStrictlySortedBy-filter}
-use Rattle.dv_text.specs.Sorting.{sorted_by}
-use Rattle.dv_text.proofs.Members.{filtered_members}
-use Rattle.dv_text.proofs.SortedLists.{ascending-sorted_by, member_after_sort, member_before_sort, same_ascending}
-use Rattle.dv_records.specs.declared.raw_rows.StatusRow.{StatusRow}
-use Rattle.dv_records.specs.Batches.{digest_cmp}
-use Rattle.dv_records.specs.Reconstruction.{present_at}
-use Rattle.dv_records.specs.Statuses.{code_between}
-use Rattle.dv_track.specs.Presences.{change_between, changed, missing_in}
-use Rattle.dv_track.specs.Tracks.{is_among, parents_of, present_parents, status_change, status_changes}
+use Rattle.dv_track.proofs.Vocabulary.{◌≡◌, ℕ, inl, inr, Bool, true, false, List, [], ◌∷◌, ◌++◌, Option, None, refl, sym, ◌∙◌, ap, filter, not, Contains, nat_list_cmp_total, filter_map, false≢true, not-true, Contains-append_cases, Contains-append_left, Contains-append_right}
+use Rattle.dv_track.proofs.Vocabulary.{IsStrictlySortedBy-filter, sorted_by, filtered_members, ascending-sorted_by, member_after_sort, member_before_sort, same_ascending, StatusRow, digest_cmp, present_at, code_between, change_between, changed, missing_in, is_among, parents_of, present_parents}
+use Rattle.dv_track.proofs.Vocabulary.{status_change, status_changes}
 use Rattle.dv_track.proofs.Amongst.{among_sorted, is_among-Decides}
 use Rattle.dv_track.proofs.Presence.{among_present, exact, present_members, present_parent}
 

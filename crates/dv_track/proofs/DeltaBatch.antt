@@ -1,33 +1,11 @@
 -- Over the table of older extracts, what the newest one adds row by row is its batch.
-use Rattle.std.proofs.Common.{◌≡◌, ℕ, ◌==◌, ◌<◌, inl, inr, Bool, true, false, List, [], ◌∷◌, ◌++◌, Option, Some, refl, sym, ◌∙◌, ap, subst, arith}
-use Rattle.std.specs.Prelude.{Contains}
-use Rattle.std.specs.Cmp.Lexicographic.{nat_list_cmp_total}
-use Rattle.std.specs.FinMap.{nat_cmp-IsAntisymmetric, slice_cmp-IsAntisymmetric}
-use Rattle.std.specs.List.{filter_map}
-use Rattle.std.specs.Str.{bytes_eq}
-use Rattle.std.proofs.lemmas.List.Elements.{Contains-append_cases, Contains-append_left, Contains-append_right}
-use Rattle.std.proofs.lemmas.Slice.Eq.{bytes_eq-Decides}
-use Rattle.dv_text.specs.declared.rows.Key.{Key}
-use Rattle.dv_text.specs.Keys.{Hashes}
-use Rattle.dv_text.specs.Sorting.{sorted_by}
-use Rattle.dv_text.proofs.Members.{Contains-map, Contains-nil, IsStrictlySortedBy-filter_map, filter_map_member, map_member, member_of_filter_map}
-use Rattle.dv_text.proofs.SortedLists.{ascending-sorted_by, member_after_sort, member_before_sort}
-use Rattle.dv_records.specs.declared.raw_rows.StatusRow.{StatusRow}
-use Rattle.dv_records.specs.Batches.{appended, digest_cmp}
-use Rattle.dv_records.specs.Collisions.{IsApart}
-use Rattle.dv_records.specs.History.{Extract, all_refs, delivers, lists_of, newest_rows, AreNewestFirst}
-use Rattle.dv_records.specs.Reconstruction.{present_at}
-use Rattle.dv_records.specs.Statuses.{code_of, status_batch, status_cmp, status_row, IsStatusBatch}
-use Rattle.dv_records.proofs.DatedRows.{newest_first, none_loaded}
-use Rattle.dv_records.proofs.Deciding.{Contains-all_refs, delivers-from_Contains}
-use Rattle.dv_records.proofs.StatusReconstruct.{both_lists, tells}
+use Rattle.dv_track.proofs.Vocabulary.{◌≡◌, ℕ, ◌==◌, ◌<◌, inl, inr, Bool, true, false, List, [], ◌∷◌, ◌++◌, Option, Some, refl, sym, ◌∙◌, ap, subst, arith, Contains, nat_list_cmp_total, nat_cmp-IsAntisymmetric, slice_cmp-IsAntisymmetric, filter_map, bytes_eq, Contains-append_cases}
+use Rattle.dv_track.proofs.Vocabulary.{Contains-append_left, Contains-append_right, bytes_eq-Decides, Key, Hashes, sorted_by, Contains-map, Contains-nil, IsStrictlySortedBy-filter_map, filter_map_member, map_member, member_of_filter_map, ascending-sorted_by, member_after_sort, member_before_sort}
+use Rattle.dv_track.proofs.Vocabulary.{StatusRow, appended, digest_cmp, IsApart, Extract, all_refs, delivers, lists_of, newest_rows, AreNewestFirst, present_at, code_of, status_batch, status_cmp, status_row, IsStatusBatch, newest_first, none_loaded, Contains-all_refs, delivers-from_Contains}
+use Rattle.dv_track.proofs.Vocabulary.{both_lists, tells, status_parent, status_stands, status_tied, has_load, hashes_in, is_among, parents_of, status_change, status_delta, some_passes, some_passes_at, made_of}
 use Rattle.dv_records.proofs.LastChange.{all_up_to}
-use Rattle.dv_records.proofs.StatusTies.{status_parent, status_stands, status_tied}
-use Rattle.dv_track.specs.Tracks.{has_load, hashes_in, is_among, parents_of, status_change, status_delta}
 use Rattle.dv_track.proofs.Following.{change_parent}
 use Rattle.dv_track.proofs.Presence.{present_parent}
-use Rattle.dv_text.proofs.Passing.{some_passes, some_passes_at}
-use Rattle.dv_text.proofs.Options.{made_of}
 
 -- ---- rows of a table of extracts
 

@@ -1,21 +1,6 @@
 -- What an extract adds to a table stands behind the table's rows.
-use Rattle.std.proofs.Common.{◌≡◌, ℕ, true, List, ◌++◌, Option, Some, None, refl, sym, ap}
-use Rattle.std.specs.Prelude.{Contains}
-use Rattle.std.specs.Cmp.Lexicographic.{nat_list_cmp_total}
-use Rattle.std.specs.List.{All, filter_map}
-use Rattle.std.specs.List.Sorted.{IsStrictlySortedBy}
-use Rattle.dv_text.specs.declared.rows.Key.{Key}
-use Rattle.dv_text.specs.Keys.{Hashes}
-use Rattle.dv_text.specs.Sorting.{sorted_by}
-use Rattle.dv_text.proofs.Members.{filter_map_member, IsStrictlySortedBy-filter_map}
-use Rattle.dv_text.proofs.SortedLists.{ascending-sorted_by}
-use Rattle.dv_records.specs.declared.raw_rows.StatusRow.{StatusRow}
-use Rattle.dv_records.specs.Batches.{digest_cmp}
-use Rattle.dv_records.specs.Reconstruction.{present_at}
-use Rattle.dv_records.specs.Statuses.{code_between, status_cmp}
-use Rattle.dv_records.proofs.BatchTies.{given}
-use Rattle.dv_records.proofs.DatedRows.{delta_follows, delta_stamped}
-use Rattle.dv_track.specs.Tracks.{are_up_to, hashes_in, is_among, parents_of, status_change, status_delta, status_order}
+use Rattle.dv_track.proofs.Vocabulary.{◌≡◌, ℕ, true, List, ◌++◌, Option, Some, None, refl, sym, ap, Contains, nat_list_cmp_total, All, filter_map, IsStrictlySortedBy, Key, Hashes, sorted_by, filter_map_member, IsStrictlySortedBy-filter_map, ascending-sorted_by, StatusRow, digest_cmp, present_at}
+use Rattle.dv_track.proofs.Vocabulary.{code_between, status_cmp, given, delta_follows, delta_stamped, are_up_to, hashes_in, is_among, parents_of, status_change, status_delta, status_order}
 
 module _ (hashes : Hashes) (source : List ℕ) (rows : List StatusRow) (load : ℕ) (refs : List (List Key)) where
   abbrev change : List ℕ → Option StatusRow
@@ -46,4 +31,6 @@ module _ (hashes : Hashes) (source : List ℕ) (rows : List StatusRow) (load : �
   all_have = delta_stamped (λ (row : StatusRow). row.load) status_cmp load rows (filter_map change digests) delta_load
 
   pub follows : IsStrictlySortedBy status_order rows → are_up_to rows load ≡ true → IsStrictlySortedBy status_order (rows ++ status_delta hashes source rows load refs)
-  follows = delta_follows (λ (row : StatusRow). row.load) status_cmp load rows (filter_map change digests) delta_load (IsStrictlySortedBy-filter_map digest_cmp change (λ (row : StatusRow). row.parent) change_parent digests (ascending-sorted_by digest_cmp nat_list_cmp_total (parents_of rows ++ hashes_in hashes refs)))
+  follows =
+      delta_follows (λ (row : StatusRow). row.load) status_cmp load rows (filter_map change digests) delta_load
+      (IsStrictlySortedBy-filter_map digest_cmp change (λ (row : StatusRow). row.parent) change_parent digests (ascending-sorted_by digest_cmp nat_list_cmp_total (parents_of rows ++ hashes_in hashes refs)))

@@ -4,3 +4,4 @@ pub mod DeltaBatch
 pub mod Following
 pub mod Merged
 pub mod Presence
+pub mod Vocabulary

@@ -1,22 +1,8 @@
 -- Present parents brought up to touched ones, one touched parent after another.
-use Rattle.std.proofs.Common.{◌≡◌, ℕ, zero, suc, ◌≤◌, ◌<◌, ◌⊎◌, inl, inr, Bool, true, false, List, [], ◌∷◌, ◌++◌, ◌+◌, refl, sym, ◌∙◌, ap, subst, arith, length, get_or, take, drop, filter, not}
-use Rattle.std.specs.Prelude.{Contains}
-use Rattle.std.specs.Cmp.Lexicographic.{nat_list_cmp_total}
-use Rattle.std.specs.declared.cmp.Ordering.{Ordering}
-use Rattle.std.specs.declared.cmp.Ordering.TheVariants.{Less, Equal, Greater}
-use Rattle.std.specs.List.Sorted.{IsPartitionPoint, IsStrictlySortedBy}
-use Rattle.std.specs.Ordering.{is_lt, ordering_reverse}
-use Rattle.std.proofs.lemmas.Bool.{cases_lt, false_from_ne_true, false≢true, not-true}
-use Rattle.std.proofs.lemmas.List.Elements.{Contains-append_cases, Contains-append_left, Contains-append_right}
-use Rattle.std.proofs.lemmas.List.Kept.{IsStrictlySortedBy-filter}
-use Rattle.std.proofs.lemmas.Map.Keys.{Less-from_sorted}
-use Rattle.dv_text.specs.Sorting.{sorted_by}
-use Rattle.dv_text.proofs.Members.{Contains-cons_cases, Contains-cons_here, Contains-cons_there, Contains-nil, filtered_members, member_of_all}
-use Rattle.dv_text.proofs.Orderings.{irreflexive, is_less, turned}
-use Rattle.dv_text.proofs.SortedLists.{ascending-append, ascending-sorted_by, member_after_sort, member_before_sort, same_ascending}
-use Rattle.dv_records.specs.Batches.{digest_cmp}
-use Rattle.dv_track.specs.Presences.{before, behind, if_there, missing_in}
-use Rattle.dv_track.specs.Tracks.{is_among}
+use Rattle.dv_track.proofs.Vocabulary.{◌≡◌, ℕ, zero, suc, ◌≤◌, ◌<◌, ◌⊎◌, inl, inr, Bool, true, false, List, [], ◌∷◌, ◌++◌, ◌+◌, refl, sym, ◌∙◌, ap, subst, arith, length, get_or, take, drop, filter, not, Contains, nat_list_cmp_total, Ordering, Less, Equal, Greater, IsPartitionPoint}
+use Rattle.dv_track.proofs.Vocabulary.{IsStrictlySortedBy, is_lt, ordering_reverse, cases_lt, false_from_ne_true, false≢true, not-true, Contains-append_cases, Contains-append_left, Contains-append_right, IsStrictlySortedBy-filter, Less-from_sorted, sorted_by, Contains-cons_cases}
+use Rattle.dv_track.proofs.Vocabulary.{Contains-cons_here, Contains-cons_there, Contains-nil, filtered_members, member_of_all, irreflexive, is_less, turned, ascending-append, ascending-sorted_by, member_after_sort, member_before_sort, same_ascending, digest_cmp, before, behind, if_there}
+use Rattle.dv_track.proofs.Vocabulary.{missing_in, is_among}
 use Rattle.dv_track.proofs.Amongst.{is_among-Decides}
 use Rattle.dv_track.proofs.Presence.{exact}
 

@@ -1,29 +1,9 @@
 -- The parents that are present after a table's rows.
-use Rattle.std.proofs.Common.{◌≡◌, ◌↔◌, ℕ, inl, inr, Bool, true, false, List, [], ◌∷◌, ◌++◌, Option, Some, None, refl, sym, ◌∙◌, ap, subst, filter, reverse, ◌&&◌, nat_le, not}
-use Rattle.std.specs.Prelude.{Contains, find}
-use Rattle.std.specs.Cmp.Lexicographic.{nat_list_cmp_total}
-use Rattle.std.specs.FinMap.{nat_cmp-IsAntisymmetric, slice_cmp-IsAntisymmetric}
-use Rattle.std.specs.declared.cmp.Ordering.TheVariants.{Equal}
-use Rattle.std.specs.List.Sorted.{IsStrictlySortedBy}
-use Rattle.std.specs.Str.{bytes_eq}
-use Rattle.std.proofs.lemmas.Bool.{and_parts, false_from_ne_true, false≢true, le-leb, not-true}
-use Rattle.std.proofs.lemmas.List.{reverse-append}
-use Rattle.std.proofs.lemmas.List.Elements.{Contains-append_cases, Contains-append_left, Contains-append_right}
-use Rattle.std.proofs.lemmas.List.Folds.{find-append, list_all-append}
-use Rattle.std.proofs.lemmas.List.Kept.{IsStrictlySortedBy-filter}
-use Rattle.std.proofs.lemmas.Slice.Eq.{bytes_eq-Decides}
-use Rattle.dv_text.specs.Sorting.{sorted_by}
-use Rattle.dv_text.proofs.Members.{Contains-cons_here, Contains-cons_there, Contains-map, filtered_members, reverse_member}
-use Rattle.dv_text.proofs.SortedLists.{ascending-sorted_by, member_after_sort, member_before_sort, same_ascending}
-use Rattle.dv_text.proofs.Passing.{find_none, find_same, found_member, same_answer, some_passes_at}
-use Rattle.dv_records.specs.declared.raw_rows.StatusRow.{StatusRow}
-use Rattle.dv_records.specs.Batches.{digest_cmp}
-use Rattle.dv_records.specs.Reconstruction.{present_at, says_present}
-use Rattle.dv_track.specs.Presences.{missing_in, updated, ArePresent}
-use Rattle.dv_track.specs.Tracks.{are_up_to, is_among, parents_of, present_parents}
+use Rattle.dv_track.proofs.Vocabulary.{◌≡◌, ◌↔◌, ℕ, inl, inr, Bool, true, false, List, [], ◌∷◌, ◌++◌, Option, Some, None, refl, sym, ◌∙◌, ap, subst, filter, reverse, ◌&&◌, nat_le, not, Contains, find, nat_list_cmp_total, nat_cmp-IsAntisymmetric, slice_cmp-IsAntisymmetric, Equal}
+use Rattle.dv_track.proofs.Vocabulary.{IsStrictlySortedBy, bytes_eq, and_parts, false_from_ne_true, false≢true, le-leb, not-true, reverse-append, Contains-append_cases, Contains-append_left, Contains-append_right, find-append, list_all-append, IsStrictlySortedBy-filter, bytes_eq-Decides}
+use Rattle.dv_track.proofs.Vocabulary.{sorted_by, Contains-cons_here, Contains-cons_there, Contains-map, filtered_members, reverse_member, ascending-sorted_by, member_after_sort, member_before_sort, same_ascending, find_none, find_same, found_member, same_answer, some_passes_at, StatusRow}
+use Rattle.dv_track.proofs.Vocabulary.{digest_cmp, present_at, says_present, missing_in, updated, ArePresent, are_up_to, is_among, parents_of, present_parents, status_cmp, all_up_to}
 use Rattle.dv_track.proofs.Amongst.{among_sorted, is_among-Decides}
-use Rattle.dv_records.specs.Statuses.{status_cmp}
-use Rattle.dv_records.proofs.DatedRows.{all_up_to}
 
 -- ---- who is present
 

@@ -1,2 +1,3 @@
+pub mod FeedTables
 pub mod Presences
 pub mod Tracks

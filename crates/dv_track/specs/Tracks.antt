@@ -56,14 +56,6 @@ status_changes source rows load now = filter_map (status_change source rows load
 abbrev pub status_delta : Hashes → List ℕ → List StatusRow → ℕ → List (List Key) → List StatusRow
 status_delta hashes source rows load refs = if has_load rows load then [] else status_changes source rows load (hashes_in hashes refs)
 
--- over the table of a feed's older extracts, what the newest one adds is its batch, where no two lists that they
--- deliver have one hash key
-abbrev pub StatusDeltaIsBatch : Type 0
-StatusDeltaIsBatch =
-    (hashes : Hashes) (source : List ℕ) (older : List Extract) (newest : Extract)
-    → AreNewestFirst (newest ∷ older) → IsApart hashes (lists_of (newest ∷ older))
-    → status_delta hashes source (appended (status_batch hashes source) older) newest.load (all_refs newest.rows) ≡ status_batch hashes source older newest
-
 -- rows are the batch of an extract, wherever a table is that of extracts before it
 abbrev pub IsBatchAfter : Hashes → List ℕ → List StatusRow → Extract → List StatusRow → Type 0
 IsBatchAfter hashes source rows newest delta =

@@ -2,12 +2,11 @@
 #![tactic(auto)]
 
 mod changes;
+mod feed_tables;
 mod hashing;
-mod laws;
 mod loads;
 mod merges;
 mod presences;
 mod status_tables;
 
-pub use laws::status_delta_is_batch;
 pub use status_tables::StatusTable;

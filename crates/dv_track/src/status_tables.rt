@@ -76,6 +76,13 @@ impl StatusTable {
         self.indexed.rows()
     }
 
+    /// Does nothing: a call tells a proof that the rows ascend.
+    pub(crate) fn note_order(&self)
+        ensures { IsStrictlySortedBy status_order self.now.rows }
+    {
+        let _rows = self.indexed.rows();
+    }
+
     /// Makes room for so many more rows. The rows stay as they are, also for want of memory.
     pub fn reserve(&mut self, more: u64) -> Result<(), Memory>
         ensures rows { self.new.rows ≡ self.old.rows }

@@ -1,6 +1,4 @@
-use Rattle.std.proofs.Common.{◌≡◌}
-use Rattle.std.specs.Prelude.{filter}
-use Rattle.dv_keys.specs.NewLists.{is_new}
+use Rattle.dv_keys.proofs.Vocabulary.{◌≡◌, filter, is_new}
 use Rattle.dv_keys.proofs.additions.kept.Given as goal
 
 abbrev pub invariant-loop-hashed : goal.invariant-loop-hashed

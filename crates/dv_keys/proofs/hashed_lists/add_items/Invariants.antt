@@ -1,6 +1,4 @@
-use Rattle.std.proofs.Common.{◌≡◌, ◌++◌, map, take}
-use Rattle.dv_text.specs.Keys.{hashes_of}
-use Rattle.dv_keys.specs.HashedLists.{hashed_item}
+use Rattle.dv_keys.proofs.Vocabulary.{◌≡◌, ◌++◌, map, take, hashes_of, hashed_item}
 use Rattle.dv_keys.proofs.hashed_lists.add_items.Given as goal
 
 abbrev pub invariant-loop-item : goal.invariant-loop-item

@@ -1,4 +1,4 @@
-use Rattle.dv_digest.proofs.Lengths.{refs_text_fits}
+use Rattle.dv_keys.proofs.Vocabulary.{refs_text_fits}
 use Rattle.dv_keys.proofs.hashed_lists.hashed_list.Goals as goal
 
 pub hash_key-digest-requires-after_bounds : goal.hash_key-digest-requires-after_bounds

@@ -1,4 +1,4 @@
-use Rattle.dv_keys.specs.NewRows.{hub_row_of}
+use Rattle.dv_keys.proofs.Vocabulary.{hub_row_of}
 use Rattle.dv_keys.proofs.Batches.{filter_map_push}
 use Rattle.dv_keys.proofs.hub_rows.hub_rows.Goals as goal
 

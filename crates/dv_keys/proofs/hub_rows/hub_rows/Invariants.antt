@@ -1,6 +1,4 @@
-use Rattle.std.proofs.Common.{◌≡◌}
-use Rattle.std.specs.List.{filter_map}
-use Rattle.dv_keys.specs.NewRows.{hub_row_of}
+use Rattle.dv_keys.proofs.Vocabulary.{◌≡◌, filter_map, hub_row_of}
 use Rattle.dv_keys.proofs.hub_rows.hub_rows.Given as goal
 
 abbrev pub invariant-loop-hashed : goal.invariant-loop-hashed

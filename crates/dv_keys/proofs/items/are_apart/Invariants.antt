@@ -1,5 +1,4 @@
-use Rattle.std.proofs.Common.{◌≡◌, length}
-use Rattle.dv_keys.specs.ItemTests.{are_apart}
+use Rattle.dv_keys.proofs.Vocabulary.{◌≡◌, length, are_apart}
 use Rattle.dv_keys.proofs.items.are_apart.Given as goal
 
 abbrev pub decreases-loop-item : goal.decreases-loop-item

@@ -1,6 +1,4 @@
-use Rattle.std.proofs.Common.{◌≡◌}
-use Rattle.dv_text.specs.Keys.{hashes_of}
-use Rattle.dv_records.specs.Hubs.{each_hash}
+use Rattle.dv_keys.proofs.Vocabulary.{◌≡◌, hashes_of, each_hash}
 use Rattle.dv_keys.proofs.link_rows.each_key_hash.Given as goal
 
 abbrev pub invariant-loop-key : goal.invariant-loop-key

@@ -1,7 +1,4 @@
-use Rattle.std.proofs.Common.{◌≤◌, ◌∷◌, [], length, subst, sym}
-use Rattle.dv_text.specs.Keys.{refs_text}
-use Rattle.dv_digest.specs.declared.rooms.TheConstants.{ROOM_SIZE}
-use Rattle.dv_digest.proofs.Lengths.{refs_text_fits}
+use Rattle.dv_keys.proofs.Vocabulary.{◌≤◌, ◌∷◌, [], length, subst, sym, refs_text, ROOM_SIZE, refs_text_fits}
 use Rattle.dv_keys.proofs.link_rows.key_hash.Goals as goal
 
 pub hash_key-requires-after_bounds : goal.hash_key-requires-after_bounds

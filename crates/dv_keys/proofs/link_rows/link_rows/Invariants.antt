@@ -1,6 +1,4 @@
-use Rattle.std.proofs.Common.{◌≡◌, map}
-use Rattle.dv_text.specs.Keys.{hashes_of}
-use Rattle.dv_keys.specs.NewRows.{link_row}
+use Rattle.dv_keys.proofs.Vocabulary.{◌≡◌, map, hashes_of, link_row}
 use Rattle.dv_keys.proofs.link_rows.link_rows.Given as goal
 
 abbrev pub invariant-loop-hashed : goal.invariant-loop-hashed

@@ -1,4 +1,4 @@
-use Rattle.std.proofs.Common.{◌≡◌, ◌≤◌, [], replicate}
+use Rattle.dv_keys.proofs.Vocabulary.{◌≡◌, ◌≤◌, [], replicate}
 use Rattle.dv_keys.proofs.missing_keys.empty_parts.Given as goal
 
 abbrev pub invariant-loop : goal.invariant-loop

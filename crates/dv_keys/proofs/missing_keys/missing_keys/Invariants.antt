@@ -1,5 +1,4 @@
-use Rattle.std.proofs.Common.{◌≡◌, map, take}
-use Rattle.dv_keys.specs.Items.{missing_key}
+use Rattle.dv_keys.proofs.Vocabulary.{◌≡◌, map, take, missing_key}
 use Rattle.dv_keys.proofs.missing_keys.missing_keys.Given as goal
 
 abbrev pub invariant-loop-hub : goal.invariant-loop-hub

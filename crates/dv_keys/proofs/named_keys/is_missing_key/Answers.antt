@@ -1,6 +1,4 @@
-use Rattle.std.proofs.Common.{sym, ◌∙◌, ap, length}
-use Rattle.std.specs.Prelude.{slice_get}
-use Rattle.dv_catalog.specs.Feeds.{parts_of}
+use Rattle.dv_keys.proofs.Vocabulary.{sym, ◌∙◌, ap, length, slice_get, parts_of}
 use Rattle.dv_keys.proofs.Keys.{missing_same}
 use Rattle.dv_keys.proofs.named_keys.is_missing_key.Goals as goal
 

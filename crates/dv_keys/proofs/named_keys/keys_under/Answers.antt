@@ -1,6 +1,4 @@
-use Rattle.std.proofs.Common.{◌≡◌, inl, inr, [], ◌++◌, sym, ◌∙◌, ap, append-nil, map}
-use Rattle.std.specs.List.{zip}
-use Rattle.dv_keys.specs.LinkLists.{key_under}
+use Rattle.dv_keys.proofs.Vocabulary.{◌≡◌, inl, inr, [], ◌++◌, sym, ◌∙◌, ap, append-nil, map, zip, key_under}
 use Rattle.dv_keys.proofs.Keys.{zip_ended}
 use Rattle.dv_keys.proofs.named_keys.keys_under.Goals as goal
 

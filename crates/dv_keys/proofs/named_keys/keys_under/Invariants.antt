@@ -1,5 +1,4 @@
-use Rattle.std.proofs.Common.{◌≡◌, ◌++◌}
-use Rattle.dv_keys.specs.LinkLists.{keys_under}
+use Rattle.dv_keys.proofs.Vocabulary.{◌≡◌, ◌++◌, keys_under}
 use Rattle.dv_keys.proofs.named_keys.keys_under.Given as goal
 
 abbrev pub invariant-loop-hub : goal.invariant-loop-hub

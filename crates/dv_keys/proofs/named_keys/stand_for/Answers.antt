@@ -1,7 +1,4 @@
-use Rattle.std.proofs.Common.{length, sym, ◌∙◌}
-use Rattle.std.specs.List.{zip}
-use Rattle.std.proofs.lemmas.Slice.Zip.{length-zip}
-use Rattle.dv_keys.specs.LinkLists.{key_under}
+use Rattle.dv_keys.proofs.Vocabulary.{length, sym, ◌∙◌, zip, length-zip, key_under}
 use Rattle.dv_keys.proofs.Keys.{each_same, not_as_many, not_equal}
 use Rattle.dv_keys.proofs.named_keys.stand_for.Goals as goal
 

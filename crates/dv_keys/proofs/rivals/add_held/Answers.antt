@@ -1,6 +1,4 @@
-use Rattle.std.proofs.Common.{append_assoc}
-use Rattle.dv_text.proofs.Members.{filter_map_more}
-use Rattle.dv_keys.specs.Rivalries.{held_rival}
+use Rattle.dv_keys.proofs.Vocabulary.{append_assoc, filter_map_more, held_rival}
 use Rattle.dv_keys.proofs.rivals.add_held.Goals as goal
 
 pub loop-hashed-preserved : goal.loop-hashed-preserved

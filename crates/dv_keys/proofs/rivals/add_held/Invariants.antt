@@ -1,6 +1,4 @@
-use Rattle.std.proofs.Common.{◌≡◌, ◌++◌, take}
-use Rattle.std.specs.List.{filter_map}
-use Rattle.dv_keys.specs.Rivalries.{held_rival}
+use Rattle.dv_keys.proofs.Vocabulary.{◌≡◌, ◌++◌, take, filter_map, held_rival}
 use Rattle.dv_keys.proofs.rivals.add_held.Given as goal
 
 abbrev pub invariant-loop-hashed : goal.invariant-loop-hashed

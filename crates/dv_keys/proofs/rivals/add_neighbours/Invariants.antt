@@ -1,5 +1,4 @@
-use Rattle.std.proofs.Common.{◌≡◌, ◌∷◌, ◌++◌, drop}
-use Rattle.dv_keys.specs.Rivalries.{all_neighbours}
+use Rattle.dv_keys.proofs.Vocabulary.{◌≡◌, ◌∷◌, ◌++◌, drop, all_neighbours}
 use Rattle.dv_keys.proofs.rivals.add_neighbours.Given as goal
 
 abbrev pub invariant-loop-next : goal.invariant-loop-next

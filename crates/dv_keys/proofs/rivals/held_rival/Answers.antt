@@ -1,4 +1,4 @@
-use Rattle.std.proofs.Common.{sym, ◌∙◌}
+use Rattle.dv_keys.proofs.Vocabulary.{sym, ◌∙◌}
 use Rattle.dv_keys.proofs.Clashes.{no_rival}
 use Rattle.dv_keys.proofs.rivals.held_rival.Goals as goal
 

@@ -1,8 +1,5 @@
 use Rattle.dv_laws.proofs.EffectTies.{effect_tied}
-use Rattle.dv_records.proofs.HubTables.{hub_tied}
-use Rattle.dv_records.proofs.LinkTables.{link_tied}
-use Rattle.dv_records.proofs.SatelliteTies.{multi_tied, sat_tied}
-use Rattle.dv_records.proofs.StatusTies.{status_tied}
+use Rattle.dv_laws.proofs.Vocabulary.{hub_tied, link_tied, multi_tied, sat_tied, status_tied}
 use Rattle.dv_laws.proofs.batches.batches_tied.Goals as goal
 
 pub returns : goal.returns

@@ -1,4 +1,4 @@
-use Rattle.dv_records.proofs.CollisionTies.{collision_free, collision_tied, none_collide}
+use Rattle.dv_laws.proofs.Vocabulary.{collision_free, collision_tied, none_collide}
 use Rattle.dv_laws.proofs.collisions.collisions_tied.Goals as goal
 
 pub returns : goal.returns

@@ -1,8 +1,4 @@
-use Rattle.std.proofs.Common.{◌∙◌, refl, rules}
-use Rattle.std.specs.Ordering.{is_eq, is_lt}
-use Rattle.std.proofs.lemmas.Fn.{always_returns_same, dedup_same}
-use Rattle.std.proofs.lemmas.List.Sorted.{ranks_by}
-use Rattle.dv_text.proofs.StableSorts.{firsts-sort_dedup}
+use Rattle.dv_sat.proofs.Vocabulary.{◌∙◌, refl, rules, is_eq, is_lt, always_returns_same, dedup_same, ranks_by, firsts-sort_dedup}
 use Rattle.dv_sat.proofs.sorting.in_batch_order.Goals as goal
 
 pub returns : goal.returns

@@ -1,6 +1,4 @@
-use Rattle.std.proofs.Common.{◌≡◌, true, nat_le, sym, subst, ◌∙◌}
-use Rattle.std.specs.List.{list_all}
-use Rattle.dv_keys.proofs.HubItems.{hub_items}
+use Rattle.dv_table_tests.proofs.Vocabulary.{◌≡◌, true, nat_le, sym, subst, ◌∙◌, list_all, hub_items}
 use Rattle.dv_table_tests.proofs.hubs.delta.Goals as goal
 
 pub delta-requires-clause-dated : goal.delta-requires-clause-dated

@@ -1,5 +1,4 @@
-use Rattle.dv_catalog.specs.declared.entries.Parent.TheVariants.{Hub}
-use Rattle.dv_keys.proofs.ItemTests.{items_are}
+use Rattle.dv_table_tests.proofs.Vocabulary.{Hub, items_are}
 use Rattle.dv_table_tests.proofs.lists.new_of.Goals as goal
 
 pub new_lists-requires-clause-items : goal.new_lists-requires-clause-items

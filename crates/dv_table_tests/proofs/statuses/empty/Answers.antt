@@ -1,4 +1,4 @@
-use Rattle.std.specs.List.Sorted.{IsStrictlySortedBy}
+use Rattle.dv_table_tests.proofs.Vocabulary.{IsStrictlySortedBy}
 use Rattle.dv_table_tests.proofs.statuses.empty.Goals as goal
 
 pub from_rows-requires : goal.from_rows-requires

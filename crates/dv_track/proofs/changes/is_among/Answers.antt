@@ -1,6 +1,4 @@
-use Rattle.std.specs.Bool.{one_answer}
-use Rattle.std.specs.Cmp.Lexicographic.{nat_list_cmp_total}
-use Rattle.std.specs.FinMap.{nat_cmp-IsAntisymmetric, slice_cmp-IsAntisymmetric}
+use Rattle.dv_track.proofs.Vocabulary.{one_answer, nat_list_cmp_total, nat_cmp-IsAntisymmetric, slice_cmp-IsAntisymmetric}
 use Rattle.dv_track.proofs.Amongst.{is_among-Decides, searched_members}
 use Rattle.dv_track.proofs.changes.is_among.Goals as goal
 

@@ -1,5 +1,4 @@
-use Rattle.std.proofs.Common.{◌≡◌, ◌++◌, filter, not, take}
-use Rattle.dv_track.specs.Tracks.{is_among}
+use Rattle.dv_track.proofs.Vocabulary.{◌≡◌, ◌++◌, filter, not, take, is_among}
 use Rattle.dv_track.proofs.changes.put_missing.Given as goal
 
 -- those of the digests so far

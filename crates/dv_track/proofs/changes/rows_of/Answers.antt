@@ -1,6 +1,4 @@
-use Rattle.std.proofs.Common.{◌≡◌, ◌∙◌, refl}
-use Rattle.dv_text.proofs.Members.{filter_map_more}
-use Rattle.dv_track.specs.Presences.{change_between}
+use Rattle.dv_track.proofs.Vocabulary.{◌≡◌, ◌∙◌, refl, filter_map_more, change_between}
 use Rattle.dv_track.proofs.changes.rows_of.Goals as goal
 
 pub loop-parent-preserved : goal.loop-parent-preserved

@@ -1,6 +1,4 @@
-use Rattle.std.proofs.Common.{◌≡◌, take}
-use Rattle.std.specs.List.{filter_map}
-use Rattle.dv_track.specs.Presences.{change_between}
+use Rattle.dv_track.proofs.Vocabulary.{◌≡◌, take, filter_map, change_between}
 use Rattle.dv_track.proofs.changes.rows_of.Given as goal
 
 -- the rows of the digests so far

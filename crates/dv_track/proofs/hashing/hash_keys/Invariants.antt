@@ -1,7 +1,4 @@
-use Rattle.std.proofs.Common.{◌≡◌, take}
-use Rattle.dv_text.specs.Keys.{hashes_of}
-use Rattle.dv_records.specs.History.{all_refs}
-use Rattle.dv_track.specs.Tracks.{hashes_in}
+use Rattle.dv_track.proofs.Vocabulary.{◌≡◌, take, hashes_of, all_refs, hashes_in}
 use Rattle.dv_track.proofs.hashing.hash_keys.Given as goal
 
 -- the hash keys of the rows so far

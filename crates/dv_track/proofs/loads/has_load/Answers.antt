@@ -1,7 +1,4 @@
-use Rattle.std.proofs.Common.{◌∙◌, sym}
-use Rattle.dv_records.specs.declared.raw_rows.StatusRow.{StatusRow}
-use Rattle.dv_records.specs.Statuses.{status_cmp}
-use Rattle.dv_records.proofs.DatedRows.{last_load}
+use Rattle.dv_track.proofs.Vocabulary.{◌∙◌, sym, StatusRow, status_cmp, last_load}
 use Rattle.dv_track.proofs.loads.has_load.Goals as goal
 
 pub returns-in-Some : goal.returns-in-Some

@@ -1,10 +1,4 @@
-use Rattle.std.proofs.Common.{◌≡◌, ◌+◌, ◌≤◌, [], ◌∷◌, ◌++◌, ◌∙◌, refl, sym, ap, arith, append_assoc, drop, length}
-use Rattle.std.specs.Ordering.{is_lt}
-use Rattle.std.proofs.lemmas.List.{drop_all, drop_more}
-use Rattle.std.proofs.lemmas.List.Kept.{IsStrictlySortedBy-filter}
-use Rattle.dv_records.specs.Batches.{digest_cmp}
-use Rattle.dv_records.specs.Reconstruction.{present_at}
-use Rattle.dv_track.specs.Presences.{before, behind, if_there, updated}
+use Rattle.dv_track.proofs.Vocabulary.{◌≡◌, ◌+◌, ◌≤◌, [], ◌∷◌, ◌++◌, ◌∙◌, refl, sym, ap, arith, append_assoc, drop, length, is_lt, drop_all, drop_more, IsStrictlySortedBy-filter, digest_cmp, present_at, before, behind, if_there, updated}
 use Rattle.dv_track.proofs.Merged.{ascending-drop, none_touched, one_more}
 use Rattle.dv_track.proofs.merges.merge.Goals as goal
 

@@ -1,8 +1,4 @@
-use Rattle.std.proofs.Common.{◌≡◌, ◌+◌, ◌-◌, ◌≤◌, ◌++◌, drop, length}
-use Rattle.std.specs.Prelude.{vec_capacity}
-use Rattle.std.specs.List.Sorted.{IsStrictlySortedBy}
-use Rattle.dv_records.specs.Batches.{digest_cmp}
-use Rattle.dv_track.specs.Presences.{updated}
+use Rattle.dv_track.proofs.Vocabulary.{◌≡◌, ◌+◌, ◌-◌, ◌≤◌, ◌++◌, drop, length, vec_capacity, IsStrictlySortedBy, digest_cmp, updated}
 use Rattle.dv_track.proofs.merges.merge.Given as goal
 
 -- what is made so far, and what is left

@@ -1,7 +1,4 @@
-use Rattle.std.proofs.Common.{◌+◌, ◌-◌, ◌∙◌, arith, drop, length}
-use Rattle.std.specs.Cmp.Lexicographic.{nat_list_cmp_total}
-use Rattle.std.proofs.lemmas.List.{length-drop, take_all}
-use Rattle.std.proofs.lemmas.List.Sorted.{searchable_from_sorted}
+use Rattle.dv_track.proofs.Vocabulary.{◌+◌, ◌-◌, ◌∙◌, arith, drop, length, nat_list_cmp_total, length-drop, take_all, searchable_from_sorted}
 use Rattle.dv_track.proofs.Amongst.{sorted_from_strictly}
 use Rattle.dv_track.proofs.Merged.{found_before, found_behind, missed_before, missed_behind}
 use Rattle.dv_track.proofs.merges.parted.Goals as goal

@@ -1,5 +1,4 @@
-use Rattle.std.proofs.Common.{◌≡◌, filter, map, take}
-use Rattle.dv_records.specs.Reconstruction.{is_appearance}
+use Rattle.dv_track.proofs.Vocabulary.{◌≡◌, filter, map, take, is_appearance}
 use Rattle.dv_track.proofs.presences.appeared_parents.Given as goal
 
 -- the parents of those rows so far

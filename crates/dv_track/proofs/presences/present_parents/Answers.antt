@@ -1,4 +1,4 @@
-use Rattle.std.proofs.Common.{◌∙◌}
+use Rattle.dv_track.proofs.Vocabulary.{◌∙◌}
 use Rattle.dv_track.proofs.Amongst.{latest_present}
 use Rattle.dv_track.proofs.presences.present_parents.Goals as goal
 

@@ -1,5 +1,4 @@
-use Rattle.std.proofs.Common.{◌≡◌, ◌≤◌, ◌++◌, map, take}
-use Rattle.std.specs.Prelude.{vec_capacity}
+use Rattle.dv_track.proofs.Vocabulary.{◌≡◌, ◌≤◌, ◌++◌, map, take, vec_capacity}
 use Rattle.dv_track.proofs.presences.put_parents.Given as goal
 
 -- the parents of the rows so far

@@ -1,6 +1,4 @@
-use Rattle.std.specs.Cmp.Lexicographic.{nat_list_cmp_total, texts_ties}
-use Rattle.dv_text.proofs.Distinct.{ascending-sort_dedup, members-sort_dedup}
-use Rattle.dv_text.proofs.SortedLists.{sorted_by-members}
+use Rattle.dv_track.proofs.Vocabulary.{nat_list_cmp_total, texts_ties, ascending-sort_dedup, members-sort_dedup, sorted_by-members}
 use Rattle.dv_track.proofs.Presence.{exact}
 use Rattle.dv_track.proofs.presences.sort_distinct.Goals as goal
 

@@ -1,6 +1,4 @@
-use Rattle.std.specs.Cmp.Lexicographic.{nat_list_cmp_total}
-use Rattle.dv_text.proofs.SortedLists.{ascending-sorted_by}
-use Rattle.dv_records.specs.Batches.{digest_cmp}
+use Rattle.dv_track.proofs.Vocabulary.{nat_list_cmp_total, ascending-sorted_by, digest_cmp}
 use Rattle.dv_track.proofs.presences.update.Goals as goal
 
 pub merge-requires-clause-touched : goal.merge-requires-clause-touched

@@ -1,5 +1,4 @@
-use Rattle.std.proofs.Common.{sym, ap}
-use Rattle.dv_index.specs.Places.{latest_at}
+use Rattle.dv_keys.proofs.Vocabulary.{sym, ap, latest_at}
 use Rattle.dv_keys.proofs.Placed.{row_is}
 use Rattle.dv_keys.proofs.key_rows.KeyRows.row.Goals as goal
 

@@ -1,4 +1,4 @@
-use Rattle.std.proofs.Common.{sym, ◌∙◌}
+use Rattle.dv_keys.proofs.Vocabulary.{sym, ◌∙◌}
 use Rattle.dv_keys.proofs.Held.{is_held-rows}
 use Rattle.dv_keys.proofs.told_lists.ToldRowsHoldsLists.holds.Goals as goal
 

@@ -1,5 +1,4 @@
-use Rattle.std.proofs.Common.{sym, ◌∙◌, ap, not, option_map}
-use Rattle.dv_keys.specs.HeldLists.{differs_from}
+use Rattle.dv_keys.proofs.Vocabulary.{sym, ◌∙◌, ap, option_map, not, differs_from}
 use Rattle.dv_keys.proofs.KeyDeltas.{found_list}
 use Rattle.dv_keys.proofs.told_lists.ToldRowsHoldsLists.holds_other.Goals as goal
 

@@ -1,4 +1,4 @@
-use Rattle.std.proofs.Common.{Some, sym, ◌∙◌, ap, option_map}
+use Rattle.dv_keys.proofs.Vocabulary.{Some, sym, ◌∙◌, ap, option_map}
 use Rattle.dv_keys.proofs.KeyDeltas.{found_list}
 use Rattle.dv_keys.proofs.told_lists.ToldRowsHoldsLists.list.Goals as goal
 

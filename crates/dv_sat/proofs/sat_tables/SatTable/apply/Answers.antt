@@ -1,7 +1,4 @@
-use Rattle.std.proofs.Common.{◌++◌}
-use Rattle.dv_records.specs.SatPlaces.{sat_place}
-use Rattle.dv_records.specs.Satellites.{sat_cmp}
-use Rattle.dv_records.proofs.DatedRows.{in_load_order}
+use Rattle.dv_sat.proofs.Vocabulary.{◌++◌, sat_place, sat_cmp, in_load_order}
 use Rattle.dv_sat.proofs.sat_tables.SatTable.apply.Goals as goal
 
 pub apply-requires-clause-order : goal.apply-requires-clause-order

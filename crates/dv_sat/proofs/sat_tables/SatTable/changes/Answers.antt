@@ -1,6 +1,4 @@
-use Rattle.dv_text.specs.Keys.{hashes_of}
-use Rattle.dv_text.proofs.Members.{filter_map_more}
-use Rattle.dv_sat.specs.SatRows.{sat_change}
+use Rattle.dv_sat.proofs.Vocabulary.{hashes_of, filter_map_more, sat_change}
 use Rattle.dv_sat.proofs.sat_tables.SatTable.changes.Goals as goal
 
 pub loop-row-preserved : goal.loop-row-preserved

@@ -1,7 +1,4 @@
-use Rattle.std.proofs.Common.{◌≡◌, take}
-use Rattle.std.specs.List.{filter_map}
-use Rattle.dv_text.specs.Keys.{hashes_of}
-use Rattle.dv_sat.specs.SatRows.{sat_change}
+use Rattle.dv_sat.proofs.Vocabulary.{◌≡◌, take, filter_map, hashes_of, sat_change}
 use Rattle.dv_sat.proofs.sat_tables.SatTable.changes.Given as goal
 
 -- what the rows so far add

@@ -1,8 +1,4 @@
-use Rattle.std.proofs.Common.{◌∙◌, sym}
-use Rattle.std.specs.Str.{bytes_eq}
-use Rattle.dv_records.specs.declared.raw_rows.SatRow.{SatRow}
-use Rattle.dv_records.specs.Satellites.{sat_cmp}
-use Rattle.dv_records.proofs.DatedRows.{found_up_to_last}
+use Rattle.dv_sat.proofs.Vocabulary.{◌∙◌, sym, bytes_eq, SatRow, sat_cmp, found_up_to_last}
 use Rattle.dv_sat.proofs.sat_tables.SatTable.current.Goals as goal
 
 pub returns : goal.returns

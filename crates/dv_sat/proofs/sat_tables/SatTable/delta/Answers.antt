@@ -1,13 +1,4 @@
-use Rattle.std.proofs.Common.{◌∙◌}
-use Rattle.std.specs.List.{filter_map}
-use Rattle.dv_text.proofs.SortedLists.{ascending-sorted_by}
-use Rattle.dv_records.specs.Batches.{batch_of}
-use Rattle.dv_text.specs.Keys.{hashes_of}
-use Rattle.dv_catalog.specs.Feeds.{source}
-use Rattle.dv_records.specs.declared.raw_rows.SatRow.{SatRow}
-use Rattle.dv_records.specs.Satellites.{sat_cmp}
-use Rattle.dv_sat.specs.SatRows.{sat_change}
-use Rattle.dv_records.proofs.DatedRows.{delta_follows, delta_stamped}
+use Rattle.dv_sat.proofs.Vocabulary.{◌∙◌, filter_map, ascending-sorted_by, batch_of, hashes_of, source, SatRow, sat_cmp, sat_change, delta_follows, delta_stamped}
 use Rattle.dv_sat.proofs.SatDeltaBatch.{delta_is_batch}
 use Rattle.dv_sat.proofs.SatFollowing.{made_stamped, sat_total}
 use Rattle.dv_sat.proofs.sat_tables.SatTable.delta.Goals as goal

@@ -1,6 +1,4 @@
-use Rattle.dv_records.specs.SatPlaces.{sat_place}
-use Rattle.dv_records.specs.Satellites.{sat_cmp}
-use Rattle.dv_records.proofs.DatedRows.{in_load_order}
+use Rattle.dv_sat.proofs.Vocabulary.{sat_place, sat_cmp, in_load_order}
 use Rattle.dv_sat.proofs.sat_tables.SatTable.from_rows.Goals as goal
 
 pub from_rows-requires : goal.from_rows-requires

@@ -1,7 +1,4 @@
-use Rattle.std.proofs.Common.{◌∙◌, sym}
-use Rattle.dv_records.specs.declared.raw_rows.SatRow.{SatRow}
-use Rattle.dv_records.specs.Satellites.{sat_cmp}
-use Rattle.dv_records.proofs.DatedRows.{last_load}
+use Rattle.dv_sat.proofs.Vocabulary.{◌∙◌, sym, SatRow, sat_cmp, last_load}
 use Rattle.dv_sat.proofs.sat_tables.SatTable.has_load.Goals as goal
 
 pub returns-in-Some-clause-value : goal.returns-in-Some-clause-value

@@ -1,10 +1,4 @@
-use Rattle.std.proofs.Common.{◌≡◌, ◌++◌, ◌∙◌, refl, ap, arith, length}
-use Rattle.std.proofs.lemmas.List.{length-map}
-use Rattle.dv_records.specs.declared.raw_rows.StatusRow.{StatusRow}
-use Rattle.dv_track.specs.Tracks.{parents_of}
-use Rattle.dv_records.specs.StatusPlaces.{status_place}
-use Rattle.dv_records.specs.Statuses.{status_cmp}
-use Rattle.dv_records.proofs.DatedRows.{in_load_order}
+use Rattle.dv_track.proofs.Vocabulary.{◌≡◌, ◌++◌, ◌∙◌, refl, ap, arith, length, length-map, StatusRow, parents_of, status_place, status_cmp, in_load_order}
 use Rattle.dv_track.proofs.Presence.{kept_ascend, updated_present}
 use Rattle.dv_track.proofs.status_tables.StatusTable.append.Goals as goal
 

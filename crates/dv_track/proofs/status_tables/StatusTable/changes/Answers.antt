@@ -1,4 +1,4 @@
-use Rattle.std.proofs.Common.{◌∙◌}
+use Rattle.dv_track.proofs.Vocabulary.{◌∙◌}
 use Rattle.dv_track.proofs.Changed.{all_changes}
 use Rattle.dv_track.proofs.Presence.{present_ascend}
 use Rattle.dv_track.proofs.status_tables.StatusTable.changes.Goals as goal

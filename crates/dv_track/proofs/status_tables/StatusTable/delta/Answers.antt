@@ -1,7 +1,4 @@
-use Rattle.std.proofs.Common.{◌∙◌}
-use Rattle.dv_text.specs.Keys.{hashes_of}
-use Rattle.dv_catalog.specs.Feeds.{source}
-use Rattle.dv_records.specs.History.{all_refs}
+use Rattle.dv_track.proofs.Vocabulary.{◌∙◌, hashes_of, source, all_refs}
 use Rattle.dv_track.proofs.DeltaBatch.{delta_is_batch}
 use Rattle.dv_track.proofs.Following.{all_have, follows}
 use Rattle.dv_track.proofs.status_tables.StatusTable.delta.Goals as goal

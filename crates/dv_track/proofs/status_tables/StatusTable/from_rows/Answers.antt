@@ -1,7 +1,4 @@
-use Rattle.std.proofs.Common.{◌∙◌}
-use Rattle.dv_records.specs.StatusPlaces.{status_place}
-use Rattle.dv_records.specs.Statuses.{status_cmp}
-use Rattle.dv_records.proofs.DatedRows.{in_load_order}
+use Rattle.dv_track.proofs.Vocabulary.{◌∙◌, status_place, status_cmp, in_load_order}
 use Rattle.dv_track.proofs.Presence.{made_present}
 use Rattle.dv_track.proofs.status_tables.StatusTable.from_rows.Goals as goal
 

@@ -1,5 +1,5 @@
 use Rattle.dv_keys.proofs.LinkWindows.{next_batch, next_collides, next_free}
-use Rattle.dv_keys.proofs.laws.link_delta_is_batch.Goals as goal
+use Rattle.dv_laws.proofs.deltas.link_delta_is_batch.Goals as goal
 
 pub returns-clause-batch : goal.returns-clause-batch
 returns-clause-batch c = next_batch

@@ -1,5 +1,5 @@
-use Rattle.dv_keys.proofs.HubWindows.{next_batch, next_collides, next_free}
-use Rattle.dv_keys.proofs.laws.hub_delta_is_batch.Goals as goal
+use Rattle.dv_laws.proofs.Vocabulary.{next_batch, next_collides, next_free}
+use Rattle.dv_laws.proofs.deltas.hub_delta_is_batch.Goals as goal
 
 pub returns-clause-batch : goal.returns-clause-batch
 returns-clause-batch c = next_batch
