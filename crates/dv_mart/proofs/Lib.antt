@@ -1,5 +1,6 @@
 pub mod NoFeeds
 pub mod OfferedTables
-pub mod VaultMarts
 pub mod PartColumns
 pub mod RowTexts
+pub mod VaultMarts
+pub mod Vocabulary

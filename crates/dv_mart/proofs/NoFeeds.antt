@@ -1,10 +1,5 @@
 -- Where no feed has the name behind `feed:`, a word names no feed.
-use Rattle.std.proofs.Common.{◌≡◌, ℕ, List, Option, Some, None, option_map, ap, codes, ◌∙◌}
-use Rattle.std.specs.Prelude.{option_and_then}
-use Rattle.dv_catalog.specs.Entries.{Mapping}
-use Rattle.dv_mart.specs.Whats.{behind, feed_place, feed_word}
-use Rattle.dv_mart.specs.declared.whats.What.{What}
-use Rattle.dv_mart.specs.declared.whats.What.TheVariants.{Feed}
+use Rattle.dv_mart.proofs.Vocabulary.{◌≡◌, ℕ, List, Option, Some, None, option_map, ap, codes, ◌∙◌, option_and_then, Mapping, behind, feed_place, feed_word, What, Feed}
 
 abbrev feed_at : Option ℕ → Option What
 feed_at place = option_map (λ feed. Feed feed) place

@@ -1,22 +1,6 @@
 -- What an offered word can name: a feed of the mapping, or one of its tables.
-use Rattle.std.proofs.Common.{◌≡◌, ℕ, ◌<◌, Bool, true, false, List, [], ◌∷◌, Option, Some, None, refl, sym, ◌∙◌, ap, subst, arith, codes, length, nat_lt}
-use Rattle.std.specs.Prelude.{Contains, cond, option_and_then, option_map}
-use Rattle.std.specs.List.{list_all, position_or_len}
-use Rattle.std.specs.Str.{bytes_eq}
-use Rattle.std.proofs.lemmas.Bool.Decides.{nat_tests}
-use Rattle.dv_catalog.specs.declared.tables.TableId.{TableId}
-use Rattle.dv_catalog.specs.Built.{unbuilt}
-use Rattle.dv_catalog.specs.Entries.{Mapping}
-use Rattle.dv_catalog.specs.FirstOf.{first_of}
-use Rattle.dv_catalog.specs.Tables.{table_name, tables}
-use Rattle.dv_text.proofs.Passing.{found_member}
-use Rattle.dv_vault.proofs.Passing.{passes_at}
-use Rattle.dv_vault.specs.Vaults.{is_kept}
-use Rattle.dv_vault.proofs.BuiltTables.{tables_kept}
-use Rattle.dv_mart.specs.declared.whats.What.{What}
-use Rattle.dv_mart.specs.declared.whats.What.TheVariants.{Feed, Table}
-use Rattle.dv_mart.specs.OfferedMarts.{IsOffered}
-use Rattle.dv_mart.specs.Whats.{behind, feed_place, feed_word, table_named, table_word}
+use Rattle.dv_mart.proofs.Vocabulary.{◌≡◌, ℕ, ◌<◌, Bool, true, false, List, [], ◌∷◌, Option, Some, None, refl, sym, ◌∙◌, ap, subst, arith, codes, length, nat_lt, option_map, Contains, cond, option_and_then, list_all, position_or_len, bytes_eq, nat_tests, TableId, unbuilt, Mapping, first_of}
+use Rattle.dv_mart.proofs.Vocabulary.{table_name, tables, found_member, passes_at, is_kept, tables_kept, What, Feed, Table, IsOffered, behind, feed_place, feed_word, table_named, table_word}
 
 abbrev pub CanBe : Mapping → What → Type 0
 CanBe mapping (Feed feed) = feed < length mapping.feeds

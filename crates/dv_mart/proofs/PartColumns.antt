@@ -1,9 +1,5 @@
 -- The columns of a hub's table, one key part after the other.
-use Rattle.std.proofs.Common.{◌≡◌, ℕ, ◌+◌, List, [], ◌∷◌, ◌++◌, codes, map, ap, arith, sym, ◌∙◌}
-use Rattle.std.specs.Fmt.{decimal}
-use Rattle.std.specs.List.{range_with_len}
-use Rattle.std.proofs.lemmas.List.FromFn.{map-range_with_len_more}
-use Rattle.dv_mart.specs.Texts.{raw_header}
+use Rattle.dv_mart.proofs.Vocabulary.{◌≡◌, ℕ, ◌+◌, List, [], ◌∷◌, ◌++◌, codes, map, ap, arith, sym, ◌∙◌, decimal, range_with_len, map-range_with_len_more, raw_header}
 
 abbrev part_column : ℕ → List ℕ
 part_column n = codes "part_" ++ decimal n

@@ -1,8 +1,5 @@
 -- A row is written alike whether or not the rows may have another number of fields.
-use Rattle.std.proofs.Common.{◌≡◌, ℕ, ◌==◌, List, [], ◌∷◌, ◌++◌, ap, length, refl}
-use Rattle.std.specs.Prelude.{if◌then◌else◌, true, false}
-use Rattle.csv.specs.Writing.{default_writer, end_text, escaped, fields_text, field_text, is_blank, quoted, needs_quotes, row_body, row_text}
-use Rattle.dv_mart.specs.Writers.{row_writer}
+use Rattle.dv_mart.proofs.Vocabulary.{◌≡◌, ℕ, ◌==◌, List, [], ◌∷◌, ◌++◌, ap, length, refl, true, false, if◌then◌else◌, default_writer, end_text, escaped, fields_text, field_text, is_blank, quoted, needs_quotes, row_body, row_text, row_writer}
 
 escaped_alike : (field : List ℕ) → escaped row_writer field ≡ escaped default_writer field
 unfolding escaped

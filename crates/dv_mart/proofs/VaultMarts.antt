@@ -1,23 +1,7 @@
 -- What the tables of a vault hold is told by its sealed windows.
-use Rattle.std.proofs.Common.{◌≡◌, ℕ, ◌<◌, true, List, ◌∙◌, ap, arith, length, nat_lt, reverse}
-use Rattle.std.specs.Prelude.{Contains}
-use Rattle.std.proofs.lemmas.Bool.Decides.{nat_tests}
-use Rattle.dv_text.specs.declared.rows.Window.{Window}
-use Rattle.dv_text.specs.Keys.{Hashes}
-use Rattle.dv_catalog.specs.declared.tables.TableId.{TableId}
+use Rattle.dv_mart.proofs.Vocabulary.{◌≡◌, ℕ, ◌<◌, true, List, ◌∙◌, ap, arith, length, nat_lt, reverse, Contains, nat_tests, Window, Hashes, TableId, Mapping, is_table_of, tables, tables_in, Rows, rows_in, rows_up_to, table_after, vault_holds, HasSealed, RawVault, passes_at, Table, mart_text}
+use Rattle.dv_mart.proofs.Vocabulary.{table_text}
 use Rattle.dv_catalog.specs.declared.tables.TableId.TheVariants as ids
-use Rattle.dv_catalog.specs.Entries.{Mapping}
-use Rattle.dv_catalog.specs.TableLookups.{is_table_of}
-use Rattle.dv_catalog.specs.Tables.{tables}
-use Rattle.dv_catalog.proofs.TablesIn.{tables_in}
-use Rattle.dv_records.specs.declared.stores.Rows.{Rows}
-use Rattle.dv_records.specs.Stores.{rows_in}
-use Rattle.dv_records.specs.Vault.{rows_up_to, table_after}
-use Rattle.dv_records.proofs.VaultRows.{vault_holds}
-use Rattle.dv_vault.specs.Vaults.{HasSealed, RawVault}
-use Rattle.dv_vault.proofs.Passing.{passes_at}
-use Rattle.dv_mart.specs.declared.whats.What.TheVariants.{Table}
-use Rattle.dv_mart.specs.MartTexts.{mart_text, table_text}
 
 -- ---- a table of the mapping
 

@@ -1,20 +1,8 @@
 -- Tables and their batches, one table after the other.
-use Rattle.std.proofs.Common.{◌≡◌, ℕ, ◌+◌, ◌<◌, ◌≤◌, ◌==◌, Bool, true, false, List, [], ◌∷◌, ◌++◌, refl, sym, ◌∙◌, ap, subst, arith, add-one, append-nil, drop, drop-cons, get_or, length, map, not, slice_set, suc, take, zero}
-use Rattle.std.specs.Prelude.{◌||◌, if◌then◌else◌}
-use Rattle.std.specs.List.{AllZip, list_any}
-use Rattle.std.proofs.lemmas.Bool.{and_parts}
-use Rattle.std.proofs.lemmas.Bool.Decides.{nat_tests}
-use Rattle.std.proofs.lemmas.List.{drop-set-lt, take_more, take_more_set}
-use Rattle.dv_catalog.specs.declared.tables.TableId.{TableId}
+use Rattle.dv_vault.proofs.Vocabulary.{◌≡◌, ℕ, ◌+◌, ◌<◌, ◌≤◌, ◌==◌, Bool, true, false, List, [], ◌∷◌, ◌++◌, refl, sym, ◌∙◌, ap, subst, arith, add-one, append-nil, drop, drop-cons, get_or, length, map, not, slice_set, suc, take, zero, ◌||◌, if◌then◌else◌, AllZip, list_any, and_parts, nat_tests}
+use Rattle.dv_vault.proofs.Vocabulary.{drop-set-lt, take_more, take_more_set, TableId, Rows, TableRows, appended_to, are_apart, is_of_kind, no_rows, row_count, rows_in, rows_then, table_eq, Table, HaveRoom, Follow, entry_of, spare_of, entries_with, same_table}
 use Rattle.dv_catalog.specs.declared.tables.TableId.TheVariants as ids
-use Rattle.dv_records.specs.declared.stores.Rows.{Rows}
 use Rattle.dv_records.specs.declared.stores.Rows.TheVariants as of
-use Rattle.dv_records.specs.declared.stores.TableRows.{TableRows}
-use Rattle.dv_records.specs.Stores.{appended_to, are_apart, is_of_kind, no_rows, row_count, rows_in, rows_then, table_eq}
-use Rattle.dv_vault.specs.declared.tables.Table.{Table}
-use Rattle.dv_vault.specs.Keeping.{HaveRoom}
-use Rattle.dv_vault.specs.Vaults.{Follow, entry_of, spare_of, entries_with}
-use Rattle.dv_records.proofs.WellFormedTables.{same_table}
 use Rattle.dv_vault.proofs.VaultFacts.{table_itself}
 
 -- ---- pairs

@@ -1,27 +1,7 @@
 -- What a window adds to tables, one table after the other.
-use Rattle.std.proofs.Common.{◌≡◌, ℕ, zero, suc, ◌+◌, ◌<◌, ◌≤◌, Bool, true, List, [], ◌∷◌, ◌++◌, refl, sym, ◌∙◌, ap, arith, drop, drop-cons, get_or, length, map, subst, take}
-use Rattle.std.specs.Prelude.{All, Err, IfOk, Result}
-use Rattle.std.specs.List.{AllZip, list_all}
-use Rattle.std.proofs.lemmas.Bool.{and_parts}
-use Rattle.std.proofs.lemmas.List.{map-append, take-append-drop, take_more}
-use Rattle.std.proofs.lemmas.List.Elements.{All-append}
-use Rattle.std.proofs.lemmas.List.Folds.{list_all-map}
-use Rattle.dv_text.specs.declared.rows.Window.{Window}
-use Rattle.dv_text.specs.Keys.{Hashes}
-use Rattle.dv_catalog.specs.declared.tables.TableId.{TableId}
-use Rattle.dv_catalog.specs.Entries.{Mapping}
-use Rattle.dv_catalog.specs.TableLookups.{is_table_of}
-use Rattle.dv_catalog.proofs.TablesIn.{tables_in}
-use Rattle.dv_records.specs.declared.deliveries.DeltaFault.{DeltaFault}
-use Rattle.dv_records.specs.declared.deliveries.DeltaFault.TheVariants.{Collision, Memory}
-use Rattle.dv_records.specs.declared.raw_rows.HubRow.{HubRow}
-use Rattle.dv_records.specs.declared.stores.Rows.{Rows}
-use Rattle.dv_records.specs.declared.stores.TableRows.{TableRows}
-use Rattle.dv_records.specs.Deltas.{HasNoClash, IfCollides, IsLeastClash}
-use Rattle.dv_records.specs.HubNames.{HubName}
-use Rattle.dv_vault.specs.declared.additions.AdditionFault.{AdditionFault}
-use Rattle.dv_vault.specs.Additions.{AreApartBy, ClashesAt, FollowAll, fault_at}
-use Rattle.dv_vault.specs.Vaults.{AreOfLoad, Follow, IsVaultOf, added_to, hashed_in, names_of_rows}
+use Rattle.dv_vault.proofs.Vocabulary.{◌≡◌, ℕ, zero, suc, ◌+◌, ◌<◌, ◌≤◌, Bool, true, List, [], ◌∷◌, ◌++◌, refl, sym, ◌∙◌, ap, arith, drop, drop-cons, get_or, length, map, subst, take, All, Err, IfOk, Result, AllZip, list_all, and_parts, map-append, take-append-drop, take_more, All-append}
+use Rattle.dv_vault.proofs.Vocabulary.{list_all-map, Window, Hashes, TableId, Mapping, is_table_of, tables_in, DeltaFault, Collision, Memory, HubRow, Rows, TableRows, HasNoClash, IfCollides, IsLeastClash, HubName, AdditionFault, AreApartBy, ClashesAt, FollowAll, fault_at, Follow, IsVaultOf}
+use Rattle.dv_vault.proofs.Vocabulary.{added_to, hashed_in, names_of_rows, AreOfLoad}
 use Rattle.dv_vault.proofs.BatchSteps.{pairs_push, whole}
 
 -- an item at a place passes what all pass

@@ -1,20 +1,7 @@
 -- The tables of a mapping in which every form is built are those that a vault keeps.
-use Rattle.std.proofs.Common.{◌≡◌, ℕ, zero, suc, ◌+◌, Bool, true, List, [], ◌∷◌, ◌++◌, Some, None, refl, ◌∙◌, map, length}
-use Rattle.std.specs.Prelude.{slice_get}
-use Rattle.std.specs.List.{list_all, range_with_len}
-use Rattle.std.proofs.lemmas.Bool.{and_from}
-use Rattle.std.proofs.lemmas.List.Folds.{list_all-append}
-use Rattle.dv_catalog.specs.declared.entries.FeedDef.{FeedDef}
-use Rattle.dv_catalog.specs.declared.tables.TableId.{TableId}
+use Rattle.dv_vault.proofs.Vocabulary.{◌≡◌, ℕ, zero, suc, ◌+◌, Bool, true, List, [], ◌∷◌, ◌++◌, Some, None, refl, ◌∙◌, map, length, slice_get, list_all, range_with_len, and_from, list_all-append, FeedDef, TableId, unbuilt, Mapping, effect_tables, feed_tables, sat_tables, tables, built_forms}
+use Rattle.dv_vault.proofs.Vocabulary.{BuiltFeed, is_kept, all_pass_both}
 use Rattle.dv_catalog.specs.declared.tables.TableId.TheVariants as ids
-use Rattle.dv_catalog.specs.Built.{unbuilt}
-use Rattle.dv_catalog.specs.Entries.{Mapping}
-use Rattle.dv_catalog.specs.Tables.{effect_tables, feed_tables, sat_tables, tables}
-use Rattle.dv_catalog.proofs.BuiltMappings.{built_forms, BuiltFeed}
-use Rattle.dv_vault.specs.Vaults.{is_kept}
-
-pub all_both : {X : Type 0} (p : X → Bool) (xs ys : List X) → list_all p xs ≡ true → list_all p ys ≡ true → list_all p (xs ++ ys) ≡ true
-all_both p xs ys first second = list_all-append p xs ys ∙ and_from _ _ first second
 
 hubs_kept : (places : List ℕ) → list_all is_kept (map (λ n. ids.Hub n) places) ≡ true
 hubs_kept [] = refl
@@ -37,8 +24,8 @@ feeds_kept : (n : ℕ) (feeds : List FeedDef) → ((i : ℕ) (feed : FeedDef) �
 feeds_kept n [] built = refl
 feeds_kept n (feed ∷ feeds) built =
     let here = built zero feed refl in
-    all_both is_kept (sat_tables n feed.sub feed.attrs ++ ids.Status n ∷ effect_tables n feed.driver) (feed_tables (n + 1) feeds)
-    (all_both is_kept (sat_tables n feed.sub feed.attrs) (ids.Status n ∷ effect_tables n feed.driver) (sats_kept n feed.sub feed.attrs here.no_sub) (effects_kept n feed.driver here.no_driver))
+    all_pass_both is_kept (sat_tables n feed.sub feed.attrs ++ ids.Status n ∷ effect_tables n feed.driver) (feed_tables (n + 1) feeds)
+    (all_pass_both is_kept (sat_tables n feed.sub feed.attrs) (ids.Status n ∷ effect_tables n feed.driver) (sats_kept n feed.sub feed.attrs here.no_sub) (effects_kept n feed.driver here.no_driver))
     (feeds_kept (n + 1) feeds (λ i other got. built (suc i) other got))
 
 pub tables_kept : (mapping : Mapping) → unbuilt mapping ≡ None → list_all is_kept (tables mapping) ≡ true
@@ -46,6 +33,6 @@ tables_kept mapping e =
     let hubs : List TableId = map (λ n. ids.Hub n) (range_with_len 0 (length mapping.hubs)) in
     let links : List TableId = map (λ n. ids.Link n) (range_with_len 0 (length mapping.links)) in
     let forms = built_forms mapping e in
-    all_both is_kept (hubs ++ links) (feed_tables 0 mapping.feeds)
-    (all_both is_kept hubs links (hubs_kept (range_with_len 0 (length mapping.hubs))) (links_kept (range_with_len 0 (length mapping.links))))
+    all_pass_both is_kept (hubs ++ links) (feed_tables 0 mapping.feeds)
+    (all_pass_both is_kept hubs links (hubs_kept (range_with_len 0 (length mapping.hubs))) (links_kept (range_with_len 0 (length mapping.links))))
     (feeds_kept 0 mapping.feeds forms.feeds)

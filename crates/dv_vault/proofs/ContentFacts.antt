@@ -1,36 +1,9 @@
 -- What is read back from the vault, by what its tables answer.
-use Rattle.std.proofs.Common.{◌≡◌, ◌⊎◌, inl, inr, ℕ, zero, suc, ◌+◌, ◌<◌, ◌==◌, Bool, true, false, List, [], ◌∷◌, ◌++◌, Option, Some, None, Bor, refl, sym, ◌∙◌, ap, arith, get_or, length, take}
-use Rattle.std.specs.Prelude.{if◌then◌else◌, slice_get}
-use Rattle.std.specs.List.{filter_map}
-use Rattle.std.specs.Option.{option_map, option_map_or, option_to_list}
-use Rattle.std.proofs.lemmas.Bool.Decides.{nat_tests}
-use Rattle.std.proofs.lemmas.List.{take_more}
-use Rattle.std.proofs.lemmas.List.Elements.{filter_map-append}
-use Rattle.dv_text.specs.declared.rows.Key.{Key}
-use Rattle.dv_text.specs.declared.rows.NRow.{NRow}
-use Rattle.dv_text.specs.declared.rows.Window.{Window}
-use Rattle.dv_text.specs.Keys.{Hashes}
+use Rattle.dv_vault.proofs.Vocabulary.{◌≡◌, ◌⊎◌, inl, inr, ℕ, zero, suc, ◌+◌, ◌<◌, ◌==◌, Bool, true, false, List, [], ◌∷◌, ◌++◌, Option, Some, None, Bor, refl, sym, ◌∙◌, ap, arith, get_or, length, take, if◌then◌else◌, slice_get, filter_map, option_map, option_map_or, option_to_list, nat_tests}
+use Rattle.dv_vault.proofs.Vocabulary.{take_more, filter_map-append, Key, NRow, Window, Hashes, sorted_by, FeedDef, LinkDef, Parent, Hub, Link, Mapping, link_hubs, parent_hubs, is_declared, built_forms, HubRow, LinkRow, SatRow, StatusRow, TableRows, feed_mart, attrs_read, content_read}
+use Rattle.dv_vault.proofs.Vocabulary.{content_read_by, hub_row_by, hub_rows_in, keys_read, link_row_by, link_rows_in, present_parents, refs_read, row_read, sat_rows, sat_rows_in, status_rows_in, valid_at, feed_tells, HasSealed, IsBuilt, RawVault, has_table, is_parent}
 use Rattle.dv_text.specs.Orders.{row_cmp}
-use Rattle.dv_text.specs.Sorting.{sorted_by}
-use Rattle.dv_catalog.specs.declared.entries.FeedDef.{FeedDef}
-use Rattle.dv_catalog.specs.declared.entries.LinkDef.{LinkDef}
-use Rattle.dv_catalog.specs.declared.entries.Parent.{Parent}
-use Rattle.dv_catalog.specs.declared.entries.Parent.TheVariants.{Hub, Link}
 use Rattle.dv_catalog.specs.declared.tables.TableId.TheVariants as ids
-use Rattle.dv_catalog.specs.Entries.{Mapping}
-use Rattle.dv_catalog.specs.Feeds.{link_hubs, parent_hubs}
-use Rattle.dv_catalog.specs.Mappings.{is_declared}
-use Rattle.dv_catalog.proofs.BuiltMappings.{built_forms}
-use Rattle.dv_records.specs.declared.raw_rows.HubRow.{HubRow}
-use Rattle.dv_records.specs.declared.raw_rows.LinkRow.{LinkRow}
-use Rattle.dv_records.specs.declared.raw_rows.SatRow.{SatRow}
-use Rattle.dv_records.specs.declared.raw_rows.StatusRow.{StatusRow}
-use Rattle.dv_records.specs.declared.stores.TableRows.{TableRows}
-use Rattle.dv_records.specs.Marts.{feed_mart}
-use Rattle.dv_records.specs.ReadBack.{attrs_read, content_read, content_read_by, hub_row_by, hub_rows_in, keys_read, link_row_by, link_rows_in, present_parents, refs_read, row_read, sat_rows, sat_rows_in, status_rows_in}
-use Rattle.dv_records.specs.Reconstruction.{valid_at}
-use Rattle.dv_records.proofs.ReadBack.{feed_tells}
-use Rattle.dv_vault.specs.Vaults.{HasSealed, IsBuilt, RawVault, has_table, is_parent}
 use Rattle.dv_vault.proofs.VaultFacts.{absent_rows, seen-twice}
 
 -- what is made of a thing that two looks found

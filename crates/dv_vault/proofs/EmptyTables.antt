@@ -1,18 +1,7 @@
 -- The vault of no windows.
-use Rattle.std.proofs.Common.{◌≡◌, ℕ, ◌+◌, Bool, true, false, List, [], ◌∷◌, refl, sym, ◌∙◌, ap, arith, map}
-use Rattle.std.specs.Prelude.{if◌then◌else◌}
-use Rattle.std.proofs.lemmas.List.Sums.{sum_by-cons}
-use Rattle.dv_text.specs.Keys.{Hashes}
-use Rattle.dv_catalog.specs.declared.tables.TableId.{TableId}
+use Rattle.dv_vault.proofs.Vocabulary.{◌≡◌, ℕ, ◌+◌, Bool, true, false, List, [], ◌∷◌, refl, sym, ◌∙◌, ap, arith, map, if◌then◌else◌, sum_by-cons, Hashes, TableId, Mapping, tables, TableRows, no_rows, rows_in, table_eq, table_entry, rows_weight, tables_weight, IsVaultOf, are_empty, are_rows_kept}
+use Rattle.dv_vault.proofs.Vocabulary.{same_table}
 use Rattle.dv_catalog.specs.declared.tables.TableId.TheVariants as ids
-use Rattle.dv_catalog.specs.Entries.{Mapping}
-use Rattle.dv_catalog.specs.Tables.{tables}
-use Rattle.dv_records.specs.declared.stores.TableRows.{TableRows}
-use Rattle.dv_records.specs.Stores.{no_rows, rows_in, table_eq}
-use Rattle.dv_records.specs.Vault.{table_entry}
-use Rattle.dv_records.specs.Weights.{rows_weight, tables_weight}
-use Rattle.dv_vault.specs.Vaults.{IsVaultOf, are_empty, are_rows_kept}
-use Rattle.dv_records.proofs.WellFormedTables.{same_table}
 
 pub empty_tables : (all : List TableId) → map (λ (entry : TableRows). entry.table) (map (λ id. record { table = id; rows = no_rows id }) all) ≡ all
 empty_tables [] = refl

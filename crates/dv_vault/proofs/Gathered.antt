@@ -1,44 +1,9 @@
 -- What is gathered from a window's rows and sorted is what the window delivers.
-use Rattle.std.proofs.Common.{◌≡◌, ℕ, zero, suc, ◌+◌, ◌<◌, ◌≤◌, Bool, true, false, List, [], ◌∷◌, ◌++◌, Option, Some, None, drop, drop-cons, filter, get_or, refl, sym, ◌∙◌, ap, map, append_assoc}
-use Rattle.std.specs.Prelude.{◌==◌, find, if◌then◌else◌, length, not, slice_get}
-use Rattle.std.specs.Option.{option_map_or}
-use Rattle.std.specs.declared.cmp.Ordering.{Ordering}
-use Rattle.std.specs.Cmp.{IsTotalOrder, on_total}
-use Rattle.std.specs.Cmp.Lexicographic.{lists_ties, texts_ties}
-use Rattle.std.specs.List.{flat_map, list_all}
-use Rattle.std.specs.List.Sorted.{IsStrictlySortedBy}
-use Rattle.std.specs.Ordering.{eq_by_cmp}
-use Rattle.std.proofs.lemmas.List.{append-nil, drop_all, map-append}
-use Rattle.std.proofs.lemmas.List.Elements.{filter-append}
-use Rattle.std.proofs.lemmas.Bool.Decides.{nat_tests}
-use Rattle.std.proofs.lemmas.Option.{same_Some, slice_get-get_or, slice_get_within}
-use Rattle.std.proofs.Math.Numerals.{add-one}
-use Rattle.std.proofs.Common.{arith}
-use Rattle.dv_text.specs.declared.rows.Key.{Key}
-use Rattle.dv_text.specs.declared.rows.NRow.{NRow}
-use Rattle.dv_text.specs.declared.rows.Staged.{Staged}
-use Rattle.dv_text.specs.declared.rows.Window.{Window}
-use Rattle.dv_text.specs.Keys.{is_missing, refs_eq}
-use Rattle.dv_text.specs.Orders.{key_cmp, refs_cmp, text_cmp}
-use Rattle.dv_text.specs.Sorting.{sorted_by}
-use Rattle.dv_text.proofs.Members.{IsStrictlySortedBy-filter_map}
-use Rattle.dv_text.proofs.SortedLists.{ascending-sorted_by, same_ascending}
-use Rattle.dv_catalog.specs.declared.entries.FeedDef.{FeedDef}
-use Rattle.dv_catalog.specs.declared.entries.Parent.{Parent}
-use Rattle.dv_catalog.specs.declared.entries.Parent.TheVariants.{Hub, Link}
-use Rattle.dv_catalog.specs.Entries.{Mapping}
-use Rattle.dv_catalog.specs.Feeds.{feed_hubs, is_fed_by, keys_at}
-use Rattle.dv_catalog.specs.Mappings.{is_declared, is_valid}
-use Rattle.dv_catalog.proofs.ValidReads.{valid_feed}
-use Rattle.dv_records.specs.declared.deliveries.Delivery.{Delivery}
-use Rattle.dv_records.specs.Deliveries.{deliveries, first_offer, offered_refs, offers, offers_of, refs_from, table_of}
-use Rattle.dv_records.specs.History.{all_refs}
-use Rattle.dv_text.proofs.Deciding.{refs_total}
-use Rattle.dv_records.proofs.Delivered.{deliveries_member, first_offer-refs}
-use Rattle.dv_vault.specs.declared.offers.Offer.{Offer}
-use Rattle.dv_vault.specs.Offered.{Offered, all_offered, delivery_to, kept, offer_cmp, offered_by, single_keys, stands_at}
-use Rattle.dv_vault.proofs.Passing.{none_behind}
-use Rattle.dv_vault.proofs.Firsts.{eq_by_cmp-turned, find-same, first-sorted, sorted-first, sorted_by-map}
+use Rattle.dv_vault.proofs.Vocabulary.{◌≡◌, ℕ, zero, suc, ◌+◌, ◌<◌, ◌≤◌, Bool, true, false, List, [], ◌∷◌, ◌++◌, Option, Some, None, drop, drop-cons, filter, get_or, refl, sym, ◌∙◌, ap, map, append_assoc, ◌==◌, length, not, append-nil, add-one, arith, find, if◌then◌else◌, slice_get}
+use Rattle.dv_vault.proofs.Vocabulary.{option_map_or, Ordering, IsTotalOrder, on_total, lists_ties, texts_ties, flat_map, list_all, IsStrictlySortedBy, eq_by_cmp, drop_all, map-append, filter-append, nat_tests, same_Some, slice_get-get_or, slice_get_within, Key, NRow, Staged, Window, is_missing}
+use Rattle.dv_vault.proofs.Vocabulary.{refs_eq, key_cmp, refs_cmp, text_cmp, sorted_by, IsStrictlySortedBy-filter_map, ascending-sorted_by, same_ascending, FeedDef, Parent, Hub, Link, Mapping, feed_hubs, is_fed_by, keys_at, is_declared, is_valid, valid_feed, Delivery, deliveries, first_offer}
+use Rattle.dv_vault.proofs.Vocabulary.{offered_refs, offers, offers_of, refs_from, table_of, all_refs, refs_total, deliveries_member, first_offer-refs, Offer, Offered, all_offered, delivery_to, kept, offer_cmp, offered_by, single_keys, stands_at, eq_by_cmp_equiv, refs-tie, none_behind, find_same}
+use Rattle.dv_vault.proofs.Vocabulary.{first-sorted, sorted-first, sorted_by-map}
 
 -- ---- lists that are kept
 
@@ -103,9 +68,6 @@ by_refs_total = on_total (λ (item : Delivery). item.refs) refs_total
 pub offers_total : IsTotalOrder offer_cmp
 offers_total = on_total (λ (offer : Offer). offer.refs.now) refs_total
 
-pub refs_ties : (a b : List Key) → refs_eq a b ≡ eq_by_cmp refs_cmp a b
-refs_ties = lists_ties key_cmp (λ a b. lists_ties text_cmp texts_ties a.parts b.parts)
-
 module _ (mapping : Mapping) (parent : Parent) (window : Window) where
   abbrev all : List Delivery
   all = offers mapping parent window
@@ -117,8 +79,8 @@ module _ (mapping : Mapping) (parent : Parent) (window : Window) where
 
   same_search : (item : Delivery) → first_offer mapping parent window item.refs ≡ find (eq_by_cmp by_refs item) all
   same_search item =
-      find-same (λ (offer : Delivery). refs_eq offer.refs item.refs) (eq_by_cmp by_refs item)
-      (λ offer. refs_ties offer.refs item.refs ∙ eq_by_cmp-turned refs_total offer.refs item.refs) all
+      find_same (λ (offer : Delivery). refs_eq offer.refs item.refs) (eq_by_cmp by_refs item) all
+      (λ offer has. refs-tie offer.refs item.refs ∙ (eq_by_cmp_equiv refs_total).symm offer.refs item.refs)
 
   pub deliveries-sorted : deliveries mapping parent window ≡ sorted_by by_refs all
   deliveries-sorted =

@@ -1,11 +1,5 @@
 -- The hubs of a vault, one more at a time.
-use Rattle.std.proofs.Common.{◌≡◌, ℕ, ◌+◌, true, List, [], ◌∷◌, ◌++◌, Bor, refl, sym, ◌∙◌, ap, arith, map}
-use Rattle.std.specs.List.{list_all, range_with_len}
-use Rattle.std.proofs.lemmas.Bool.{and_from, and_parts}
-use Rattle.std.proofs.lemmas.List.FromFn.{map-range_with_len_more}
-use Rattle.dv_index.specs.Places.{Indexed}
-use Rattle.dv_records.specs.declared.raw_rows.HubRow.{HubRow}
-use Rattle.dv_keys.specs.HubRows.{are_hub_rows}
+use Rattle.dv_vault.proofs.Vocabulary.{◌≡◌, ℕ, ◌+◌, true, List, [], ◌∷◌, ◌++◌, Bor, refl, sym, ◌∙◌, ap, arith, map, list_all, range_with_len, and_from, and_parts, map-range_with_len_more, Indexed, HubRow, are_hub_rows}
 
 -- the rows of hubs
 abbrev rows_of : List (Bor (Indexed HubRow)) → List (List HubRow)

@@ -1,27 +1,7 @@
 -- The names of the hubs of a vault tell the keys of the hubs' rows.
-use Rattle.std.proofs.Common.{◌≡◌, ℕ, zero, suc, ◌+◌, ◌<◌, ◌≤◌, ◌==◌, Bool, true, false, List, [], ◌∷◌, ◌++◌, Option, Some, None, Bor, refl, sym, ◌∙◌, ap, arith, map, length, reverse, eq-eqb, eqb-true, cond}
-use Rattle.std.specs.Prelude.{find, slice_get}
-use Rattle.std.specs.List.{enumerate_from, flat_map, range_with_len}
-use Rattle.std.specs.Option.{option_map, option_or}
-use Rattle.std.specs.Slice.{IsItemAt}
-use Rattle.std.specs.Str.{bytes_eq}
-use Rattle.std.proofs.lemmas.Bool.Decides.{nat_tests}
-use Rattle.std.proofs.lemmas.List.Folds.{find-append}
-use Rattle.std.proofs.lemmas.Option.{slice_get-get_or, slice_get-map, slice_get_past}
-use Rattle.dv_text.specs.declared.rows.Key.{Key}
-use Rattle.dv_text.specs.declared.rows.Window.{Window}
-use Rattle.dv_text.specs.Keys.{Hashes}
-use Rattle.dv_catalog.specs.Entries.{Mapping}
-use Rattle.dv_index.specs.Places.{Indexed}
-use Rattle.dv_records.specs.declared.raw_rows.HubRow.{HubRow}
-use Rattle.dv_records.specs.Batches.{appended}
-use Rattle.dv_records.specs.HubNames.{HubName, is_named, key_named}
-use Rattle.dv_records.specs.Hubs.{hub_batch}
-use Rattle.dv_records.specs.ReadBack.{hub_rows_in}
-use Rattle.dv_records.specs.Vault.{vault}
-use Rattle.dv_records.proofs.VaultRows.{vault_hub}
-use Rattle.dv_keys.specs.LinkDeltas.{key_with}
-use Rattle.dv_vault.specs.Vaults.{hub_names, names_of_hub, names_of_rows}
+use Rattle.dv_vault.proofs.Vocabulary.{◌≡◌, ℕ, zero, suc, ◌+◌, ◌<◌, ◌≤◌, ◌==◌, Bool, true, false, List, [], ◌∷◌, ◌++◌, Option, Some, None, Bor, refl, sym, ◌∙◌, ap, arith, map, length, reverse, eq-eqb, cond, eqb-true, find, slice_get, enumerate_from, flat_map, range_with_len, option_map}
+use Rattle.dv_vault.proofs.Vocabulary.{option_or, IsItemAt, bytes_eq, nat_tests, find-append, slice_get-get_or, slice_get-map, slice_get_past, Key, Window, Hashes, Mapping, Indexed, HubRow, appended, HubName, is_named, key_named, hub_batch, hub_rows_in, vault, vault_hub, key_with, hub_names}
+use Rattle.dv_vault.proofs.Vocabulary.{names_of_hub, names_of_rows}
 
 -- the names of one hub are those of its rows
 own_names : (hub : ℕ) (digest : List ℕ) (rows : List HubRow) → key_named hub digest (names_of_hub (hub, rows)) ≡ key_with digest rows

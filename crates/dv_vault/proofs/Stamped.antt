@@ -1,26 +1,6 @@
 -- The rows that a window adds to a hub or a link have its load date.
-use Rattle.std.proofs.Common.{◌≡◌, ℕ, Bool, true, false, List, Option, Some, None}
-use Rattle.std.specs.Prelude.{◌||◌, All, Contains, if◌then◌else◌}
-use Rattle.std.specs.List.{filter_map, list_all}
-use Rattle.std.proofs.lemmas.List.Elements.{All-contains_itself}
-use Rattle.dv_text.specs.Keys.{Hashes, is_missing}
-use Rattle.dv_text.proofs.Members.{filter_map_member}
-use Rattle.dv_text.proofs.SortedLists.{member_before_sort}
-use Rattle.dv_index.specs.Places.{Place}
-use Rattle.dv_catalog.specs.Entries.{Mapping}
-use Rattle.dv_records.specs.declared.deliveries.Delivery.{Delivery}
-use Rattle.dv_records.specs.declared.raw_rows.HubRow.{HubRow}
-use Rattle.dv_records.specs.declared.raw_rows.LinkRow.{LinkRow}
-use Rattle.dv_records.specs.HubPlaces.{hub_place}
-use Rattle.dv_records.specs.LinkPlaces.{link_place}
-use Rattle.dv_keys.specs.declared.hashed_lists.HashedList.{HashedList}
-use Rattle.dv_keys.specs.HubDeltas.{hub_delta}
-use Rattle.dv_keys.specs.KeyDeltas.{delta, new_row, row_cmp}
-use Rattle.dv_keys.specs.LinkDeltas.{link_delta}
-use Rattle.dv_keys.specs.HashedLists.{hashed_item}
-use Rattle.dv_keys.specs.NewRows.{hub_row_of, link_row}
-use Rattle.dv_keys.specs.PlacedRows.{has_row_under}
-use Rattle.dv_keys.proofs.HubWindows.{hub_row_has}
+use Rattle.dv_vault.proofs.Vocabulary.{◌≡◌, ℕ, Bool, true, false, List, Option, Some, None, ◌||◌, All, Contains, if◌then◌else◌, filter_map, list_all, All-contains_itself, Hashes, is_missing, filter_map_member, member_before_sort, Place, Mapping, Delivery, HubRow, LinkRow, hub_place, link_place}
+use Rattle.dv_vault.proofs.Vocabulary.{HashedList, hub_delta, delta, new_row, row_cmp, link_delta, hashed_item, hub_row_of, link_row, has_row_under, hub_row_has}
 
 pub all_from_members : {X : Type 0} (P : X → Type 0) (xs : List X) → ((x : X) → Contains xs x → P x) → All P xs
 all_from_members P xs f = λ k d under. f _ (All-contains_itself xs k d under)

@@ -1,23 +1,6 @@
 -- A store that takes batches, one table after the other.
-use Rattle.std.proofs.Common.{◌≡◌, ℕ, ◌+◌, ◌≤◌, ◌==◌, Bool, true, false, List, [], ◌∷◌, ◌++◌, Option, Some, None, refl, sym, ◌∙◌, ap, subst, arith, add-one, suc, take}
-use Rattle.std.specs.Prelude.{Err, Result, if◌then◌else◌}
-use Rattle.std.proofs.lemmas.Bool.{eqb-true}
-use Rattle.dv_text.specs.declared.rows.Window.{Window}
-use Rattle.dv_text.specs.declared.rows.WindowHead.{WindowHead}
-use Rattle.dv_text.specs.Causes.{Rose}
-use Rattle.dv_text.specs.Told.{Told}
-use Rattle.dv_catalog.specs.declared.tables.TableId.{TableId}
-use Rattle.dv_records.specs.declared.keepers.KeeperError.{KeeperError}
-use Rattle.dv_records.specs.declared.keepers.KeeperError.TheVariants.{Failed}
-use Rattle.dv_records.specs.declared.stores.Rows.{Rows}
-use Rattle.dv_records.specs.declared.stores.Store.{Store}
-use Rattle.dv_records.specs.declared.stores.TableRows.{TableRows}
-use Rattle.dv_records.specs.Changes.{KeeperCause, changed}
-use Rattle.dv_records.specs.Standing.{HasTables}
-use Rattle.dv_records.specs.States.{head_of}
-use Rattle.dv_records.specs.Stores.{is_of_kind, row_count, rows_in, with_rows, with_seal, with_stage, IsStagedAt}
-use Rattle.dv_vault.specs.Vaults.{entries_with}
-use Rattle.dv_vault.specs.Keeping.{Became, IsOfKind, TakesRows, TakesWindow, TookRows, TookWindow, with_batch}
+use Rattle.dv_vault.proofs.Vocabulary.{◌≡◌, ℕ, ◌+◌, ◌≤◌, ◌==◌, Bool, true, false, List, [], ◌∷◌, ◌++◌, Option, Some, None, refl, sym, ◌∙◌, ap, subst, arith, add-one, suc, take, Err, Result, if◌then◌else◌, eqb-true, Window, WindowHead, Rose, Told, TableId, KeeperError, Failed, Rows, Store}
+use Rattle.dv_vault.proofs.Vocabulary.{TableRows, KeeperCause, changed, HasTables, head_of, is_of_kind, row_count, rows_in, with_rows, with_seal, with_stage, IsStagedAt, entries_with, Became, IsOfKind, TakesRows, TakesWindow, TookRows, TookWindow, with_batch}
 use Rattle.dv_vault.proofs.BatchSteps.{AtPlace, no_more, nothing_then, rows_stay}
 
 same_some : (a b : Store) → Some a ≡ Some b → a ≡ b

@@ -1,18 +1,6 @@
 -- What a window of the mapping delivers to a hub or a link is what its table takes.
-use Rattle.std.proofs.Common.{◌≡◌, ℕ, suc, ◌<◌, true, false, List, [], ◌∷◌, length, refl, ap, eq-eqb, eqb-true}
-use Rattle.std.proofs.lemmas.Bool.{and_from, and_parts}
-use Rattle.dv_text.specs.declared.rows.Key.{Key}
-use Rattle.dv_text.specs.declared.rows.Window.{Window}
-use Rattle.dv_catalog.specs.declared.entries.Parent.TheVariants.{Hub, Link}
-use Rattle.dv_catalog.specs.Entries.{Mapping}
-use Rattle.dv_catalog.specs.Feeds.{parent_hubs}
-use Rattle.dv_keys.specs.Items.{IsItem, are_keys_of}
-use Rattle.dv_keys.specs.HubDeltas.{AreHubItems, IsHubItem}
-use Rattle.dv_keys.specs.LinkDeltas.{AreLinkItems}
-use Rattle.dv_records.specs.declared.deliveries.Delivery.{Delivery}
-use Rattle.dv_records.specs.Deliveries.{deliveries}
-use Rattle.dv_records.specs.States.{fit_hubs, fits_hub, is_window}
-use Rattle.dv_records.proofs.Delivered.{deliveries-apart}
+use Rattle.dv_vault.proofs.Vocabulary.{◌≡◌, ℕ, suc, ◌<◌, true, false, List, [], ◌∷◌, length, refl, ap, eq-eqb, eqb-true, and_from, and_parts, Key, Window, Hub, Link, Mapping, parent_hubs, IsItem, are_keys_of, AreHubItems, IsHubItem, AreLinkItems, Delivery, deliveries, fit_hubs, fits_hub}
+use Rattle.dv_vault.proofs.Vocabulary.{is_window, deliveries-apart}
 use Rattle.dv_vault.proofs.WindowFacts.{IsDelivered, delivered, key_parts}
 
 -- references that fit one hub are one key

@@ -1,19 +1,7 @@
 -- No raw table stands twice among the tables of a mapping.
-use Rattle.std.proofs.Common.{◌≡◌, ℕ, zero, suc, ◌+◌, ◌<◌, ◌==◌, Bool, true, false, not, ◌&&◌, ◌||◌, List, [], ◌∷◌, ◌++◌, refl, sym, ◌∙◌, ap, arith, length, map, nat_lt}
-use Rattle.std.specs.List.{list_all, list_any, range_with_len}
-use Rattle.std.proofs.lemmas.Bool.{and_from, and_parts, false≢true}
-use Rattle.std.proofs.lemmas.Bool.Decides.{nat_tests}
-use Rattle.std.proofs.lemmas.List.Folds.{list_any-append}
-use Rattle.dv_catalog.specs.declared.entries.FeedDef.{FeedDef}
-use Rattle.dv_catalog.specs.declared.tables.TableId.{TableId}
+use Rattle.dv_vault.proofs.Vocabulary.{◌≡◌, ℕ, zero, suc, ◌+◌, ◌<◌, ◌==◌, Bool, true, false, not, ◌&&◌, List, [], ◌∷◌, ◌++◌, refl, sym, ◌∙◌, ap, arith, length, map, nat_lt, ◌||◌, list_all, list_any, range_with_len, and_from, and_parts, false≢true, nat_tests, list_any-append, FeedDef, TableId}
+use Rattle.dv_vault.proofs.Vocabulary.{Mapping, effect_tables, feed_tables, sat_tables, tables, TableRows, are_apart, table_eq, IsVaultOf, is_hub, is_link, same_table, all_pass_both}
 use Rattle.dv_catalog.specs.declared.tables.TableId.TheVariants as ids
-use Rattle.dv_catalog.specs.Entries.{Mapping}
-use Rattle.dv_catalog.specs.Tables.{effect_tables, feed_tables, sat_tables, tables}
-use Rattle.dv_records.specs.declared.stores.TableRows.{TableRows}
-use Rattle.dv_records.specs.Stores.{are_apart, table_eq}
-use Rattle.dv_vault.specs.Vaults.{IsVaultOf, is_hub, is_link}
-use Rattle.dv_vault.proofs.BuiltTables.{all_both}
-use Rattle.dv_records.proofs.WellFormedTables.{same_table}
 
 -- no two tables are one
 abbrev are_distinct : List TableId → Bool
@@ -87,7 +75,7 @@ tables_of n sub attrs driver = sat_tables n sub attrs ++ ids.Status n ∷ effect
 -- a test that each of the four kinds passes
 all_of : (test : TableId → Bool) (n : ℕ) → test (ids.Sat n) ≡ true → test (ids.Multi n) ≡ true → test (ids.Status n) ≡ true → test (ids.Effect n) ≡ true
     → (sub attrs : List (List ℕ)) (driver : List ℕ) → list_all test (tables_of n sub attrs driver) ≡ true
-all_of test n sat multi status effect sub attrs driver = all_both test (sat_tables n sub attrs) (ids.Status n ∷ effect_tables n driver) (sats sub attrs) (and_from _ _ status (effects driver))
+all_of test n sat multi status effect sub attrs driver = all_pass_both test (sat_tables n sub attrs) (ids.Status n ∷ effect_tables n driver) (sats sub attrs) (and_from _ _ status (effects driver))
   where
     sats : (sub attrs : List (List ℕ)) → list_all test (sat_tables n sub attrs) ≡ true
     sats sub [] = refl
@@ -110,7 +98,7 @@ feeds_behind : (n start : ℕ) (feeds : List FeedDef) → n < start → list_all
 feeds_behind n start [] less = refl
 feeds_behind n start (feed ∷ feeds) less =
     let behind : nat_lt n start ≡ true = grind (arith, nat_tests, less) in
-    all_both (is_behind n) (tables_of start feed.sub feed.attrs feed.driver) (feed_tables (start + 1) feeds)
+    all_pass_both (is_behind n) (tables_of start feed.sub feed.attrs feed.driver) (feed_tables (start + 1) feeds)
     (all_of (is_behind n) start behind behind behind behind feed.sub feed.attrs feed.driver) (feeds_behind n (start + 1) feeds (omega (arith, less)))
 
 not_itself : (n : ℕ) → not (nat_lt n n) ≡ true
@@ -130,7 +118,7 @@ feeds_distinct n (feed ∷ feeds) =
 are_of_feeds : (n : ℕ) (feeds : List FeedDef) → list_all of_feeds (feed_tables n feeds) ≡ true
 are_of_feeds n [] = refl
 are_of_feeds n (feed ∷ feeds) =
-    all_both of_feeds (tables_of n feed.sub feed.attrs feed.driver) (feed_tables (n + 1) feeds)
+    all_pass_both of_feeds (tables_of n feed.sub feed.attrs feed.driver) (feed_tables (n + 1) feeds)
     (all_of of_feeds n refl refl refl refl feed.sub feed.attrs feed.driver) (are_of_feeds (n + 1) feeds)
 
 -- ---- all tables
@@ -146,7 +134,7 @@ tables_distinct mapping =
     (all_numbers (λ n. ids.Hub n) (λ m n. refl) (λ id. not (is_link id)) (λ n. refl) (range_with_len 0 (length mapping.hubs)))
     (all_numbers (λ n. ids.Link n) (λ m n. refl) is_link (λ n. refl) (range_with_len 0 (length mapping.links))))
     (feeds_distinct 0 mapping.feeds)
-    (all_both (λ id. not (of_feeds id)) hubs links
+    (all_pass_both (λ id. not (of_feeds id)) hubs links
     (all_numbers (λ n. ids.Hub n) (λ m n. refl) (λ id. not (of_feeds id)) (λ n. refl) (range_with_len 0 (length mapping.hubs)))
     (all_numbers (λ n. ids.Link n) (λ m n. refl) (λ id. not (of_feeds id)) (λ n. refl) (range_with_len 0 (length mapping.links))))
     (are_of_feeds 0 mapping.feeds)

@@ -1,36 +1,10 @@
 -- What a vault keeps to with an addition, and what it weighs then.
-use Rattle.std.proofs.Common.{◌≡◌, ℕ, ◌+◌, ◌-◌, ◌<◌, ◌≤◌, ◌==◌, Bool, true, false, List, [], ◌∷◌, ◌++◌, Option, Some, None, refl, sym, ◌∙◌, ap, subst, arith, length, map, nat_le, nat_lt, slice_get}
-use Rattle.std.specs.Prelude.{All, Err, Ok, OnOk, Result, Vec, if◌then◌else◌, is_ok, sum_by}
-use Rattle.std.specs.List.{AllZip, list_all}
-use Rattle.std.specs.Option.{option_map, option_map_or}
-use Rattle.std.specs.Vec.{with_items}
-use Rattle.std.proofs.lemmas.Bool.{and_from, and_parts, eqb-true}
-use Rattle.std.proofs.lemmas.Bool.Decides.{nat_tests}
-use Rattle.std.proofs.lemmas.List.{length-append, with_items_is}
-use Rattle.std.proofs.lemmas.List.Elements.{All-head, All-tail}
-use Rattle.std.proofs.lemmas.List.Folds.{list_all-append}
-use Rattle.std.proofs.lemmas.List.Sums.{sum_by-cons}
-use Rattle.std.proofs.lemmas.Option.{slice_get_within}
-use Rattle.dv_text.specs.declared.rows.Staged.{Staged}
-use Rattle.dv_text.specs.declared.rows.WindowHead.{WindowHead}
-use Rattle.dv_catalog.specs.declared.rules.Rule.{Rule}
-use Rattle.dv_catalog.specs.Entries.{Mapping}
-use Rattle.dv_records.specs.declared.stores.Rows.{Rows}
+use Rattle.dv_vault.proofs.Vocabulary.{◌≡◌, ℕ, ◌+◌, ◌-◌, ◌<◌, ◌≤◌, ◌==◌, Bool, true, false, List, [], ◌∷◌, ◌++◌, Option, Some, None, refl, sym, ◌∙◌, ap, subst, arith, length, map, nat_le, nat_lt, slice_get, All, Err, Ok, OnOk, Result, Vec, if◌then◌else◌, is_ok, sum_by, AllZip, list_all}
+use Rattle.dv_vault.proofs.Vocabulary.{option_map, option_map_or, with_items, and_from, and_parts, eqb-true, nat_tests, length-append, with_items_is, All-head, All-tail, list_all-append, sum_by-cons, slice_get_within, Staged, WindowHead, Rule, Mapping, Rows, Hubs, Links, Sats, Multis, Statuses}
+use Rattle.dv_vault.proofs.Vocabulary.{Effects, Pits, Bridges, TableRows, late_after, head_of, is_staged, row_count, rows_then, rows_weight, tables_weight, rows_add_up, Addition, Table, Fits, AreOfKinds, IsOfKind, Follow, IsVaultOf, RawVault, are_empty, are_heads_of, are_rows_kept, entries_with}
+use Rattle.dv_vault.proofs.Vocabulary.{entry_of, last_head, all_up_to-later, all_up_to-none, up_to-then, staged_rows, window_parts, AreOfLoad, are_up_to, is_up_to}
 use Rattle.dv_records.specs.declared.stores.Rows.TheVariants as of
-use Rattle.dv_records.specs.declared.stores.Rows.TheVariants.{Hubs, Links, Sats, Multis, Statuses, Effects, Pits, Bridges}
-use Rattle.dv_records.specs.declared.stores.TableRows.{TableRows}
-use Rattle.dv_records.specs.Outcomes.{late_after}
-use Rattle.dv_records.specs.States.{head_of, is_staged}
-use Rattle.dv_records.specs.Stores.{row_count, rows_then}
-use Rattle.dv_records.specs.Weights.{rows_weight, tables_weight}
-use Rattle.dv_records.proofs.VaultSteps.{rows_add_up}
-use Rattle.dv_vault.specs.declared.additions.Addition.{Addition}
-use Rattle.dv_vault.specs.declared.tables.Table.{Table}
 use Rattle.dv_vault.specs.declared.tables.Table.TheVariants as table
-use Rattle.dv_vault.specs.Additions.{Fits}
-use Rattle.dv_vault.specs.Keeping.{AreOfKinds, IsOfKind}
-use Rattle.dv_vault.specs.Vaults.{AreOfLoad, Follow, IsVaultOf, RawVault, are_empty, are_heads_of, are_rows_kept, are_up_to, entries_with, entry_of, is_up_to, last_head}
-use Rattle.dv_vault.proofs.WindowFacts.{definition_of, window_parts}
 
 -- ---- batches that follow the rows of tables are of their kinds
 
@@ -61,51 +35,6 @@ follows entries batches tables is follow =
 
 -- ---- the rows of the vault are no later
 
-all_reach : {R : Type 0} (date : R → ℕ) (last load : ℕ) (rows : List R) → last ≤ load → list_all (λ row. nat_le (date row) last) rows ≡ true → list_all (λ row. nat_le (date row) load) rows ≡ true
-all_reach date last load [] le all = refl
-all_reach date last load (row ∷ rows) le all =
-    let (here, rest) = and_parts (nat_le (date row) last) (list_all (λ row. nat_le (date row) last) rows) all in
-    and_from _ _ (through (date row) here) (all_reach date last load rows le rest)
-  where
-    through : (n : ℕ) → nat_le n last ≡ true → nat_le n load ≡ true
-    through n h = grind (arith, nat_tests, h, le)
-
-rows_reach : (last load : ℕ) (rows : Rows) → last ≤ load → is_up_to last rows ≡ true → is_up_to load rows ≡ true
-rows_reach last load (Hubs rows) le up = all_reach (λ row. row.load) last load rows le up
-rows_reach last load (Links rows) le up = all_reach (λ row. row.load) last load rows le up
-rows_reach last load (Sats rows) le up = all_reach (λ row. row.load) last load rows le up
-rows_reach last load (Multis rows) le up = all_reach (λ row. row.load) last load rows le up
-rows_reach last load (Statuses rows) le up = all_reach (λ row. row.load) last load rows le up
-rows_reach last load (Effects rows) le up = all_reach (λ row. row.load) last load rows le up
-rows_reach last load (Pits rows) le up = refl
-rows_reach last load (Bridges rows) le up = refl
-
-none_reach : {R : Type 0} (date : R → ℕ) (load : ℕ) (rows : List R) → (length rows == 0) ≡ true → list_all (λ row. nat_le (date row) load) rows ≡ true
-none_reach date load [] none = refl
-none_reach date load (row ∷ rows) none = absurd (omega (arith, eqb-true (length (row ∷ rows)) 0 none))
-
-empty_reach : (load : ℕ) (rows : Rows) → (row_count rows == 0) ≡ true → is_up_to load rows ≡ true
-empty_reach load (Hubs rows) none = none_reach (λ row. row.load) load rows none
-empty_reach load (Links rows) none = none_reach (λ row. row.load) load rows none
-empty_reach load (Sats rows) none = none_reach (λ row. row.load) load rows none
-empty_reach load (Multis rows) none = none_reach (λ row. row.load) load rows none
-empty_reach load (Statuses rows) none = none_reach (λ row. row.load) load rows none
-empty_reach load (Effects rows) none = none_reach (λ row. row.load) load rows none
-empty_reach load (Pits rows) none = refl
-empty_reach load (Bridges rows) none = refl
-
-tables_reach : (last load : ℕ) (tables : List TableRows) → last ≤ load → are_up_to last tables ≡ true → are_up_to load tables ≡ true
-tables_reach last load [] le up = refl
-tables_reach last load (entry ∷ tables) le up =
-    let (here, rest) = and_parts (is_up_to last entry.rows) (are_up_to last tables) up in
-    and_from _ _ (rows_reach last load entry.rows le here) (tables_reach last load tables le rest)
-
-empty_tables_reach : (load : ℕ) (tables : List TableRows) → are_empty tables ≡ true → are_up_to load tables ≡ true
-empty_tables_reach load [] empty = refl
-empty_tables_reach load (entry ∷ tables) empty =
-    let (here, rest) = and_parts (row_count entry.rows == 0) (are_empty tables) empty in
-    and_from _ _ (empty_reach load entry.rows here) (empty_tables_reach load tables rest)
-
 pub rows_not_later : (heads : List WindowHead) (tables : List TableRows) (load : ℕ) → are_rows_kept heads tables ≡ true → late_after (last_head heads) load ≡ None → are_up_to load tables ≡ true
 rows_not_later heads tables load kept late = by (last_head heads) kept late
   where
@@ -114,38 +43,15 @@ rows_not_later heads tables load kept late = by (last_head heads) kept late
     passed last false t h = grind (arith, nat_tests, t)
 
     by : (last : Option ℕ) → option_map_or (λ last. are_up_to last tables) last (are_empty tables) ≡ true → late_after last load ≡ None → are_up_to load tables ≡ true
-    by None empty e = empty_tables_reach load tables empty
-    by (Some last) up e = tables_reach last load tables (passed last (nat_le load last) refl e) up
-
-itself : (a b : ℕ) → a ≡ b → nat_le a b ≡ true
-itself a b e = grind (arith, nat_tests, e)
-
-all_of_load : {R : Type 0} (load_of : R → ℕ) (load : ℕ) (rows : List R) → All (λ row. load_of row ≡ load) rows → list_all (λ row. nat_le (load_of row) load) rows ≡ true
-all_of_load load_of load [] all = refl
-all_of_load load_of load (row ∷ rows) all =
-    and_from _ _ (itself (load_of row) load (All-head (λ row. load_of row ≡ load) row rows all)) (all_of_load load_of load rows (All-tail (λ row. load_of row ≡ load) row rows all))
-
-up_both : {R : Type 0} (load_of : R → ℕ) (load : ℕ) (rows more : List R) → list_all (λ row. nat_le (load_of row) load) rows ≡ true → All (λ row. load_of row ≡ load) more
-    → list_all (λ row. nat_le (load_of row) load) (rows ++ more) ≡ true
-up_both load_of load rows more up all = list_all-append (λ row. nat_le (load_of row) load) rows more ∙ and_from _ _ up (all_of_load load_of load more all)
-
-up_then : (load : ℕ) (rows more : Rows) → is_up_to load rows ≡ true → AreOfLoad load more → is_up_to load (rows_then rows more) ≡ true
-up_then load (of.Hubs rows) (of.Hubs more) up all = up_both (λ row. row.load) load rows more up all
-up_then load (of.Links rows) (of.Links more) up all = up_both (λ row. row.load) load rows more up all
-up_then load (of.Sats rows) (of.Sats more) up all = up_both (λ row. row.load) load rows more up all
-up_then load (of.Multis rows) (of.Multis more) up all = up_both (λ row. row.load) load rows more up all
-up_then load (of.Statuses rows) (of.Statuses more) up all = up_both (λ row. row.load) load rows more up all
-up_then load (of.Effects rows) (of.Effects more) up all = up_both (λ row. row.load) load rows more up all
-up_then load (of.Pits rows) (of.Pits more) up all = refl
-up_then load (of.Bridges rows) (of.Bridges more) up all = refl
-up_then load rows more up all = up
+    by None empty e = all_up_to-none load tables empty
+    by (Some last) up e = all_up_to-later last load tables (passed last (nat_le load last) refl e) up
 
 up_with : (load : ℕ) (entries : List TableRows) (batches : List Rows) → are_up_to load entries ≡ true → All (AreOfLoad load) batches → are_up_to load (entries_with entries batches) ≡ true
 up_with load [] batches up all = refl
 up_with load (entry ∷ entries) [] up all = up
 up_with load (entry ∷ entries) (rows ∷ batches) up all =
     let (here, behind) = and_parts (is_up_to load entry.rows) (are_up_to load entries) up in
-    and_from _ _ (up_then load entry.rows rows here (All-head (AreOfLoad load) rows batches all)) (up_with load entries batches behind (All-tail (AreOfLoad load) rows batches all))
+    and_from _ _ (up_to-then load entry.rows rows here (All-head (AreOfLoad load) rows batches all)) (up_with load entries batches behind (All-tail (AreOfLoad load) rows batches all))
 
 -- ---- the last head
 
@@ -166,7 +72,7 @@ feeds_there : (mapping : Mapping) (extracts : List Staged) → list_all (is_stag
 feeds_there mapping [] all = refl
 feeds_there mapping (staged ∷ extracts) all =
     let (here, behind) = and_parts (is_staged mapping staged) (list_all (is_staged mapping) extracts) all in
-    let (definition, at) = definition_of mapping staged here in
+    let (definition, at, are) = staged_rows mapping staged here in
     let within : staged.feed < length mapping.feeds = slice_get_within mapping.feeds staged.feed definition at in
     and_from _ _ (under staged.feed (length mapping.feeds) within) (feeds_there mapping extracts behind)
   where

@@ -1,22 +1,7 @@
 -- Where the rows of a table stand among the tables of a vault.
-use Rattle.std.proofs.Common.{◌≡◌, ◌⊎◌, ℕ, ◌<◌, inl, inr, Bool, true, false, List, [], ◌∷◌, Option, Some, None, Bor, refl, sym, ◌∙◌, ap, subst, length, map, eq-eqb}
-use Rattle.std.specs.Prelude.{◌||◌, Contains, IfNone, IfSome, find, if◌then◌else◌, slice_get}
-use Rattle.std.specs.Option.{option_map}
-use Rattle.std.proofs.lemmas.Bool.{eqb-true, false≢true}
-use Rattle.dv_catalog.specs.declared.entries.FeedDef.{FeedDef}
-use Rattle.dv_catalog.specs.declared.tables.TableId.{TableId}
+use Rattle.dv_vault.proofs.Vocabulary.{◌≡◌, ◌⊎◌, ℕ, ◌<◌, inl, inr, Bool, true, false, List, [], ◌∷◌, Option, Some, None, Bor, refl, sym, ◌∙◌, ap, subst, length, map, eq-eqb, ◌||◌, Contains, IfNone, IfSome, find, if◌then◌else◌, slice_get, option_map, eqb-true, false≢true, FeedDef, TableId}
+use Rattle.dv_vault.proofs.Vocabulary.{Mapping, tables, Indexed, Rows, TableRows, no_rows, rows_in, table_eq, found_member, some_passes, some_passes_at, Contains-map, map_member, has_hub, has_link, has_status, same_table, IsVaultOf, has_table}
 use Rattle.dv_catalog.specs.declared.tables.TableId.TheVariants as ids
-use Rattle.dv_catalog.specs.Entries.{Mapping}
-use Rattle.dv_catalog.specs.Tables.{tables}
-use Rattle.dv_index.specs.Places.{Indexed}
-use Rattle.dv_records.specs.declared.stores.Rows.{Rows}
-use Rattle.dv_records.specs.declared.stores.TableRows.{TableRows}
-use Rattle.dv_records.specs.Stores.{no_rows, rows_in, table_eq}
-use Rattle.dv_text.proofs.Passing.{found_member, some_passes, some_passes_at}
-use Rattle.dv_text.proofs.Members.{Contains-map, map_member}
-use Rattle.dv_records.proofs.VaultRows.{has_hub, has_link, has_status}
-use Rattle.dv_records.proofs.WellFormedTables.{same_table}
-use Rattle.dv_vault.specs.Vaults.{IsVaultOf, has_table}
 
 pub found_rows : (id : TableId) (entries : List TableRows) (entry : TableRows) → find (λ other. table_eq other.table id) entries ≡ Some entry → rows_in id entries ≡ entry.rows
 found_rows id [] entry e = cc

@@ -14,13 +14,14 @@ use Rattle.dv_records.specs.Collisions.{Pair}
 use Rattle.dv_records.specs.Deltas.{HasNoClash, IsLeastClash}
 use Rattle.dv_records.specs.HubNames.{HubName}
 use Rattle.dv_records.specs.Outcomes.{late_after}
+use Rattle.dv_records.specs.RowViews.{AreOfLoad}
 use Rattle.dv_records.specs.States.{head_of, is_window}
 use Rattle.dv_records.specs.Stores.{row_count}
 use Rattle.dv_records.specs.Weights.{rows_weight, tables_weight}
 use Rattle.dv_vault.specs.declared.additions.Addition.{Addition}
 use Rattle.dv_vault.specs.declared.additions.AdditionFault.{AdditionFault}
 use Rattle.dv_vault.specs.declared.additions.AdditionFault.TheVariants as fault
-use Rattle.dv_vault.specs.Vaults.{Follow, added_to, AreOfLoad, RawVault, entries_with, hashed_in, hub_names, last_head}
+use Rattle.dv_vault.specs.Vaults.{Follow, added_to, RawVault, entries_with, hashed_in, hub_names, last_head}
 
 -- ---- collisions
 

@@ -26,15 +26,16 @@ use Rattle.dv_records.specs.Deltas.{Hashed}
 use Rattle.dv_records.specs.History.{Extract, all_refs, extract_of}
 use Rattle.dv_records.specs.HubNames.{HubName}
 use Rattle.dv_records.specs.ReadBack.{hub_rows_in}
+use Rattle.dv_records.specs.RawTables.{extract_added}
+use Rattle.dv_records.specs.RowViews.{are_up_to}
 use Rattle.dv_records.specs.States.{are_windows_valid, head_of}
 use Rattle.dv_records.specs.Stores.{no_rows, row_count, rows_then, table_eq}
 use Rattle.dv_records.specs.Vault.{vault}
 use Rattle.dv_keys.specs.HubDeltas.{hub_delta, hub_hashed}
-use Rattle.dv_keys.specs.HubRows.{are_hub_rows}
 use Rattle.dv_keys.specs.LinkDeltas.{link_delta, link_hashed}
-use Rattle.dv_keys.specs.LinkRows.{are_link_rows}
-use Rattle.dv_sat.specs.SatRows.{sat_delta, sat_order}
-use Rattle.dv_track.specs.Tracks.{status_delta, status_order}
+use Rattle.dv_keys.specs.RawTables.{HubsFollow, LinksFollow}
+use Rattle.dv_sat.specs.FeedTables.{Follow as SatsFollow, sats_added}
+use Rattle.dv_track.specs.FeedTables.{Follow as StatusesFollow, statuses_added}
 use Rattle.dv_vault.specs.declared.named_hubs.HubKeys.{HubKeys}
 use Rattle.dv_vault.specs.declared.tables.Table.{Table}
 use Rattle.dv_vault.specs.declared.raw_tables.RawTables.{RawTables}
@@ -122,21 +123,14 @@ staged_of feed window = find (λ staged. staged.feed == feed) window.extracts
 
 -- ---- what a window adds
 
--- what an extract adds; nothing where there is none
-abbrev pub extract_rows : {R : Type 0} → (List NRow → List R) → Option Extract → List R
-extract_rows delta None = []
-extract_rows delta (Some extract) = delta extract.rows
-
 -- what a window adds to a table with these rows
 abbrev pub added : Mapping → Hashes → Window → TableId → Rows → Rows
 added mapping hashes window (ids.Hub hub) (Hubs rows) =
     Hubs (hub_delta mapping hashes window.load rows (deliveries mapping (Hub hub) window))
 added mapping hashes window (ids.Link link) (Links rows) =
     Links (link_delta mapping hashes window.load rows (deliveries mapping (Link link) window))
-added mapping hashes window (ids.Sat feed) (Sats rows) =
-    Sats (extract_rows (sat_delta hashes (source mapping feed) rows window.load) (extract_of feed window))
-added mapping hashes window (ids.Status feed) (Statuses rows) =
-    Statuses (extract_rows (λ staged. status_delta hashes (source mapping feed) rows window.load (all_refs staged)) (extract_of feed window))
+added mapping hashes window (ids.Sat feed) (Sats rows) = extract_added (sats_added hashes (source mapping feed) (Sats rows)) (Sats []) (extract_of feed window)
+added mapping hashes window (ids.Status feed) (Statuses rows) = extract_added (statuses_added hashes (source mapping feed) (Statuses rows)) (Statuses []) (extract_of feed window)
 added mapping hashes window table rows = no_rows table
 
 abbrev pub added_to : Mapping → Hashes → Window → TableRows → Rows
@@ -155,37 +149,11 @@ hashed_in mapping hashes names window entry = hashed mapping hashes names window
 
 -- rows may stand behind those of a table
 abbrev pub Follow : Rows → Rows → Type 0
-Follow (Hubs rows) (Hubs more) = IsTrue (are_hub_rows (rows ++ more))
-Follow (Links rows) (Links more) = IsTrue (are_link_rows (rows ++ more))
-Follow (Sats rows) (Sats more) = IsStrictlySortedBy sat_order (rows ++ more)
-Follow (Statuses rows) (Statuses more) = IsStrictlySortedBy status_order (rows ++ more)
+Follow (Hubs rows) more = HubsFollow (Hubs rows) more
+Follow (Links rows) more = LinksFollow (Links rows) more
+Follow (Sats rows) more = SatsFollow (Sats rows) more
+Follow (Statuses rows) more = StatusesFollow (Statuses rows) more
 Follow rows more = ⊥
-
--- no row is later than a date
-abbrev pub is_up_to : ℕ → Rows → Bool
-is_up_to date (Hubs rows) = list_all (λ row. nat_le row.load date) rows
-is_up_to date (Links rows) = list_all (λ row. nat_le row.load date) rows
-is_up_to date (Sats rows) = list_all (λ row. nat_le row.load date) rows
-is_up_to date (Multis rows) = list_all (λ row. nat_le row.load date) rows
-is_up_to date (Statuses rows) = list_all (λ row. nat_le row.load date) rows
-is_up_to date (Effects rows) = list_all (λ row. nat_le row.load date) rows
-is_up_to date (Pits rows) = true
-is_up_to date (Bridges rows) = true
-
--- no row of the tables is later than a date
-abbrev pub are_up_to : ℕ → List TableRows → Bool
-are_up_to date tables = list_all (λ entry. is_up_to date entry.rows) tables
-
--- all rows have a load date
-abbrev pub AreOfLoad : ℕ → Rows → Type 0
-AreOfLoad load (Hubs rows) = All (λ row. row.load ≡ load) rows
-AreOfLoad load (Links rows) = All (λ row. row.load ≡ load) rows
-AreOfLoad load (Sats rows) = All (λ row. row.load ≡ load) rows
-AreOfLoad load (Multis rows) = All (λ row. row.load ≡ load) rows
-AreOfLoad load (Statuses rows) = All (λ row. row.load ≡ load) rows
-AreOfLoad load (Effects rows) = All (λ row. row.load ≡ load) rows
-AreOfLoad load (Pits rows) = ⊥
-AreOfLoad load (Bridges rows) = ⊥
 
 -- ---- a vault
 

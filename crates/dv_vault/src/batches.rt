@@ -5,11 +5,12 @@ ghost use Rattle.dv_text.specs.Keys.{hashes_of};
 ghost use Rattle.dv_catalog.specs.Mappings.{is_valid};
 ghost use Rattle.dv_catalog.specs.TableLookups.{is_table_of};
 ghost use Rattle.dv_records.specs.Deltas.{HasNoClash};
+ghost use Rattle.dv_records.specs.RowViews.{are_up_to};
 ghost use Rattle.dv_records.specs.States.{is_window};
 ghost use Rattle.dv_records.specs.Stores.{row_count};
 ghost use Rattle.dv_records.specs.Weights.{rows_weight};
 ghost use Rattle.dv_vault.specs.Additions as spec;
-ghost use Rattle.dv_vault.specs.Vaults.{added_to, are_up_to, entry_of, hashed_in, names_of_hubs};
+ghost use Rattle.dv_vault.specs.Vaults.{added_to, entry_of, hashed_in, names_of_hubs};
 
 use crate::additions::{AdditionFault, fault_of};
 use crate::hub_keys::HubKeys;

@@ -1,18 +1,21 @@
 // A raw table of the vault, of any kind, and what a window adds to it.
-ghost use Rattle.std.specs.Prelude.{◌≡◌, ◌≤◌, ◌<◌, [], false, IfNone, IfOk, IfSome, IsTrue, OnOk, length, option_map};
+ghost use Rattle.std.specs.Prelude.{◌≡◌, ◌≤◌, ◌<◌, ◌==◌, [], false, find, IfNone, IfOk, IfSome, IsTrue, OnOk, length, option_map};
+ghost use Rattle.std.specs.List.{list_all};
 ghost use Rattle.dv_text.specs.Keys.{hashes_of};
+ghost use Rattle.dv_digest.specs.Fits.{attrs_fit, refs_fit};
 ghost use Rattle.dv_catalog.specs.Mappings.{is_valid};
 ghost use Rattle.dv_catalog.specs.TableLookups.{is_table_of};
 ghost use Rattle.dv_records.specs.Deltas.{HasNoClash, IfCollides, IsLeastClash};
+ghost use Rattle.dv_records.specs.RowViews.{AreOfLoad, is_up_to};
 ghost use Rattle.dv_records.specs.States.{is_window};
 ghost use Rattle.dv_records.specs.Stores.{no_rows, row_count, rows_then};
 ghost use Rattle.dv_vault.specs.Vaults as spec;
-ghost use Rattle.dv_vault.specs.Vaults.{Follow, added_to, AreOfLoad, entry_of, hashed_in, is_up_to, spare_of};
+ghost use Rattle.dv_vault.specs.Vaults.{Follow, added_to, entry_of, hashed_in, spare_of};
 
 use crate::offers::deliveries;
 use dv_catalog::{Catalog, Parent, TableId};
 use dv_keys::{HubTable, LinkTable};
-use dv_records::{DeltaFault, HubNames, Rows};
+use dv_records::{DeltaFault, HubNames, RawTable, Rows};
 use dv_sat::SatTable;
 use dv_text::{KeyDigest, List, Memory, Staged, Stamp, Window};
 use dv_track::StatusTable;
@@ -27,15 +30,23 @@ pub(crate) enum Table {
     Status { feed: u32, rows: StatusTable },
 }
 
-// The extract of a feed in a window.
-fn staged_of(window: &Window, feed: u32) -> Option<&Staged>
-    ensures { option_map (λ staged. staged.now) result ≡ spec.staged_of feed window.now }
+// The extract of a feed among extracts.
+fn staged_in(extracts: &[Staged], feed: u32) -> Option<&Staged>
+    ensures { option_map (λ staged. staged.now) result ≡ find (λ staged. staged.feed == feed) extracts.now }
 {
-    window
-        .extracts
-        .items()
-        .iter()
-        .find(|staged| staged.feed == feed)
+    extracts.iter().find(|staged| staged.feed == feed)
+}
+
+// The extract of a feed in a window, whose rows fit what they are hashed in.
+fn staged_of<'a>(catalog: &Catalog, window: &'a Window, feed: u32) -> Option<&'a Staged>
+    requires valid { IsTrue (is_valid catalog.now) }
+    requires window { IsTrue (is_window catalog.now window.now) }
+    ensures found { option_map (λ staged. staged.now) result ≡ spec.staged_of feed window.now }
+    ensures feed { IfSome result (λ staged. staged.now.feed ≡ feed) }
+    ensures fit { IfSome result (λ staged. IsTrue (list_all (λ row. refs_fit row.refs) staged.now.rows)) }
+    ensures attrs_fit { IfSome result (λ staged. IsTrue (list_all (λ row. attrs_fit row.attrs) staged.now.rows)) }
+{
+    staged_in(window.extracts.items(), feed)
 }
 
 // The rows that a window adds to a hub.
@@ -85,64 +96,6 @@ fn link_rows<H: KeyDigest, N: HubNames>(
     let items = deliveries(alloc, catalog, window, Parent::Link(link))?;
     let rows = table.delta(alloc, window.load, &items, names, catalog, digest)?;
     Ok(Rows::Links(rows))
-}
-
-// The rows that a window adds to a feed's satellite.
-fn sat_rows<H: KeyDigest>(
-    alloc: Global,
-    feed: u32,
-    table: &SatTable,
-    window: &Window,
-    catalog: &Catalog,
-    digest: &H,
-) -> Result<Rows, Memory>
-    requires feed { feed < length catalog.now.feeds }
-    requires valid { IsTrue (is_valid catalog.now) }
-    requires window { IsTrue (is_window catalog.now window.now) }
-    requires dated { IsTrue (is_up_to window.now.load (Rows.Sats table.now.rows)) }
-    ensures rows { IfOk result (λ rows. rows ≡ spec.added catalog.now (hashes_of H.digest_of H.size) window.now (TableId.Sat feed) (Rows.Sats table.now.rows)) }
-    ensures follow { IfOk result (λ rows. Follow (Rows.Sats table.now.rows) rows) }
-    ensures stamped { IfOk result (λ rows. AreOfLoad window.now.load rows) }
-{
-    match staged_of(window, feed) {
-        Some(staged) => {
-            let rows = table.delta(alloc, window.load, staged, catalog, digest)?;
-            Ok(Rows::Sats(rows))
-        }
-        None => {
-            let _rows = table.rows();
-            Ok(Rows::Sats(List::new(alloc)))
-        }
-    }
-}
-
-// The rows that a window adds to a feed's status table.
-fn status_rows<H: KeyDigest>(
-    alloc: Global,
-    feed: u32,
-    table: &StatusTable,
-    window: &Window,
-    catalog: &Catalog,
-    digest: &H,
-) -> Result<Rows, Memory>
-    requires feed { feed < length catalog.now.feeds }
-    requires valid { IsTrue (is_valid catalog.now) }
-    requires window { IsTrue (is_window catalog.now window.now) }
-    requires dated { IsTrue (is_up_to window.now.load (Rows.Statuses table.now.rows)) }
-    ensures rows { IfOk result (λ rows. rows ≡ spec.added catalog.now (hashes_of H.digest_of H.size) window.now (TableId.Status feed) (Rows.Statuses table.now.rows)) }
-    ensures follow { IfOk result (λ rows. Follow (Rows.Statuses table.now.rows) rows) }
-    ensures stamped { IfOk result (λ rows. AreOfLoad window.now.load rows) }
-{
-    match staged_of(window, feed) {
-        Some(staged) => {
-            let rows = table.delta(alloc, window.load, staged, catalog, digest)?;
-            Ok(Rows::Statuses(rows))
-        }
-        None => {
-            let _rows = table.rows();
-            Ok(Rows::Statuses(List::new(alloc)))
-        }
-    }
 }
 
 impl Table {
@@ -253,12 +206,12 @@ impl Table {
                 link_rows(alloc, *link, rows, names, window, catalog, digest)
             }
             Table::Sat { feed, rows } => {
-                let rows = sat_rows(alloc, *feed, rows, window, catalog, digest)?;
-                Ok(rows)
+                let staged = staged_of(catalog, window, *feed);
+                Ok(rows.additions(alloc, window.load, *feed, staged, catalog, digest)?)
             }
             Table::Status { feed, rows } => {
-                let rows = status_rows(alloc, *feed, rows, window, catalog, digest)?;
-                Ok(rows)
+                let staged = staged_of(catalog, window, *feed);
+                Ok(rows.additions(alloc, window.load, *feed, staged, catalog, digest)?)
             }
         }
     }
@@ -282,12 +235,11 @@ impl Table {
         requires follow { Follow (entry_of self.old).rows more }
         ensures { entry_of self.new ≡ record { table = (entry_of self.old).table; rows = rows_then (entry_of self.old).rows more } }
     {
-        match (self, more) {
-            (Table::Hub { rows, .. }, Rows::Hubs(more)) => rows.apply(more),
-            (Table::Link { rows, .. }, Rows::Links(more)) => rows.apply(more),
-            (Table::Sat { rows, .. }, Rows::Sats(more)) => rows.apply(more),
-            (Table::Status { rows, .. }, Rows::Statuses(more)) => rows.apply(more),
-            _ => unreachable!(),
+        match self {
+            Table::Hub { rows, .. } => rows.append(more),
+            Table::Link { rows, .. } => rows.append(more),
+            Table::Sat { rows, .. } => rows.append(more),
+            Table::Status { rows, .. } => rows.append(more),
         }
     }
 }

@@ -56,7 +56,7 @@ impl Vault {
         ensures tables { IfOk result (λ vault. vault.tables ≡ map (λ id. record { table = id; rows = no_rows id }) (tables catalog)) }
         ensures heads { IfOk result (λ vault. vault.heads ≡ []) }
     {
-        let _hubs = catalog.hub_count();
+        catalog.note_valid();
         let raw = RawTables::empty(alloc, &catalog)?;
         Ok(Vault {
             catalog,

@@ -1,14 +1,5 @@
 -- A keeper's store agrees with an office again after an addition.
-use Rattle.std.proofs.Common.{◌≡◌, List, [], ◌∷◌, ◌++◌, Option, sym, ◌∙◌, ap, subst}
-use Rattle.dv_text.specs.declared.rows.WindowHead.{WindowHead}
-use Rattle.dv_text.specs.Told.{Told}
-use Rattle.dv_records.specs.declared.stores.Store.{Store}
-use Rattle.dv_records.specs.Standing.{IsMappedBy}
-use Rattle.dv_records.specs.States.{head_of}
-use Rattle.dv_vault.specs.declared.additions.Addition.{Addition}
-use Rattle.dv_vault.specs.Keeping.{TakesWindow}
-use Rattle.dv_window.specs.Offices.{Agrees, Held, IsAtRest}
-use Rattle.dv_window.specs.Plans.{held_with}
+use Rattle.dv_window.proofs.Vocabulary.{List, Option, [], ap, subst, sym, ◌++◌, ◌∙◌, ◌∷◌, TakesWindow, Told, head_of, IsMappedBy, Store, WindowHead, Addition, Agrees, Held, IsAtRest, held_with}
 
 pub agrees_again : (held : Held) (addition : Addition) → IsAtRest held → (before after : Option Store) → Told before (Agrees held)
     → TakesWindow addition.window held.vault.tables addition.batches before after → Told after (Agrees (held_with addition held))

@@ -1,12 +1,7 @@
-pub mod AddedBatches
-pub mod Afterwards
 pub mod Agreed
 pub mod Answered
-pub mod AtRest
-pub mod FeedLists
 pub mod OutcomeSteps
 pub mod PlanFacts
-pub mod PlansStand
 pub mod SealedAgain
 pub mod StartFacts
-pub mod VaultCollisions
+pub mod Vocabulary

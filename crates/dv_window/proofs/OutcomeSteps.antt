@@ -1,54 +1,19 @@
--- What comes of a window in a state with no window open, told from the vault of the sealed windows.
-use Rattle.std.proofs.Common.{◌≡◌, ℕ, ◌==◌, Bool, true, false, List, [], ◌∷◌, ◌++◌, Option, Some, None, refl, sym, ◌∙◌, ap, append-nil, map, length, slice_get, suc, zero, arith, ◌-◌}
-use Rattle.std.specs.Prelude.{is_none, is_some, if◌then◌else◌}
-use Rattle.std.specs.List.{last_or}
-use Rattle.std.specs.Option.{option_map, option_map_or, option_or, option_to_list}
-use Rattle.std.proofs.lemmas.List.{length-map}
-use Rattle.dv_text.specs.declared.rows.Window.{Window}
-use Rattle.dv_text.specs.declared.rows.WindowHead.{WindowHead}
-use Rattle.dv_text.specs.Keys.{Hashes}
-use Rattle.dv_catalog.specs.declared.rules.Rule.{Rule}
-use Rattle.dv_catalog.specs.declared.windows.WindowIn.{WindowIn}
-use Rattle.dv_catalog.specs.FirstOf.{first_of}
-use Rattle.dv_catalog.specs.declared.rules.Rule.TheVariants.{Collision}
-use Rattle.dv_catalog.specs.Tables.{table_name}
-use Rattle.dv_catalog.specs.Windows.{window_of, window_rule}
-use Rattle.dv_records.specs.Collisions.{collision, Collision as Found}
+-- What comes of a window in a state with no window open, told from the heads of the sealed windows.
+use Rattle.dv_window.proofs.Vocabulary.{Bool, List, None, Option, Some, [], ap, false, length, map, refl, sym, true, ℕ, ◌++◌, ◌==◌, ◌∙◌, ◌∷◌, ◌≡◌, append-nil, option_map, option_or, option_to_list, option_map_or, is_none, if◌then◌else◌, is_some, none_before_map, option_or-none, made_of}
+use Rattle.dv_window.proofs.Vocabulary.{table_name, Hashes, collision, vault_weight, RawVault, last_head, head_of, State, late_after, feed_twice, no_extracts, unknown_feed, accepted, collides, differs, differs_from, full_at, if_new, late, open_other, outcome, refusal, too_long, vault_full}
+use Rattle.dv_window.proofs.Vocabulary.{window_at, first_of, window_of, window_rule, Rule, WindowIn, Window, last_same, IsAgain, IsNewWindow, early_rule, head_at, late_by, window_read, Collision, Outcome}
+use Rattle.dv_records.specs.Collisions.{Collision as Found}
 use Rattle.dv_records.specs.declared.answers.Outcome.TheVariants as outcomes
-use Rattle.dv_records.specs.Outcomes.{collides, differs, differs_from, feed_twice, if_new, late, late_after, no_extracts, accepted, full_at, open_other, outcome, refusal, too_long, unknown_feed, vault_full, window_at}
-use Rattle.dv_records.specs.States.{State, all_windows, head_of, last_load}
-use Rattle.dv_records.specs.Weights.{vault_weight}
-use Rattle.dv_vault.specs.Vaults.{RawVault, last_head}
-use Rattle.dv_window.proofs.AtRest.{IsVaultAlone}
-use Rattle.dv_window.specs.Plans.{early_rule, head_at, late_by, window_read, IsNewWindow}
 
--- ---- the first of many rules
+-- the first of many rules is one of the early ones, or of the rest
+early_first : (early : List (Option Rule)) (last : Option Rule) (rest : List (Option Rule)) → first_of (early ++ last ∷ rest) ≡ option_or (first_of (first_of early ∷ last ∷ [])) (first_of rest)
+early_first [] None rest = refl
+early_first [] (Some rule) rest = refl
+early_first (Some rule ∷ early) last rest = refl
+early_first (None ∷ early) last rest = early_first early last rest
 
--- rules that are asked first and hold of nothing
-rest_decides : (a b c d e f rest : Option Rule) → first_of (first_of (a ∷ b ∷ c ∷ d ∷ e ∷ []) ∷ f ∷ []) ≡ None
-    → option_or a (option_or b (option_or c (option_or d (option_or e (option_or f rest))))) ≡ rest
-rest_decides None None None None None None rest h = refl
-rest_decides (Some x) b c d e f rest h = cc
-rest_decides None (Some x) c d e f rest h = cc
-rest_decides None None (Some x) d e f rest h = cc
-rest_decides None None None (Some x) e f rest h = cc
-rest_decides None None None None (Some x) f rest h = cc
-rest_decides None None None None None (Some x) rest h = cc
-
--- one of them holds
-first_decides : (a b c d e f rest : Option Rule) (rule : Rule) → first_of (first_of (a ∷ b ∷ c ∷ d ∷ e ∷ []) ∷ f ∷ []) ≡ Some rule
-    → option_or a (option_or b (option_or c (option_or d (option_or e (option_or f rest))))) ≡ Some rule
-first_decides None None None None None None rest rule h = cc
-first_decides (Some x) b c d e f rest rule h = h
-first_decides None (Some x) c d e f rest rule h = h
-first_decides None None (Some x) d e f rest rule h = h
-first_decides None None None (Some x) e f rest rule h = h
-first_decides None None None None (Some x) f rest rule h = h
-first_decides None None None None None (Some x) rest rule h = h
-
--- ---- heads are those of the windows
-
-pub heads_found : (load : ℕ) (windows : List Window) → head_at load (map head_of windows) ≡ option_map head_of (window_at load windows)
+-- heads are those of the windows
+heads_found : (load : ℕ) (windows : List Window) → head_at load (map head_of windows) ≡ option_map head_of (window_at load windows)
 heads_found load [] = refl
 heads_found load (window ∷ windows) = go (window.load == load) (heads_found load windows)
   where
@@ -57,175 +22,97 @@ heads_found load (window ∷ windows) = go (window.load == load) (heads_found lo
     go true behind = refl
     go false behind = behind
 
--- the last load date
-last_got : {X : Type 0} (o : Option X) (x : X) (xs : List X) → last_or o (x ∷ xs) ≡ slice_get (x ∷ xs) (length xs)
-last_got o x [] = refl
-last_got o x (y ∷ ys) = last_got (Some x) y ys
-
-one_less : (n : ℕ) → n ≡ suc n - 1
-one_less n = omega arith
-
-pub last_same : (windows : List Window) → last_load windows ≡ last_head (map head_of windows)
-last_same [] = refl
-last_same (window ∷ windows) =
-    last_got None window.load (map (λ w. w.load) windows)
-    ∙ by (window ∷ windows) (length (map (λ w. w.load) windows)) (length (map head_of windows)) (length-map windows (λ (w : Window). w.load) ∙ sym (length-map windows head_of))
-    ∙ ap (λ n. option_map (λ head. head.load) (slice_get (map head_of (window ∷ windows)) n)) (one_less (length (map head_of windows)))
-  where
-    got_load : (all : List Window) (n : ℕ) → slice_get (map (λ w. w.load) all) n ≡ option_map (λ head. head.load) (slice_get (map head_of all) n)
-    got_load [] n = refl
-    got_load (w ∷ all) zero = refl
-    got_load (w ∷ all) (suc n) = got_load all n
-
-    by : (all : List Window) (n m : ℕ) → n ≡ m → slice_get (map (λ w. w.load) all) n ≡ option_map (λ head. head.load) (slice_get (map head_of all) m)
-    by all n m e = got_load all n ∙ ap (λ k. option_map (λ head. head.load) (slice_get (map head_of all) k)) e
-
 still_some : {X Y : Type 0} (f : X → Y) (found : Option X) → is_some (option_map f found) ≡ is_some found
 still_some f None = refl
 still_some f (Some x) = refl
 
-module _ (hashes : Hashes) (state : State) (raw : RawVault) (alone : IsVaultAlone hashes state raw) (given : WindowIn) where
+module _ (hashes : Hashes) (state : State) (raw : RawVault) (heads_are : raw.heads ≡ map head_of state.sealed) (none_open : state.begun ≡ None) (given : WindowIn) where
+  abbrev window : Window
+  window = window_of raw.mapping given
+
+  abbrev outcome_here : Outcome
+  outcome_here = outcome raw.mapping hashes state given
+
+  abbrev all_sealed : List Window
+  all_sealed = state.sealed ++ window ∷ []
+
   head_known : head_at given.load raw.heads ≡ option_map head_of (window_at given.load state.sealed)
-  head_known = ap (head_at given.load) alone.sealed_are.heads_are ∙ heads_found given.load state.sealed
+  head_known = ap (head_at given.load) heads_are ∙ heads_found given.load state.sealed
 
-  sealed_known : is_some (head_at given.load raw.heads) ≡ is_some (window_at given.load state.sealed)
-  sealed_known = ap is_some head_known ∙ still_some head_of (window_at given.load state.sealed)
-
-  last_known : last_head raw.heads ≡ last_load state.sealed
-  last_known = ap last_head alone.sealed_are.heads_are ∙ sym (last_same state.sealed)
-
-  pub late_known : late_by raw.heads given.load ≡ late state given
+  late_known : late_by raw.heads given.load ≡ late state given
   late_known =
-      ap (λ b. if b then None else late_after (last_head raw.heads) given.load) sealed_known
-      ∙ ap (λ last. if is_some (window_at given.load state.sealed) then None else late_after last given.load) last_known
+      ap (λ b. if b then None else late_after (last_head raw.heads) given.load) (ap is_some head_known ∙ still_some head_of (window_at given.load state.sealed))
+      ∙ ap (λ last. if is_some (window_at given.load state.sealed) then None else late_after last given.load) (ap last_head heads_are ∙ sym (last_same state.sealed))
 
   -- what is asked behind the early rules
-  abbrev late_rules : Option Rule
+  abbrev late_rules : List (Option Rule)
   late_rules =
+      differs state window ∷ if_new state window (collides raw.mapping hashes state window) ∷ if_new state window (vault_full raw.mapping hashes state window) ∷ []
+
+  -- all rules in their order, by what is asked of the last load date and of the open window
+  abbrev all_rules : Option Rule → Option Window → Option Rule
+  all_rules late begun =
       first_of (
-      differs state (window_of raw.mapping given)
-      ∷ if_new state (window_of raw.mapping given) (collides raw.mapping hashes state (window_of raw.mapping given))
-      ∷ if_new state (window_of raw.mapping given) (vault_full raw.mapping hashes state (window_of raw.mapping given)) ∷ [])
+      no_extracts given ∷ unknown_feed raw.mapping given ∷ feed_twice given ∷ late ∷ open_other begun given ∷ too_long given ∷ window_rule raw.mapping given ∷ late_rules)
 
   -- a window breaks an early rule, or the rest decides
-  refusal_parts : refusal raw.mapping hashes state given
-      ≡ option_or (no_extracts given) (option_or (unknown_feed raw.mapping given) (option_or (feed_twice given) (option_or (late_by raw.heads given.load)
-      (option_or (too_long given) (option_or (window_rule raw.mapping given) late_rules)))))
-  refusal_parts =
-      ap (λ (late : Option Rule). option_or (no_extracts given) (option_or (unknown_feed raw.mapping given) (option_or (feed_twice given) (option_or late
-      (option_or (open_other state.begun given) (option_or (too_long given) (option_or (window_rule raw.mapping given) late_rules))))))) (sym late_known)
-      ∙ ap (λ (begun : Option Window). option_or (no_extracts given) (option_or (unknown_feed raw.mapping given) (option_or (feed_twice given) (option_or (late_by raw.heads given.load)
-      (option_or (open_other begun given) (option_or (too_long given) (option_or (window_rule raw.mapping given) late_rules))))))) alone.none_open
+  refusal_is : refusal raw.mapping hashes state given ≡ option_or (early_rule raw given) (first_of late_rules)
+  refusal_is =
+      ap (λ late. all_rules late state.begun) (sym late_known) ∙ ap (all_rules (late_by raw.heads given.load)) none_open
+      ∙ early_first (no_extracts given ∷ unknown_feed raw.mapping given ∷ feed_twice given ∷ late_by raw.heads given.load ∷ too_long given ∷ []) (window_rule raw.mapping given) late_rules
 
-  pub early_refused : (rule : Rule) → early_rule raw given ≡ Some rule → outcome raw.mapping hashes state given ≡ outcomes.Refused rule
+  pub early_refused : (rule : Rule) → early_rule raw given ≡ Some rule → outcome_here ≡ outcomes.Refused rule
   early_refused rule e =
-      ap (λ (refusal : Option Rule). option_map_or (λ rule. outcomes.Refused rule) refusal (accepted state given.load))
-      (refusal_parts ∙ first_decides (no_extracts given) (unknown_feed raw.mapping given) (feed_twice given) (late_by raw.heads given.load) (too_long given) (window_rule raw.mapping given) late_rules rule e)
+      ap (λ (refusal : Option Rule). option_map_or (λ rule. outcomes.Refused rule) refusal (accepted state given.load)) (refusal_is ∙ ap (λ early. option_or early (first_of late_rules)) e)
 
-  rest_refused : early_rule raw given ≡ None → refusal raw.mapping hashes state given ≡ late_rules
-  rest_refused e = refusal_parts ∙ rest_decides (no_extracts given) (unknown_feed raw.mapping given) (feed_twice given) (late_by raw.heads given.load) (too_long given) (window_rule raw.mapping given) late_rules e
+  -- what decides behind them, by the sealed window of the load date
+  abbrev by_found : Option Window → Bool → Outcome
+  by_found found sealed =
+      option_map_or (λ rule. outcomes.Refused rule)
+      (first_of (
+      differs_from found window
+      ∷ (if is_none found then collides raw.mapping hashes state window else None)
+      ∷ (if is_none found then vault_full raw.mapping hashes state window else None) ∷ []))
+      (if sealed then outcomes.Repeated else outcomes.Load)
 
-  -- no other window than the sealed ones
-  none_besides : all_windows state ≡ state.sealed
-  none_besides = ap (λ begun. state.sealed ++ option_to_list begun) alone.none_open ∙ append-nil state.sealed
+  decided : early_rule raw given ≡ None → (found : Option Window) → window_at given.load state.sealed ≡ found → outcome_here ≡ by_found found (is_some found)
+  decided e found at =
+      ap (λ (refusal : Option Rule). option_map_or (λ rule. outcomes.Refused rule) refusal (accepted state given.load)) (refusal_is ∙ ap (λ early. option_or early (first_of late_rules)) e)
+      ∙ ap (λ (windows : List Window). by_found (window_at given.load windows) (is_some (window_at given.load state.sealed))) (ap (λ begun. state.sealed ++ option_to_list begun) none_open ∙ append-nil state.sealed)
+      ∙ ap (λ found. by_found found (is_some found)) at
+
+  -- ---- a new load date: a collision, a vault that is too full, and neither
+
+  abbrev by_new : Option Found → Option Rule → Outcome
+  by_new collision full =
+      option_map_or (λ rule. outcomes.Refused rule)
+      (option_or (option_map (λ found. Collision (table_name raw.mapping found.table) found.pair.first found.pair.second) collision) (option_or full None)) outcomes.Load
+
+  module _ (passes : IsNewWindow raw given) where
+    new_decided : outcome_here ≡ by_new (collision raw.mapping hashes all_sealed) (vault_full raw.mapping hashes state window)
+    new_decided = decided passes.early None (none_before_map head_of (window_at given.load state.sealed) (sym head_known ∙ passes.is_new))
+
+    pub new_collides : (found : Found) → collision raw.mapping hashes all_sealed ≡ Some found → outcome_here ≡ outcomes.Refused (Collision (table_name raw.mapping found.table) found.pair.first found.pair.second)
+    new_collides found is = new_decided ∙ ap (λ found. by_new found (vault_full raw.mapping hashes state window)) is
+
+    pub new_full : collision raw.mapping hashes all_sealed ≡ None → (rule : Rule) → full_at (vault_weight raw.mapping hashes all_sealed) (length state.sealed) ≡ Some rule → outcome_here ≡ outcomes.Refused rule
+    new_full apart rule full = new_decided ∙ ap (λ found. by_new found (vault_full raw.mapping hashes state window)) apart ∙ ap (by_new None) full
+
+    pub new_loads : collision raw.mapping hashes all_sealed ≡ None → full_at (vault_weight raw.mapping hashes all_sealed) (length state.sealed) ≡ None → outcome_here ≡ outcomes.Load
+    new_loads apart full = new_decided ∙ ap (λ found. by_new found (vault_full raw.mapping hashes state window)) apart ∙ ap (by_new None) full
 
   -- ---- a sealed load date
 
-  outcome_again : early_rule raw given ≡ None → (sealed : Window) → window_at given.load state.sealed ≡ Some sealed
-      → outcome raw.mapping hashes state given
-      ≡ option_map_or (λ rule. outcomes.Refused rule) (differs_from (Some sealed) (window_of raw.mapping given)) outcomes.Repeated
-  outcome_again e sealed at =
-      ap (λ (refusal : Option Rule). option_map_or (λ rule. outcomes.Refused rule) refusal (accepted state given.load)) (rest_refused e)
-      ∙ ap (λ (windows : List Window). go (window_at given.load windows) (is_some (window_at given.load state.sealed))) none_besides
-      ∙ ap (λ (found : Option Window). go found (is_some found)) at
-      ∙ by (differs_from (Some sealed) (window_of raw.mapping given))
-    where
-      go : Option Window → Bool → outcomes.the_data
-      go found sealed =
-          option_map_or (λ rule. outcomes.Refused rule)
-          (first_of (
-          differs_from found (window_of raw.mapping given)
-          ∷ (if is_none found then collides raw.mapping hashes state (window_of raw.mapping given) else None)
-          ∷ (if is_none found then vault_full raw.mapping hashes state (window_of raw.mapping given) else None) ∷ []))
-          (if sealed then outcomes.Repeated else outcomes.Load)
-
-      by : (differs : Option Rule) → option_map_or (λ rule. outcomes.Refused rule) (option_or differs None) outcomes.Repeated ≡ option_map_or (λ rule. outcomes.Refused rule) differs outcomes.Repeated
-      by None = refl
-      by (Some rule) = refl
-
-  -- ---- a new load date
-
-  outcome_new : early_rule raw given ≡ None → window_at given.load state.sealed ≡ None
-      → outcome raw.mapping hashes state given
-      ≡ option_map_or (λ rule. outcomes.Refused rule)
-      (option_or (collides raw.mapping hashes state (window_of raw.mapping given)) (option_or (vault_full raw.mapping hashes state (window_of raw.mapping given)) None))
-      outcomes.Load
-  outcome_new e at =
-      ap (λ (refusal : Option Rule). option_map_or (λ rule. outcomes.Refused rule) refusal (accepted state given.load)) (rest_refused e)
-      ∙ ap (λ (windows : List Window). go (window_at given.load windows) (is_some (window_at given.load state.sealed))) none_besides
-      ∙ ap (λ (found : Option Window). go found (is_some found)) at
-    where
-      go : Option Window → Bool → outcomes.the_data
-      go found sealed =
-          option_map_or (λ rule. outcomes.Refused rule)
-          (first_of (
-          differs_from found (window_of raw.mapping given)
-          ∷ (if is_none found then collides raw.mapping hashes state (window_of raw.mapping given) else None)
-          ∷ (if is_none found then vault_full raw.mapping hashes state (window_of raw.mapping given) else None) ∷ []))
-          (if sealed then outcomes.Repeated else outcomes.Load)
-
-  pub none_at : head_at given.load raw.heads ≡ None → window_at given.load state.sealed ≡ None
-  none_at e = by (window_at given.load state.sealed) (sym head_known ∙ e)
-    where
-      by : (found : Option Window) → option_map head_of found ≡ None → found ≡ None
-      by None h = refl
-      by (Some w) h = cc
-
-  pub some_at : (head : WindowHead) → head_at given.load raw.heads ≡ Some head → (sealed : Window) × (window_at given.load state.sealed ≡ Some sealed) × (head_of sealed ≡ head)
-  some_at head e = by (window_at given.load state.sealed) refl (sym head_known ∙ e)
-    where
-      same : (a b : WindowHead) → Some a ≡ Some b → a ≡ b
-      same a b h = cc
-
-      by : (found : Option Window) → window_at given.load state.sealed ≡ found → option_map head_of found ≡ Some head → (sealed : Window) × (window_at given.load state.sealed ≡ Some sealed) × (head_of sealed ≡ head)
-      by None at h = cc
-      by (Some w) at h = (w, at, same (head_of w) head h)
-
-  -- a collision, a vault that is too full, and neither
-  pub new_collides : IsNewWindow raw given → (found : Found) → collision raw.mapping hashes (state.sealed ++ window_of raw.mapping given ∷ []) ≡ Some found
-      → outcome raw.mapping hashes state given ≡ outcomes.Refused (Collision (table_name raw.mapping found.table) found.pair.first found.pair.second)
-  new_collides passes found is =
-      outcome_new passes.early (none_at passes.is_new)
-      ∙ ap (λ (c : Option Found). option_map_or (λ rule. outcomes.Refused rule)
-      (option_or (option_map (λ found. Collision (table_name raw.mapping found.table) found.pair.first found.pair.second) c) (option_or (vault_full raw.mapping hashes state (window_of raw.mapping given)) None)) outcomes.Load) is
-
-  new_apart : IsNewWindow raw given → collision raw.mapping hashes (state.sealed ++ window_of raw.mapping given ∷ []) ≡ None
-      → outcome raw.mapping hashes state given
-      ≡ option_map_or (λ rule. outcomes.Refused rule) (option_or (vault_full raw.mapping hashes state (window_of raw.mapping given)) None) outcomes.Load
-  new_apart passes is =
-      outcome_new passes.early (none_at passes.is_new)
-      ∙ ap (λ (c : Option Found). option_map_or (λ rule. outcomes.Refused rule)
-      (option_or (option_map (λ found. Collision (table_name raw.mapping found.table) found.pair.first found.pair.second) c) (option_or (vault_full raw.mapping hashes state (window_of raw.mapping given)) None)) outcomes.Load) is
-
-  pub new_full : IsNewWindow raw given → collision raw.mapping hashes (state.sealed ++ window_of raw.mapping given ∷ []) ≡ None
-      → (rule : Rule) → full_at (vault_weight raw.mapping hashes (state.sealed ++ window_of raw.mapping given ∷ [])) (length state.sealed) ≡ Some rule
-      → outcome raw.mapping hashes state given ≡ outcomes.Refused rule
-  new_full passes is rule full =
-      new_apart passes is ∙ ap (λ (full : Option Rule). option_map_or (λ rule. outcomes.Refused rule) (option_or full None) outcomes.Load) full
-
-  pub new_loads : IsNewWindow raw given → collision raw.mapping hashes (state.sealed ++ window_of raw.mapping given ∷ []) ≡ None
-      → full_at (vault_weight raw.mapping hashes (state.sealed ++ window_of raw.mapping given ∷ [])) (length state.sealed) ≡ None
-      → outcome raw.mapping hashes state given ≡ outcomes.Load
-  new_loads passes is full =
-      new_apart passes is ∙ ap (λ (full : Option Rule). option_map_or (λ rule. outcomes.Refused rule) (option_or full None) outcomes.Load) full
+  abbrev by_difference : Option Rule → Outcome
+  by_difference differs = option_map_or (λ rule. outcomes.Refused rule) differs outcomes.Repeated
 
   -- a sealed window again, read back as it was
-  pub again_says : (head : WindowHead) → head_at given.load raw.heads ≡ Some head → early_rule raw given ≡ None
-      → ((sealed : Window) → window_at given.load state.sealed ≡ Some sealed → head_of sealed ≡ head → window_read raw head ≡ sealed)
-      → (differs : Option Rule) → differs_from (Some (window_read raw head)) (window_of raw.mapping given) ≡ differs
-      → outcome raw.mapping hashes state given ≡ option_map_or (λ rule. outcomes.Refused rule) differs outcomes.Repeated
-  again_says head known early reads differs is =
-      let (sealed, at, same) = some_at head known in
-      outcome_again early sealed at
-      ∙ ap (λ (sealed : Window). option_map_or (λ rule. outcomes.Refused rule) (differs_from (Some sealed) (window_of raw.mapping given)) outcomes.Repeated) (sym (reads sealed at same))
-      ∙ ap (λ (differs : Option Rule). option_map_or (λ rule. outcomes.Refused rule) differs outcomes.Repeated) is
+  pub again_says : (differs : Option Rule) (again : IsAgain raw given differs)
+      → ((sealed : Window) → window_at given.load state.sealed ≡ Some sealed → head_of sealed ≡ again.head → window_read raw again.head ≡ sealed)
+      → outcome_here ≡ by_difference differs
+  again_says differs again reads =
+      let (sealed, at, same) = made_of head_of (window_at given.load state.sealed) again.head (sym head_known ∙ again.is_head) in
+      decided again.early (Some sealed) at
+      ∙ ap by_difference (option_or-none (differs_from (Some sealed) window))
+      ∙ ap (λ (sealed : Window). by_difference (differs_from (Some sealed) window)) (sym (reads sealed at same))
+      ∙ ap by_difference again.differs_is

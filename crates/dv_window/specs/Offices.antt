@@ -46,15 +46,18 @@ pub record Agrees (held : Held) (store : Store) : Type 0 where
   pub stage : store.stage ≡ held.begun
   pub tables_are : HasTables store held.vault.tables
 
--- a store has a mapping in which every form is built, and nothing else
-pub record IsNew (store : Store) : Type 0 where
-  pub mapping : Mapping
+-- a store has the text of a mapping, in which every form is built, and nothing else
+pub record IsNewOf (mapping : Mapping) (store : Store) : Type 0 where
   pub text : List ℕ
   pub stored_is : store.mapping ≡ Some text
   pub built : built_mapping text ≡ Ok mapping
   pub none_open : store.stage ≡ None
   pub no_windows : store.windows ≡ []
   pub no_rows : HasTables store []
+
+-- a store has such a text of some mapping, and nothing else
+abbrev pub IsNew : Store → Type 0
+IsNew store = (mapping : Mapping) × IsNewOf mapping store
 
 -- what the answer to a window says of its outcome; a fault and want of memory say nothing
 abbrev pub AnswerSays : Mapping → Hashes → State → WindowIn → LoadAnswer → Type 0

@@ -13,8 +13,6 @@ use Rattle.dv_catalog.specs.FirstOf.{first_of}
 use Rattle.dv_catalog.specs.TableLookups.{is_table_of}
 use Rattle.dv_catalog.specs.Tables.{table_name}
 use Rattle.dv_catalog.specs.Windows.{window_of, window_rule}
-use Rattle.dv_records.specs.declared.answers.LoadAnswer.{LoadAnswer}
-use Rattle.dv_records.specs.declared.answers.LoadAnswer.TheVariants as answer
 use Rattle.dv_records.specs.Collisions.{Pair}
 use Rattle.dv_records.specs.Outcomes.{differs_from, feed_twice, full_at, late_after, no_extracts, too_long, unknown_feed}
 use Rattle.dv_records.specs.ReadBack.{content_read}
@@ -133,11 +131,3 @@ Stops hashes raw given stop.Memory = Unit {0}
 
 abbrev pub held_with : Addition → Held → Held
 held_with addition held = record held { vault = raw_with addition held.vault }
-
--- an addition was carried out, or it was not
-abbrev pub CarriedOut : Held → Addition → LoadAnswer → Held → Type 0
-CarriedOut held addition (answer.Loaded rows) held' = (rows ≡ addition.rows) × (held' ≡ held_with addition held)
-CarriedOut held addition answer.Repeated held' = ⊥
-CarriedOut held addition (answer.Refused rule) held' = ⊥
-CarriedOut held addition answer.KeeperFault held' = held' ≡ held
-CarriedOut held addition answer.Memory held' = held' ≡ held

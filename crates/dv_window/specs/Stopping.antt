@@ -3,8 +3,6 @@ use Rattle.dv_stage.specs.declared.faults.StageFault.{StageFault}
 use Rattle.dv_stage.specs.declared.faults.StageFault.TheVariants as fault
 use Rattle.dv_records.specs.declared.answers.LoadAnswer.{LoadAnswer}
 use Rattle.dv_records.specs.declared.answers.LoadAnswer.TheVariants as answer
-use Rattle.dv_records.specs.declared.keepers.KeeperError.{KeeperError}
-use Rattle.dv_records.specs.declared.keepers.KeeperError.TheVariants as error
 use Rattle.dv_window.specs.declared.stops.Stop.{Stop}
 use Rattle.dv_window.specs.declared.stops.Stop.TheVariants as stop
 
@@ -16,8 +14,3 @@ abbrev pub answer_of : Stop → LoadAnswer
 answer_of stop.Repeated = answer.Repeated
 answer_of (stop.Refused rule) = answer.Refused rule
 answer_of stop.Memory = answer.Memory
-
--- what a keeper's error is answered as
-abbrev pub broke : KeeperError → LoadAnswer
-broke error.Failed = answer.KeeperFault
-broke error.Memory = answer.Memory

@@ -1,13 +1,13 @@
 // The load of a window.
-ghost use Rattle.std.specs.Prelude.{◌≡◌, ◌≤◌};
+ghost use Rattle.std.specs.Prelude.{◌≡◌, ◌≤◌, IfOk, OnErr, OnOk};
 ghost use Rattle.dv_text.specs.Causes.{Rose};
 ghost use Rattle.dv_text.specs.Keys.{hashes_of};
 ghost use Rattle.dv_text.specs.Told.{Told};
+ghost use Rattle.dv_records.specs.Changes.{KeeperCause};
 ghost use Rattle.dv_records.specs.States.{State};
 ghost use Rattle.dv_vault.specs.Additions.{Fits};
 ghost use Rattle.dv_window.specs.Offices.{Agrees, AnswerSays, IsAtRest, OfficeAfter, StandsFor, StoreAfter};
-ghost use Rattle.dv_window.specs.Plans.{CarriedOut};
-ghost use Rattle.dv_window.specs.Stopping as spec;
+ghost use Rattle.dv_window.specs.Plans.{held_with};
 
 use crate::offices::{Office, Order};
 use dv_catalog::WindowIn;
@@ -16,16 +16,6 @@ use dv_records::{Keeper, KeeperError, LoadAnswer};
 use dv_text::KeyDigest;
 use dv_vault::Addition;
 use std::alloc::Global;
-
-// What a keeper's error is answered as.
-fn broke(error: KeeperError) -> LoadAnswer
-    ensures { result ≡ spec.broke error }
-{
-    match error {
-        KeeperError::Failed => LoadAnswer::KeeperFault,
-        KeeperError::Memory => LoadAnswer::Memory,
-    }
-}
 
 impl Office {
     /// Loads a window: decides what comes of it, gives it to the keeper, and adds it to the vault.
@@ -55,29 +45,32 @@ impl Office {
         ensures later { K.faults keeper.old ≤ K.faults keeper.new }
     {
         match self.plan(alloc, given, digest) {
-            Ok(addition) => self.carry_out(alloc, keeper, addition),
+            Ok(addition) => match self.carry_out(alloc, keeper, addition) {
+                Ok(rows) => LoadAnswer::Loaded { rows },
+                Err(KeeperError::Failed) => LoadAnswer::KeeperFault,
+                Err(KeeperError::Memory) => LoadAnswer::Memory,
+            },
             Err(stop) => LoadAnswer::from(stop),
         }
     }
 
-    // Gives an addition to the keeper and to the vault.
+    // Gives an addition to the keeper and to the vault, and answers the number of its rows.
     fn carry_out<K: Keeper>(
         &mut self,
         alloc: Global,
         keeper: &mut K,
         addition: Addition,
-    ) -> LoadAnswer
+    ) -> Result<u64, KeeperError>
         requires fits { Fits self.old.vault addition }
         requires agrees { Told (K.store keeper.old) (Agrees self.old) }
-        ensures carried { CarriedOut self.old addition result self.new }
-        ensures store { StoreAfter self.new (K.store keeper.old) result (K.store keeper.new) }
-        ensures cause { result ≡ LoadAnswer.KeeperFault → Rose (K.faults keeper.old) (K.faults keeper.new) }
-        ensures later { K.faults keeper.old ≤ K.faults keeper.new }
+        ensures rows { IfOk result (λ rows. rows ≡ addition.rows) }
+        ensures taken { OnOk result (self.new ≡ held_with addition self.old) }
+        ensures kept { OnErr result (self.new ≡ self.old) }
+        ensures store { OnOk result (Told (K.store keeper.new) (Agrees self.new)) }
+        ensures cause { KeeperCause (K.faults keeper.old) (K.faults keeper.new) result }
     {
         let rows = addition.rows;
-        if let Err(error) = self.vault.take(alloc, keeper, addition) {
-            return broke(error);
-        }
-        LoadAnswer::Loaded { rows }
+        self.vault.take(alloc, keeper, addition)?;
+        Ok(rows)
     }
 }

@@ -1,7 +1,4 @@
-use Rattle.std.proofs.Common.{◌≡◌, ◌∷◌, filter, map, nat_le, take, Some, false}
-use Rattle.csv.specs.Writing.{fields_written, has_written, text_written, writer_setup}
-use Rattle.dv_mart.specs.Texts.{csv_text}
-use Rattle.dv_mart.specs.Writers.{row_writer}
+use Rattle.dv_mart.proofs.Vocabulary.{◌≡◌, ◌∷◌, filter, map, nat_le, take, Some, false, fields_written, has_written, text_written, writer_setup, csv_text, row_writer}
 use Rattle.dv_mart.proofs.csv_texts.rows_text_up_to.Given as goal
 
 abbrev pub invariant-loop-row : goal.invariant-loop-row

@@ -1,9 +1,4 @@
-use Rattle.std.proofs.Common.{◌≡◌, ◌<◌, ◌∙◌, length, refl, subst, sym}
-use Rattle.std.proofs.lemmas.Result.{IfOk-weaker}
-use Rattle.dv_catalog.specs.declared.tables.TableId.TheVariants.{Hub}
-use Rattle.dv_catalog.specs.Entries.{Mapping}
-use Rattle.dv_records.specs.declared.stores.Rows.TheVariants.{Hubs}
-use Rattle.dv_records.specs.ReadBack.{hub_rows}
+use Rattle.dv_mart.proofs.Vocabulary.{◌≡◌, ◌<◌, ◌∙◌, length, refl, subst, sym, IfOk-weaker, Hub, Mapping, Hubs, hub_rows}
 use Rattle.dv_mart.proofs.VaultMarts.{hub_within, said}
 use Rattle.dv_mart.proofs.marts.hub_text.Goals as goal
 

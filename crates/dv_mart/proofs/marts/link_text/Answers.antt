@@ -1,9 +1,4 @@
-use Rattle.std.proofs.Common.{◌≡◌, ◌<◌, ◌∙◌, length, refl, subst, sym}
-use Rattle.std.proofs.lemmas.Result.{IfOk-weaker}
-use Rattle.dv_catalog.specs.declared.tables.TableId.TheVariants.{Link}
-use Rattle.dv_catalog.specs.Entries.{Mapping}
-use Rattle.dv_records.specs.declared.stores.Rows.TheVariants.{Links}
-use Rattle.dv_records.specs.ReadBack.{link_rows}
+use Rattle.dv_mart.proofs.Vocabulary.{◌≡◌, ◌<◌, ◌∙◌, length, refl, subst, sym, IfOk-weaker, Link, Mapping, Links, link_rows}
 use Rattle.dv_mart.proofs.VaultMarts.{link_within, said}
 use Rattle.dv_mart.proofs.marts.link_text.Goals as goal
 

@@ -1,4 +1,4 @@
-use Rattle.std.proofs.Common.{inl, inr, subst}
+use Rattle.dv_mart.proofs.Vocabulary.{inl, inr, subst}
 use Rattle.dv_mart.proofs.OfferedTables.{CanBe, can_be}
 use Rattle.dv_mart.proofs.marts.mart_text.Goals as goal
 

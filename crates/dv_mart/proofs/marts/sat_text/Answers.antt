@@ -1,9 +1,4 @@
-use Rattle.std.proofs.Common.{◌≡◌, ◌<◌, ◌∙◌, length, refl, subst, sym}
-use Rattle.std.proofs.lemmas.Result.{IfOk-weaker}
-use Rattle.dv_catalog.specs.declared.tables.TableId.TheVariants.{Sat}
-use Rattle.dv_catalog.specs.Entries.{Mapping}
-use Rattle.dv_records.specs.declared.stores.Rows.TheVariants.{Sats}
-use Rattle.dv_records.specs.ReadBack.{sat_rows}
+use Rattle.dv_mart.proofs.Vocabulary.{◌≡◌, ◌<◌, ◌∙◌, length, refl, subst, sym, IfOk-weaker, Sat, Mapping, Sats, sat_rows}
 use Rattle.dv_mart.proofs.VaultMarts.{said, sat_within}
 use Rattle.dv_mart.proofs.marts.sat_text.Goals as goal
 

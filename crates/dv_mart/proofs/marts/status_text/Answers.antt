@@ -1,8 +1,4 @@
-use Rattle.std.proofs.Common.{◌∙◌, refl}
-use Rattle.std.proofs.lemmas.Result.{IfOk-weaker}
-use Rattle.dv_catalog.specs.declared.tables.TableId.TheVariants.{Status}
-use Rattle.dv_records.specs.declared.stores.Rows.TheVariants.{Statuses}
-use Rattle.dv_records.specs.ReadBack.{status_rows}
+use Rattle.dv_mart.proofs.Vocabulary.{◌∙◌, refl, IfOk-weaker, Status, Statuses, status_rows}
 use Rattle.dv_mart.proofs.VaultMarts.{said, status_within}
 use Rattle.dv_mart.proofs.marts.status_text.Goals as goal
 

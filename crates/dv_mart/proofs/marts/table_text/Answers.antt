@@ -1,6 +1,4 @@
-use Rattle.std.proofs.Common.{◌≡◌, ◌∙◌, ap, sym, inl, inr, true}
-use Rattle.std.proofs.lemmas.Bool.{false≢true}
-use Rattle.dv_vault.specs.Vaults.{is_kept}
+use Rattle.dv_mart.proofs.Vocabulary.{◌≡◌, ◌∙◌, ap, sym, inl, inr, true, false≢true, is_kept}
 use Rattle.dv_mart.proofs.OfferedTables.{named_kept}
 use Rattle.dv_mart.proofs.marts.table_text.Goals as goal
 

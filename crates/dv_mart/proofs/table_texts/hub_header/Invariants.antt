@@ -1,7 +1,4 @@
-use Rattle.std.proofs.Common.{◌≡◌, ◌++◌, codes, map}
-use Rattle.std.specs.Fmt.{decimal}
-use Rattle.std.specs.List.{range_with_len}
-use Rattle.dv_mart.specs.Texts.{raw_header}
+use Rattle.dv_mart.proofs.Vocabulary.{◌≡◌, ◌++◌, codes, map, decimal, range_with_len, raw_header}
 use Rattle.dv_mart.proofs.table_texts.hub_header.Given as goal
 
 abbrev pub invariant-loop-n : goal.invariant-loop-n

@@ -1,6 +1,4 @@
-use Rattle.std.proofs.Common.{◌≡◌, ◌++◌, map, take}
-use Rattle.std.specs.Prelude.{slice_get}
-use Rattle.dv_catalog.specs.Tables.{hub_name}
+use Rattle.dv_mart.proofs.Vocabulary.{◌≡◌, ◌++◌, map, take, slice_get, hub_name}
 use Rattle.dv_mart.proofs.table_texts.push_hub_names.Given as goal
 
 abbrev pub invariant-loop-hub : goal.invariant-loop-hub

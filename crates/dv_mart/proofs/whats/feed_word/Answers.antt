@@ -1,5 +1,4 @@
-use Rattle.std.proofs.Common.{◌∙◌, ap, codes}
-use Rattle.dv_mart.specs.Whats.{behind}
+use Rattle.dv_mart.proofs.Vocabulary.{◌∙◌, ap, codes, behind}
 use Rattle.dv_mart.proofs.NoFeeds.{no_feed}
 use Rattle.dv_mart.proofs.whats.feed_word.Goals as goal
 

@@ -1,11 +1,4 @@
-use Rattle.std.proofs.Common.{◌≡◌, ◌<◌, ◌≤◌, ◌∙◌, ap, arith, get_or, length, map, subst, sym}
-use Rattle.std.proofs.lemmas.List.{length-map}
-use Rattle.std.proofs.Math.ListN.{get_or-map}
-use Rattle.dv_text.specs.Keys.{hashes_of}
-use Rattle.dv_catalog.specs.TableLookups.{is_table_of}
-use Rattle.dv_records.specs.declared.stores.TableRows.{TableRows}
-use Rattle.dv_vault.specs.Additions.{ClashesAt}
-use Rattle.dv_vault.specs.Vaults.{entry_of, is_up_to, names_of_hubs}
+use Rattle.dv_vault.proofs.Vocabulary.{◌≡◌, ◌<◌, ◌≤◌, ◌∙◌, ap, arith, get_or, length, map, subst, sym, length-map, get_or-map, hashes_of, is_table_of, TableRows, ClashesAt, entry_of, names_of_hubs, is_up_to}
 use Rattle.dv_vault.proofs.BatchesSoFar.{at_last, clashed, more_at, passes_here}
 use Rattle.dv_vault.proofs.batches.all_deltas.Goals as goal
 

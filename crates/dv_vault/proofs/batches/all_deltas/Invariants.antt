@@ -1,6 +1,4 @@
-use Rattle.std.proofs.Common.{map, take}
-use Rattle.dv_text.specs.Keys.{hashes_of}
-use Rattle.dv_vault.specs.Vaults.{entry_of, names_of_hubs}
+use Rattle.dv_vault.proofs.Vocabulary.{map, take, hashes_of, entry_of, names_of_hubs}
 use Rattle.dv_vault.proofs.BatchesSoFar.{SoFar}
 use Rattle.dv_vault.proofs.batches.all_deltas.Given as goal
 

@@ -1,6 +1,4 @@
-use Rattle.std.proofs.Common.{◌≡◌, ◌+◌, take}
-use Rattle.std.specs.Prelude.{sum_by}
-use Rattle.dv_records.specs.Weights.{rows_weight}
+use Rattle.dv_vault.proofs.Vocabulary.{◌≡◌, ◌+◌, take, sum_by, rows_weight}
 use Rattle.dv_vault.proofs.batches.weight_with.Given as goal
 
 abbrev pub invariant-loop-batch : goal.invariant-loop-batch

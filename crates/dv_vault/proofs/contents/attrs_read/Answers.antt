@@ -1,5 +1,4 @@
-use Rattle.std.proofs.Common.{◌∙◌, sym}
-use Rattle.dv_vault.specs.Vaults.{entries_of}
+use Rattle.dv_vault.proofs.Vocabulary.{◌∙◌, sym, entries_of}
 use Rattle.dv_vault.proofs.ContentFacts.{absent_attrs}
 use Rattle.dv_vault.proofs.contents.attrs_read.Goals as goal
 

@@ -1,4 +1,4 @@
-use Rattle.dv_vault.specs.Vaults.{entries_of}
+use Rattle.dv_vault.proofs.Vocabulary.{entries_of}
 use Rattle.dv_vault.proofs.VaultFacts.{hub_there}
 use Rattle.dv_vault.proofs.contents.key_read.Goals as goal
 

@@ -1,6 +1,4 @@
-use Rattle.std.proofs.Common.{◌≡◌, inl, inr, [], ◌++◌, sym, ◌∙◌, ap, append-nil}
-use Rattle.dv_records.specs.ReadBack.{keys_read}
-use Rattle.dv_vault.specs.Vaults.{entries_of}
+use Rattle.dv_vault.proofs.Vocabulary.{◌≡◌, inl, inr, [], ◌++◌, sym, ◌∙◌, ap, append-nil, keys_read, entries_of}
 use Rattle.dv_vault.proofs.ContentFacts.{no_keys}
 use Rattle.dv_vault.proofs.contents.keys_read.Goals as goal
 

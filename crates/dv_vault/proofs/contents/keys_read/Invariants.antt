@@ -1,7 +1,4 @@
-use Rattle.std.proofs.Common.{◌≡◌, ◌++◌, true, length, nat_lt}
-use Rattle.std.specs.List.{list_all}
-use Rattle.dv_records.specs.ReadBack.{keys_read}
-use Rattle.dv_vault.specs.Vaults.{entries_of}
+use Rattle.dv_vault.proofs.Vocabulary.{◌≡◌, ◌++◌, true, length, nat_lt, list_all, keys_read, entries_of}
 use Rattle.dv_vault.proofs.contents.keys_read.Given as goal
 
 -- the keys so far and those behind them are all

@@ -1,4 +1,4 @@
-use Rattle.std.proofs.Common.{◌≡◌, ◌≤◌, [], replicate}
+use Rattle.dv_vault.proofs.Vocabulary.{◌≡◌, ◌≤◌, [], replicate}
 use Rattle.dv_vault.proofs.contents.missing_key.Given as goal
 
 abbrev pub invariant-loop : goal.invariant-loop

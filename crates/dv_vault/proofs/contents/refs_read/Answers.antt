@@ -1,8 +1,5 @@
-use Rattle.std.proofs.Common.{[], ◌∷◌, ◌++◌, ◌∙◌, ap}
-use Rattle.std.specs.List.{list_all}
+use Rattle.dv_vault.proofs.Vocabulary.{[], ◌∷◌, ◌++◌, ◌∙◌, ap, list_all, valid_link, entries_of}
 use Rattle.dv_catalog.specs.Mappings.{is_hub}
-use Rattle.dv_catalog.proofs.ValidReads.{valid_link}
-use Rattle.dv_vault.specs.Vaults.{entries_of}
 use Rattle.dv_vault.proofs.VaultFacts.{hub_there, link_there}
 use Rattle.dv_vault.proofs.ContentFacts.{hub_within, link_within, refs_of_hub, refs_of_link}
 use Rattle.dv_vault.proofs.contents.refs_read.Goals as goal

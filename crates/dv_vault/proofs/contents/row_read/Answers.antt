@@ -1,4 +1,4 @@
-use Rattle.dv_catalog.proofs.ValidReads.{valid_feed}
+use Rattle.dv_vault.proofs.Vocabulary.{valid_feed}
 use Rattle.dv_vault.proofs.ContentFacts.{parent_there}
 use Rattle.dv_vault.proofs.contents.row_read.Goals as goal
 

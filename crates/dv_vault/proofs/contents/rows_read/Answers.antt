@@ -1,5 +1,4 @@
-use Rattle.dv_records.specs.ReadBack.{row_read}
-use Rattle.dv_vault.specs.Vaults.{entries_of}
+use Rattle.dv_vault.proofs.Vocabulary.{row_read, entries_of}
 use Rattle.dv_vault.proofs.ContentFacts.{rows_more}
 use Rattle.dv_vault.proofs.contents.rows_read.Goals as goal
 

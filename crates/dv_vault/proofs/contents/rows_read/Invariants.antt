@@ -1,9 +1,4 @@
-use Rattle.std.proofs.Common.{◌≡◌, Some, take}
-use Rattle.std.specs.Prelude.{slice_get}
-use Rattle.std.specs.List.{filter_map}
-use Rattle.dv_catalog.specs.declared.entries.FeedDef.{FeedDef}
-use Rattle.dv_records.specs.ReadBack.{row_read}
-use Rattle.dv_vault.specs.Vaults.{entries_of}
+use Rattle.dv_vault.proofs.Vocabulary.{◌≡◌, Some, take, slice_get, filter_map, FeedDef, row_read, entries_of}
 use Rattle.dv_vault.proofs.contents.rows_read.Given as goal
 
 -- the rows of the parents so far

@@ -1,8 +1,4 @@
-use Rattle.std.proofs.Common.{◌∙◌, ap, arith, map}
-use Rattle.std.specs.List.{list_all}
-use Rattle.dv_keys.specs.HubRows.{are_hub_rows}
-use Rattle.dv_records.specs.ReadBack.{hub_rows_in}
-use Rattle.dv_vault.specs.Vaults.{entries_of}
+use Rattle.dv_vault.proofs.Vocabulary.{◌∙◌, ap, arith, map, list_all, are_hub_rows, hub_rows_in, entries_of}
 use Rattle.dv_vault.proofs.HubLists.{hubs_more, kept_more}
 use Rattle.dv_vault.proofs.VaultFacts.{hub_there}
 use Rattle.dv_vault.proofs.hub_keys.hub_keys.Goals as goal

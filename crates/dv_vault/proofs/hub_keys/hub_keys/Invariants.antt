@@ -1,8 +1,4 @@
-use Rattle.std.proofs.Common.{◌≡◌, ◌≤◌, true, map}
-use Rattle.std.specs.List.{list_all, range_with_len}
-use Rattle.dv_keys.specs.HubRows.{are_hub_rows}
-use Rattle.dv_records.specs.ReadBack.{hub_rows_in}
-use Rattle.dv_vault.specs.Vaults.{entries_of}
+use Rattle.dv_vault.proofs.Vocabulary.{◌≡◌, ◌≤◌, true, map, list_all, range_with_len, are_hub_rows, hub_rows_in, entries_of}
 use Rattle.dv_vault.proofs.hub_keys.hub_keys.Given as goal
 
 -- the hubs so far, whose rows are those of the vault

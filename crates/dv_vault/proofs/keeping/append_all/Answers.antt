@@ -1,9 +1,4 @@
-use Rattle.std.proofs.Common.{rules, ◌≡◌, ◌<◌, ◌∙◌, ap, arith, get_or, length, map, subst, sym}
-use Rattle.std.proofs.lemmas.List.{length-map}
-use Rattle.std.proofs.Math.ListN.{get_or-map}
-use Rattle.std.proofs.lemmas.Slice.Zip.{AllZip-long}
-use Rattle.dv_vault.specs.Keeping.{IsOfKind, TakesRows}
-use Rattle.dv_vault.specs.Vaults.{entry_of}
+use Rattle.dv_vault.proofs.Vocabulary.{rules, ◌≡◌, ◌<◌, ◌∙◌, ap, arith, get_or, length, map, subst, sym, length-map, get_or-map, AllZip-long, IsOfKind, TakesRows, entry_of}
 use Rattle.dv_vault.proofs.BatchSteps.{AtPlace, at_place, pair_at, whole}
 use Rattle.dv_vault.proofs.StoreSteps.{caused, stored_kind, took_more, took_none}
 use Rattle.dv_vault.proofs.keeping.append_all.Goals as goal
@@ -28,7 +23,8 @@ append_rows-requires-clause-stored g c =
     let too : c.loop-i.i < length c.args.batches.now = omega (arith, AllZip-long IsOfKind (map entry_of c.args.tables.now) c.args.batches.now c.requires.kinds) in
     let here : get_or (map entry_of c.args.tables.now) c.loop-i.i (entry_of c.index-tables-i.result) ≡ entry_of c.index-tables-i.result = get_or-map entry_of c.args.tables.now c.loop-i.i c.index-tables-i.result ∙ ap entry_of (sym c.index-tables-i.is) in
     let kind : IsOfKind (entry_of c.index-tables-i.result) c.index-batches-i.result = pair_at IsOfKind (map entry_of c.args.tables.now) c.args.batches.now c.loop-i.i (entry_of c.index-tables-i.result) c.index-batches-i.result c.requires.kinds under here (sym c.index-batches-i.is) in
-    let at : AtPlace (map entry_of c.args.tables.now) c.args.batches.now c.loop-i.i (entry_of c.index-tables-i.result) c.index-batches-i.result = at_place (map entry_of c.args.tables.now) c.args.batches.now c.loop-i.i (entry_of c.index-tables-i.result) c.index-batches-i.result c.requires.apart under here too (sym c.index-batches-i.is) in
+    let at : AtPlace (map entry_of c.args.tables.now) c.args.batches.now c.loop-i.i (entry_of c.index-tables-i.result) c.index-batches-i.result =
+    at_place (map entry_of c.args.tables.now) c.args.batches.now c.loop-i.i (entry_of c.index-tables-i.result) c.index-batches-i.result c.requires.apart under here too (sym c.index-batches-i.is) in
     let named : c.id.result ≡ (entry_of c.index-tables-i.result).table = cc in
     stored_kind (map entry_of c.args.tables.now) c.args.batches.now c.loop-i.i (entry_of c.index-tables-i.result) c.index-batches-i.result at kind c.id.result named
     (g.K.Keeper.store c.args.keeper.now) (g.K.Keeper.store c.loop-i.keeper) c.loop-i.invariant.told
@@ -44,7 +40,8 @@ loop-i-preserved g c =
     let too : c.loop-i.i < length c.args.batches.now = omega (arith, AllZip-long IsOfKind (map entry_of c.args.tables.now) c.args.batches.now c.requires.kinds) in
     let here : get_or (map entry_of c.args.tables.now) c.loop-i.i (entry_of c.index-tables-i.result) ≡ entry_of c.index-tables-i.result = get_or-map entry_of c.args.tables.now c.loop-i.i c.index-tables-i.result ∙ ap entry_of (sym c.index-tables-i.is) in
     let kind : IsOfKind (entry_of c.index-tables-i.result) c.index-batches-i.result = pair_at IsOfKind (map entry_of c.args.tables.now) c.args.batches.now c.loop-i.i (entry_of c.index-tables-i.result) c.index-batches-i.result c.requires.kinds under here (sym c.index-batches-i.is) in
-    let at : AtPlace (map entry_of c.args.tables.now) c.args.batches.now c.loop-i.i (entry_of c.index-tables-i.result) c.index-batches-i.result = at_place (map entry_of c.args.tables.now) c.args.batches.now c.loop-i.i (entry_of c.index-tables-i.result) c.index-batches-i.result c.requires.apart under here too (sym c.index-batches-i.is) in
+    let at : AtPlace (map entry_of c.args.tables.now) c.args.batches.now c.loop-i.i (entry_of c.index-tables-i.result) c.index-batches-i.result =
+    at_place (map entry_of c.args.tables.now) c.args.batches.now c.loop-i.i (entry_of c.index-tables-i.result) c.index-batches-i.result c.requires.apart under here too (sym c.index-batches-i.is) in
     let named : c.id.result ≡ (entry_of c.index-tables-i.result).table = cc in
     record {
       told = took_more (map entry_of c.args.tables.now) c.args.batches.now c.loop-i.i (entry_of c.index-tables-i.result) c.index-batches-i.result at kind c.id.result named

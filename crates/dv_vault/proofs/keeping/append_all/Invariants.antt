@@ -1,6 +1,4 @@
-use Rattle.std.proofs.Common.{◌≤◌, map, take}
-use Rattle.dv_vault.specs.Keeping.{TakesRows}
-use Rattle.dv_vault.specs.Vaults.{entry_of}
+use Rattle.dv_vault.proofs.Vocabulary.{◌≤◌, map, take, TakesRows, entry_of}
 use Rattle.dv_vault.proofs.keeping.append_all.Given as goal
 
 -- the keeper has the batches so far

@@ -1,4 +1,4 @@
-use Rattle.std.specs.Vec.Iter.{into_iter_items, into_iter_len}
+use Rattle.dv_vault.proofs.Vocabulary.{into_iter_items, into_iter_len}
 use Rattle.dv_vault.proofs.BatchSteps.{IsUnder}
 use Rattle.dv_vault.proofs.keeping.apply_all.Given as goal
 

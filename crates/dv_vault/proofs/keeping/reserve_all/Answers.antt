@@ -1,8 +1,4 @@
-use Rattle.std.proofs.Common.{◌≡◌, ◌<◌, ◌≤◌, ◌∙◌, arith, length, subst, sym}
-use Rattle.std.proofs.Math.Seq.{map-set_same}
-use Rattle.dv_records.specs.Stores.{row_count}
-use Rattle.dv_vault.specs.declared.tables.Table.{Table}
-use Rattle.dv_vault.specs.Vaults.{entry_of, spare_of}
+use Rattle.dv_vault.proofs.Vocabulary.{◌≡◌, ◌<◌, ◌≤◌, ◌∙◌, arith, length, subst, sym, map-set_same, row_count, Table, entry_of, spare_of}
 use Rattle.dv_vault.proofs.BatchSteps.{pairs_more}
 use Rattle.dv_vault.proofs.keeping.reserve_all.Goals as goal
 

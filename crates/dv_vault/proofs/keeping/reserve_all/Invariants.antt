@@ -1,7 +1,4 @@
-use Rattle.std.proofs.Common.{◌≡◌, ◌≤◌, map, take}
-use Rattle.std.specs.List.{AllZip}
-use Rattle.dv_records.specs.Stores.{row_count}
-use Rattle.dv_vault.specs.Vaults.{entry_of, spare_of}
+use Rattle.dv_vault.proofs.Vocabulary.{◌≡◌, ◌≤◌, map, take, AllZip, row_count, entry_of, spare_of}
 use Rattle.dv_vault.proofs.keeping.reserve_all.Given as goal
 
 -- the tables so far have room, and no table's rows have changed

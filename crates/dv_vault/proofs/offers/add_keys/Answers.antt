@@ -1,5 +1,4 @@
-use Rattle.std.proofs.Common.{map, refl}
-use Rattle.dv_vault.specs.Offered.{offered_by}
+use Rattle.dv_vault.proofs.Vocabulary.{map, refl, offered_by}
 use Rattle.dv_vault.proofs.Gathered.{got_here, key_added, key_passed, keys_ended}
 use Rattle.dv_vault.proofs.offers.add_keys.Goals.{then-stands_at+in_ok-add, else-stands_at}
 use Rattle.dv_vault.proofs.offers.add_keys.Goals as goal

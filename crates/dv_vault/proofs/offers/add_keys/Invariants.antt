@@ -1,5 +1,4 @@
-use Rattle.std.proofs.Common.{◌≡◌, ◌++◌, drop, map}
-use Rattle.dv_vault.specs.Offered.{kept, offered_by, single_keys}
+use Rattle.dv_vault.proofs.Vocabulary.{◌≡◌, ◌++◌, drop, map, kept, offered_by, single_keys}
 use Rattle.dv_vault.proofs.offers.add_keys.Given as goal
 
 -- the keys so far and those behind them are all

@@ -1,6 +1,4 @@
-use Rattle.std.proofs.Common.{◌≡◌, ◌∷◌, [], ◌++◌, map, take}
-use Rattle.std.specs.List.{flat_map}
-use Rattle.dv_vault.specs.Offered.{kept, offered_by}
+use Rattle.dv_vault.proofs.Vocabulary.{◌≡◌, ◌∷◌, [], ◌++◌, map, take, flat_map, kept, offered_by}
 use Rattle.dv_vault.proofs.offers.add_link_offers.Given as goal
 
 abbrev pub invariant-loop-row : goal.invariant-loop-row

@@ -1,6 +1,4 @@
-use Rattle.std.proofs.Common.{◌≡◌, ◌++◌, List, map, subst}
-use Rattle.std.specs.Prelude.{OnOk}
-use Rattle.dv_vault.specs.Offered.{Offered, offered_by}
+use Rattle.dv_vault.proofs.Vocabulary.{◌≡◌, ◌++◌, List, map, subst, OnOk, Offered, offered_by}
 use Rattle.dv_vault.proofs.Gathered.{brought_to_hub, brought_to_link}
 use Rattle.dv_vault.proofs.offers.add_offers.Goals as goal
 

@@ -1,5 +1,4 @@
-use Rattle.std.proofs.Common.{◌≡◌, map, take}
-use Rattle.dv_vault.specs.Offered.{all_offered, offered_by}
+use Rattle.dv_vault.proofs.Vocabulary.{◌≡◌, map, take, all_offered, offered_by}
 use Rattle.dv_vault.proofs.offers.all_offers.Given as goal
 
 abbrev pub invariant-loop-staged : goal.invariant-loop-staged

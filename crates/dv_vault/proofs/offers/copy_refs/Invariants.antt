@@ -1,4 +1,4 @@
-use Rattle.std.proofs.Common.{◌≡◌, take}
+use Rattle.dv_vault.proofs.Vocabulary.{◌≡◌, take}
 use Rattle.dv_vault.proofs.offers.copy_refs.Given as goal
 
 -- the copies so far are the first keys

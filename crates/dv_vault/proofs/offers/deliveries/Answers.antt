@@ -1,6 +1,4 @@
-use Rattle.std.proofs.Common.{◌≡◌, List, subst}
-use Rattle.std.specs.Prelude.{IfOk}
-use Rattle.dv_records.specs.declared.deliveries.Delivery.{Delivery}
+use Rattle.dv_vault.proofs.Vocabulary.{◌≡◌, List, subst, IfOk, Delivery}
 use Rattle.dv_vault.proofs.Gathered.{sorted_offers}
 use Rattle.dv_vault.proofs.offers.deliveries.Goals as goal
 

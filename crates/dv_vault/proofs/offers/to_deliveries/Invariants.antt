@@ -1,5 +1,4 @@
-use Rattle.std.proofs.Common.{◌≡◌, map, take}
-use Rattle.dv_vault.specs.Offered.{delivery_to, offered_by}
+use Rattle.dv_vault.proofs.Vocabulary.{◌≡◌, map, take, delivery_to, offered_by}
 use Rattle.dv_vault.proofs.offers.to_deliveries.Given as goal
 
 abbrev pub invariant-loop-offer : goal.invariant-loop-offer

@@ -1,6 +1,4 @@
-use Rattle.std.proofs.Common.{◌≡◌, map, take}
-use Rattle.dv_records.specs.Stores.{no_rows}
-use Rattle.dv_vault.specs.Vaults.{entry_of}
+use Rattle.dv_vault.proofs.Vocabulary.{◌≡◌, map, take, no_rows, entry_of}
 use Rattle.dv_vault.proofs.raw_tables.empty_tables.Given as goal
 
 abbrev pub invariant-loop-id : goal.invariant-loop-id

@@ -1,8 +1,4 @@
-use Rattle.std.proofs.Common.{◌≡◌, subst, sym}
-use Rattle.std.specs.Prelude.{All}
-use Rattle.dv_text.specs.Keys.{hashes_of}
-use Rattle.dv_keys.specs.LinkDeltas.{AreLinkItems, link_hashed}
-use Rattle.dv_records.specs.Deltas.{HasNoClash}
+use Rattle.dv_vault.proofs.Vocabulary.{nat_le, ◌∙◌, All-map, list_all-map, LinkRow, ◌≡◌, subst, sym, All, hashes_of, AreLinkItems, link_hashed, HasNoClash}
 use Rattle.dv_vault.proofs.Stamped.{link_delta_load}
 use Rattle.dv_vault.proofs.TableItems.{link_items}
 use Rattle.dv_vault.proofs.tables.link_rows.Goals as goal
@@ -17,4 +13,9 @@ returns-clause-apart g c =
 
 pub returns-clause-stamped : goal.returns-clause-stamped
 returns-clause-stamped g c =
-    subst (All (λ row. row.load ≡ c.args.window.now.load)) (sym ((c.in_ok-rows.ensures {u = tt}).rows)) (link_delta_load c.args.catalog.now (hashes_of g.H.KeyDigest.digest_of g.H.KeyDigest.size) c.args.window.now.load c.args.table.now.rows c.in_ok-items.items)
+    All-map (λ load. load ≡ c.args.window.now.load) (λ (row : LinkRow). row.load) c.in_ok-rows.rows
+    (subst (All (λ (row : LinkRow). row.load ≡ c.args.window.now.load)) (sym ((c.in_ok-rows.ensures {u = tt}).rows))
+    (link_delta_load c.args.catalog.now (hashes_of g.H.KeyDigest.digest_of g.H.KeyDigest.size) c.args.window.now.load c.args.table.now.rows c.in_ok-items.items))
+
+pub delta-requires-clause-dated : goal.delta-requires-clause-dated
+delta-requires-clause-dated g c κs within = sym (list_all-map (λ load. nat_le load c.args.window.now.load) (λ (row : LinkRow). row.load) c.args.table.now.rows) ∙ c.requires.dated

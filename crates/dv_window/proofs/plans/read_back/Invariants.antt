@@ -1,5 +1,4 @@
-use Rattle.std.proofs.Common.{◌≡◌, map, take}
-use Rattle.dv_records.specs.ReadBack.{content_read}
+use Rattle.dv_window.proofs.Vocabulary.{map, take, ◌≡◌, content_read}
 use Rattle.dv_window.proofs.plans.read_back.Given as goal
 
 -- the feeds so far are read back

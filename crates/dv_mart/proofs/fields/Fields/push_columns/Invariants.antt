@@ -1,5 +1,4 @@
-use Rattle.std.proofs.Common.{◌≡◌, ◌++◌, take}
-use Rattle.std.specs.Prelude.{flat_map}
+use Rattle.dv_mart.proofs.Vocabulary.{◌≡◌, ◌++◌, take, flat_map}
 use Rattle.dv_mart.proofs.fields.Fields.push_columns.Given as goal
 
 abbrev pub invariant-loop-columns : goal.invariant-loop-columns

@@ -1,5 +1,4 @@
-use Rattle.std.proofs.Common.{◌≡◌, ◌++◌, map, take}
-use Rattle.hex.specs.Hex.{encode_lower}
+use Rattle.dv_mart.proofs.Vocabulary.{◌≡◌, ◌++◌, map, take, encode_lower}
 use Rattle.dv_mart.proofs.fields.Fields.push_digests.Given as goal
 
 abbrev pub invariant-loop-digest : goal.invariant-loop-digest

@@ -1,5 +1,4 @@
-use Rattle.std.proofs.Common.{◌≡◌, ◌++◌, take}
-use Rattle.dv_mart.specs.Texts.{all_parts}
+use Rattle.dv_mart.proofs.Vocabulary.{◌≡◌, ◌++◌, take, all_parts}
 use Rattle.dv_mart.proofs.fields.Fields.push_parts.Given as goal
 
 abbrev pub invariant-loop-key : goal.invariant-loop-key

@@ -1,4 +1,4 @@
-use Rattle.std.proofs.Common.{◌≡◌, ◌++◌, take}
+use Rattle.dv_mart.proofs.Vocabulary.{◌≡◌, ◌++◌, take}
 use Rattle.dv_mart.proofs.fields.Fields.push_texts.Given as goal
 
 abbrev pub invariant-loop-text : goal.invariant-loop-text

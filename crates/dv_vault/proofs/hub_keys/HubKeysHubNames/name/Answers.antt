@@ -1,6 +1,4 @@
-use Rattle.std.proofs.Common.{◌∙◌, ap, subst, sym}
-use Rattle.std.specs.Option.{option_map}
-use Rattle.std.specs.Slice.{IsItemAt}
+use Rattle.dv_vault.proofs.Vocabulary.{◌∙◌, ap, subst, sym, option_map, IsItemAt}
 use Rattle.dv_vault.proofs.NamedHubs.{name_there, no_name}
 use Rattle.dv_vault.proofs.hub_keys.HubKeysHubNames.name.Goals as goal
 

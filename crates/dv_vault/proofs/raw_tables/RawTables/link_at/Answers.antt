@@ -1,8 +1,5 @@
-use Rattle.std.proofs.Common.{refl, sym}
+use Rattle.dv_vault.proofs.Vocabulary.{refl, sym, Links, link_rows, entries_of, entry_of, is_link}
 use Rattle.dv_catalog.specs.declared.tables.TableId.TheVariants as ids
-use Rattle.dv_records.specs.declared.stores.Rows.TheVariants.{Links}
-use Rattle.dv_records.specs.ReadBack.{link_rows}
-use Rattle.dv_vault.specs.Vaults.{entries_of, entry_of, is_link}
 use Rattle.dv_vault.proofs.VaultFacts.{found_none, if_none, seen_none, seen_rows}
 use Rattle.dv_vault.proofs.raw_tables.RawTables.link_at.Goals as goal
 

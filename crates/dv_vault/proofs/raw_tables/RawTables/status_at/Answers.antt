@@ -1,8 +1,5 @@
-use Rattle.std.proofs.Common.{refl, sym}
+use Rattle.dv_vault.proofs.Vocabulary.{refl, sym, Statuses, status_rows, entries_of, entry_of, is_status}
 use Rattle.dv_catalog.specs.declared.tables.TableId.TheVariants as ids
-use Rattle.dv_records.specs.declared.stores.Rows.TheVariants.{Statuses}
-use Rattle.dv_records.specs.ReadBack.{status_rows}
-use Rattle.dv_vault.specs.Vaults.{entries_of, entry_of, is_status}
 use Rattle.dv_vault.proofs.VaultFacts.{found_none, if_none, seen_none, seen_rows}
 use Rattle.dv_vault.proofs.raw_tables.RawTables.status_at.Goals as goal
 

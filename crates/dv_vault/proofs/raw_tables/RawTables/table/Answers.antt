@@ -1,10 +1,4 @@
-use Rattle.std.proofs.Common.{◌∙◌, ap}
-use Rattle.std.specs.Prelude.{find}
-use Rattle.std.specs.Option.{option_map}
-use Rattle.dv_records.specs.declared.stores.TableRows.{TableRows}
-use Rattle.dv_records.specs.Stores.{table_eq}
-use Rattle.dv_vault.specs.declared.tables.Table.{Table}
-use Rattle.dv_vault.specs.Vaults.{entry_of}
+use Rattle.dv_vault.proofs.Vocabulary.{◌∙◌, ap, find, option_map, TableRows, table_eq, Table, entry_of}
 use Rattle.dv_vault.proofs.VaultFacts.{find-seen, seen-twice}
 use Rattle.dv_vault.proofs.raw_tables.RawTables.table.Goals as goal
 

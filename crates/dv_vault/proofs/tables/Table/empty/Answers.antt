@@ -1,4 +1,4 @@
-use Rattle.std.specs.List.Sorted.{IsStrictlySortedBy}
+use Rattle.dv_vault.proofs.Vocabulary.{IsStrictlySortedBy}
 use Rattle.dv_vault.proofs.tables.Table.empty.Goals as goal
 
 pub from_rows-requires-in-Sat : goal.from_rows-requires-in-Sat

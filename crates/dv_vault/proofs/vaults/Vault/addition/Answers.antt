@@ -1,7 +1,4 @@
-use Rattle.std.proofs.Common.{◌≡◌, ◌∙◌, ap, sym}
-use Rattle.std.specs.Prelude.{◌+◌, sum_by}
-use Rattle.dv_records.specs.Weights.{rows_weight, tables_weight}
-use Rattle.dv_vault.specs.Vaults.{RawVault}
+use Rattle.dv_vault.proofs.Vocabulary.{◌≡◌, ◌∙◌, ap, sym, ◌+◌, sum_by, rows_weight, tables_weight, RawVault}
 use Rattle.dv_vault.proofs.Taken.{weight_grows}
 use Rattle.dv_vault.proofs.vaults.Vault.addition.Goals as goal
 

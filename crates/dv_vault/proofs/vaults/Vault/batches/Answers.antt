@@ -1,13 +1,4 @@
-use Rattle.std.proofs.Common.{◌≡◌, List, None, ◌∙◌, ap, map, subst, sym}
-use Rattle.std.specs.Prelude.{IfOk}
-use Rattle.std.specs.List.{list_all}
-use Rattle.dv_text.specs.Keys.{hashes_of}
-use Rattle.dv_catalog.specs.TableLookups.{is_table_of}
-use Rattle.dv_records.specs.declared.stores.TableRows.{TableRows}
-use Rattle.dv_records.specs.Outcomes.{late_after}
-use Rattle.dv_vault.specs.declared.tables.Table.{Table}
-use Rattle.dv_vault.specs.Additions.{AreApart}
-use Rattle.dv_vault.specs.Vaults.{RawVault, are_up_to, entries_of, entry_of, hubs_in, last_head, rows_of_hubs}
+use Rattle.dv_vault.proofs.Vocabulary.{◌≡◌, List, None, ◌∙◌, ap, map, subst, sym, IfOk, list_all, hashes_of, is_table_of, TableRows, late_after, Table, AreApart, RawVault, entries_of, entry_of, hubs_in, last_head, rows_of_hubs, are_up_to}
 use Rattle.dv_vault.proofs.BatchesSoFar.{named_apart, vault_tables}
 use Rattle.dv_vault.proofs.Taken.{rows_not_later}
 use Rattle.dv_vault.proofs.vaults.Vault.batches.Goals as goal

@@ -1,6 +1,4 @@
-use Rattle.std.proofs.Common.{◌≡◌, ◌<◌, ◌∙◌, ap, length, subst, sym}
-use Rattle.dv_records.specs.ReadBack.{content_read}
-use Rattle.dv_vault.specs.Vaults.{IsBuilt, RawVault, entries_of}
+use Rattle.dv_vault.proofs.Vocabulary.{◌≡◌, ◌<◌, ◌∙◌, ap, length, subst, sym, content_read, IsBuilt, RawVault, entries_of}
 use Rattle.dv_vault.proofs.VaultFacts.{status_there}
 use Rattle.dv_vault.proofs.ContentFacts.{content_by, feed_there, mart_read}
 use Rattle.dv_vault.proofs.vaults.Vault.content.Goals as goal

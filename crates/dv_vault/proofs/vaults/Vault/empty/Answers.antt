@@ -1,6 +1,4 @@
-use Rattle.std.proofs.Common.{◌≡◌, ap, sym, true, subst, List}
-use Rattle.dv_text.specs.declared.rows.WindowHead.{WindowHead}
-use Rattle.dv_vault.specs.Vaults.{are_heads_of, are_rows_kept, entries_of}
+use Rattle.dv_vault.proofs.Vocabulary.{◌≡◌, ap, sym, true, subst, List, WindowHead, are_heads_of, are_rows_kept, entries_of}
 use Rattle.dv_vault.proofs.BuiltTables.{tables_kept}
 use Rattle.dv_vault.proofs.EmptyTables.{new_kept}
 use Rattle.dv_vault.proofs.vaults.Vault.empty.Goals as goal
@@ -16,5 +14,5 @@ invariant_of-result c =
       subst (λ (heads : List WindowHead). are_rows_kept heads (entries_of c.in_ok-raw.raw) ≡ true) (sym c.new.ensures) rows,
       ap (are_heads_of c.args.catalog) c.new.ensures,
       weight,
-      c.hub_count-hubs.ensures.valid,
+      c.note_valid.ensures,
     )

@@ -1,5 +1,4 @@
-use Rattle.std.proofs.Common.{◌<◌, length, subst, sym}
-use Rattle.dv_vault.specs.Vaults.{RawVault, entries_of}
+use Rattle.dv_vault.proofs.Vocabulary.{◌<◌, length, subst, sym, RawVault, entries_of}
 use Rattle.dv_vault.proofs.VaultFacts.{hub_there}
 use Rattle.dv_vault.proofs.vaults.Vault.hub.Goals as goal
 

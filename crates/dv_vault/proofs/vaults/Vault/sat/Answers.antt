@@ -1,8 +1,5 @@
-use Rattle.std.proofs.Common.{subst}
-use Rattle.std.specs.Prelude.{Contains, IfNone, IfSome}
+use Rattle.dv_vault.proofs.Vocabulary.{subst, Contains, IfNone, IfSome, tables, RawVault, entries_of}
 use Rattle.dv_catalog.specs.declared.tables.TableId.TheVariants as ids
-use Rattle.dv_catalog.specs.Tables.{tables}
-use Rattle.dv_vault.specs.Vaults.{RawVault, entries_of}
 use Rattle.dv_vault.proofs.VaultFacts.{not_of_mapping, of_mapping}
 use Rattle.dv_vault.proofs.vaults.Vault.sat.Goals as goal
 

@@ -1,5 +1,4 @@
-use Rattle.std.proofs.Common.{◌<◌, length, subst, sym}
-use Rattle.dv_vault.specs.Vaults.{RawVault, entries_of}
+use Rattle.dv_vault.proofs.Vocabulary.{◌<◌, length, subst, sym, RawVault, entries_of}
 use Rattle.dv_vault.proofs.ContentFacts.{feed_there}
 use Rattle.dv_vault.proofs.VaultFacts.{status_there}
 use Rattle.dv_vault.proofs.vaults.Vault.status.Goals as goal

@@ -1,13 +1,4 @@
-use Rattle.std.proofs.Common.{◌≡◌, ◌++◌, ◌∷◌, List, [], ◌∙◌, ap, map, subst, sym}
-use Rattle.std.specs.Vec.{with_items}
-use Rattle.dv_records.specs.declared.stores.TableRows.{TableRows}
-use Rattle.dv_records.specs.States.{head_of}
-use Rattle.dv_records.specs.Stores.{rows_in}
-use Rattle.dv_records.specs.Weights.{tables_weight}
-use Rattle.dv_vault.specs.Additions.{Fits, raw_with}
-use Rattle.dv_vault.specs.Keeping.{TakesWindow}
-use Rattle.dv_vault.specs.Vaults.{RawVault, entries_with, entry_of}
-use Rattle.dv_text.specs.Told.{Told}
+use Rattle.dv_vault.proofs.Vocabulary.{◌≡◌, ◌++◌, ◌∷◌, List, [], ◌∙◌, ap, map, subst, sym, with_items, TableRows, head_of, rows_in, tables_weight, Fits, raw_with, TakesWindow, RawVault, entries_with, entry_of, Told}
 use Rattle.dv_vault.proofs.Taken.{entries_after, entries_now, follows, heads_still, kinds, rows_still, vault_still}
 use Rattle.dv_vault.proofs.TablesApart.{vault_apart}
 use Rattle.dv_vault.proofs.vaults.Vault.take.Goals as goal

@@ -1,5 +1,4 @@
-use Rattle.std.proofs.Common.{◌∙◌, ap}
-use Rattle.dv_window.specs.Plans.{head_at}
+use Rattle.dv_window.proofs.Vocabulary.{ap, ◌∙◌, head_at}
 use Rattle.dv_window.proofs.PlanFacts.{head_feeds}
 use Rattle.dv_window.proofs.offices.Office.head_at.Goals as goal
 

@@ -1,10 +1,4 @@
-use Rattle.std.proofs.Common.{◌∙◌, ap, inr, length, subst, sym}
-use Rattle.dv_text.specs.declared.rows.Window.{Window}
-use Rattle.dv_text.specs.Keys.{hashes_of}
-use Rattle.dv_records.specs.Outcomes.{full_at, late_after}
-use Rattle.dv_vault.specs.Additions.{IsAddition}
-use Rattle.dv_vault.specs.Vaults.{last_head}
-use Rattle.dv_window.specs.Offices.{Held}
+use Rattle.dv_window.proofs.Vocabulary.{ap, inr, length, subst, sym, ◌∙◌, hashes_of, last_head, late_after, full_at, Window, IsAddition, Held}
 use Rattle.dv_window.proofs.PlanFacts.{not_late}
 use Rattle.dv_window.proofs.offices.Office.plan_new.Goals as goal
 

@@ -1,8 +1,4 @@
-use Rattle.std.proofs.Common.{◌≡◌, ◌∙◌, None, sym, true, subst}
-use Rattle.dv_text.specs.declared.rows.Window.{Window}
-use Rattle.dv_catalog.specs.Entries.{Mapping}
-use Rattle.dv_catalog.specs.Windows.{window_of, window_rule}
-use Rattle.dv_records.specs.States.{is_window}
+use Rattle.dv_window.proofs.Vocabulary.{None, subst, sym, true, ◌∙◌, ◌≡◌, Mapping, is_window, window_of, window_rule, Window}
 use Rattle.dv_window.proofs.PlanFacts.{early_none, read_whole}
 use Rattle.dv_window.proofs.offices.Office.window_of.Goals as goal
 

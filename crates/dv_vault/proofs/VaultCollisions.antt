@@ -1,39 +1,13 @@
 -- A table of a vault whose lists clash is the hub or the link in which windows collide, and without a clash they don't.
-use Rattle.std.proofs.Common.{◌≡◌, ℕ, ◌+◌, inl, inr, true, List, [], ◌∷◌, ◌++◌, Option, Some, None, refl, sym, ◌∙◌, ap, subst, append-nil, map, length, reverse}
-use Rattle.std.specs.Prelude.{All, Contains, is_none, nat_le}
-use Rattle.std.specs.List.{list_all, range_with_len}
-use Rattle.std.specs.Option.{option_map, option_or, option_to_list}
-use Rattle.std.proofs.lemmas.Bool.{and_parts}
-use Rattle.std.proofs.lemmas.List.{map-append, reverse-append, reverse-reverse}
-use Rattle.std.proofs.lemmas.List.Elements.{All-head, All-nil, All-cons, All-tail, Contains-append_cases, Contains-append_right}
-use Rattle.dv_text.specs.declared.rows.Window.{Window}
-use Rattle.dv_text.specs.Keys.{Hashes}
-use Rattle.dv_text.proofs.Members.{Contains-cons_cases, Contains-cons_here, map_member, reverse_member}
-use Rattle.dv_catalog.specs.declared.entries.FeedDef.{FeedDef}
-use Rattle.dv_catalog.specs.declared.entries.Parent.{Parent}
-use Rattle.dv_catalog.specs.declared.entries.Parent.TheVariants.{Hub, Link}
-use Rattle.dv_catalog.specs.declared.tables.TableId.{TableId}
+use Rattle.dv_vault.proofs.Vocabulary.{Contains, All, List, None, Option, Some, [], ap, length, map, nat_le, refl, reverse, subst, sym, true, ℕ, ◌++◌, ◌∙◌, ◌∷◌, ◌≡◌, and_parts, list_all, range_with_len, option_map, option_or, is_none, HasNoClash, IsLeastClash, Hashed, HubName, Contains-cons_here}
+use Rattle.dv_vault.proofs.Vocabulary.{Contains-nil, map_member, All-head, All-tail, Contains-append_right, All-cons, All-nil, Hashes, ascends, is_window, are_windows_valid, table_entry, vault, table_of, Mapping, feed_tables, tables, is_valid, map-append, reverse-append, reverse-reverse, Parent}
+use Rattle.dv_vault.proofs.Vocabulary.{Hub, Link, TableId, TableRows, Window, AreApart, AreApartBy, IsFirstClash, HasSealed, RawVault, hashed_in, hub_names, Pair, collision, collision_in, first_collision, parents, none_from, vault_weight, TellLists, collision_free, none_collide}
+use Rattle.dv_vault.proofs.Vocabulary.{next_least as hub_least, next_none as hub_none, hub_apart}
 use Rattle.dv_catalog.specs.declared.tables.TableId.TheVariants as ids
-use Rattle.dv_catalog.specs.Entries.{Mapping}
-use Rattle.dv_catalog.specs.Mappings.{is_valid}
-use Rattle.dv_catalog.specs.Tables.{effect_tables, feed_tables, sat_tables, tables}
-use Rattle.dv_records.specs.declared.stores.TableRows.{TableRows}
-use Rattle.dv_records.specs.Collisions.{Collision, Pair, collision, collision_in, first_collision, parents}
-use Rattle.dv_records.specs.Deliveries.{table_of}
-use Rattle.dv_records.specs.Deltas.{Hashed, HasNoClash, IsLeastClash}
-use Rattle.dv_records.specs.HubNames.{HubName}
-use Rattle.dv_records.specs.States.{are_windows_valid, ascends, is_window}
-use Rattle.dv_records.specs.Vault.{table_entry, vault}
-use Rattle.dv_records.specs.Weights.{vault_weight}
-use Rattle.dv_records.proofs.CollisionTies.{collision_free, none_collide}
-use Rattle.dv_records.proofs.ValidWindows.{hub_apart}
-use Rattle.dv_keys.proofs.HubWindows.{next_least as hub_least, next_none as hub_none}
-use Rattle.dv_keys.specs.LinkDeltas.{TellLists}
 use Rattle.dv_keys.proofs.LinkWindows.{next_least as link_least, next_none as link_none}
-use Rattle.dv_vault.specs.Additions.{AreApart, AreApartBy, IsFirstClash}
-use Rattle.dv_vault.specs.Vaults.{HasSealed, RawVault, hashed_in, hub_names}
+use Rattle.dv_vault.proofs.FeedLists.{reversed_whole}
+use Rattle.dv_vault.proofs.FeedTables.{of_feeds}
 use Rattle.dv_vault.proofs.NamedHubs.{hubs_named}
-use Rattle.dv_vault.proofs.Passing.{all_pass, in_none, passes_at}
 
 -- windows with one more, the newest first and back again
 pub turned_back : (sealed : List Window) (window : Window) → reverse (window ∷ reverse sealed) ≡ sealed ++ window ∷ []
@@ -70,11 +44,7 @@ sealed_parts mapping hashes sealed valid =
     let (e2, light) = and_parts _ (nat_le (vault_weight mapping hashes sealed) 1073741824) e1 in
     let (e3, apart) = and_parts _ (is_none (collision mapping hashes sealed)) e2 in
     let (ordered, whole) = and_parts (ascends (map (λ window. window.load) sealed)) (list_all (is_window mapping) sealed) e3 in
-    record { ordered = ordered; whole = whole; free = (none_collide mapping hashes sealed).0 (by (collision mapping hashes sealed) apart) }
-  where
-    by : (found : Option Collision) → is_none found ≡ true → found ≡ None
-    by None e = refl
-    by (Some found) e = cc
+    record { ordered = ordered; whole = whole; free = (none_collide mapping hashes sealed).0 (none_from (collision mapping hashes sealed) apart) }
 
 same_head : {X : Type 0} (x y : X) (xs ys : List X) → x ∷ xs ≡ y ∷ ys → x ≡ y
 same_head x y xs ys e = cc
@@ -94,35 +64,9 @@ module _ (mapping : Mapping) (hashes : Hashes) (sealed : List Window) (window : 
   abbrev lists_in : TableRows → List Hashed
   lists_in entry = hashed_in mapping hashes names window entry
 
-  -- ---- tables of feeds have nothing that clashes
-
-  bare_sat : (n : ℕ) (sub attrs : List (List ℕ)) (id : TableId) → Contains (sat_tables n sub attrs) id → lists_in (entry_at id) ≡ []
-  bare_sat n sub [] id has = absurd (in_none has)
-  bare_sat n [] (a ∷ attrs) id has =
-      elim (Contains-cons_cases (ids.Sat n) [] id has) [ inl same ↦ ap (λ (id : TableId). lists_in (entry_at id)) (sym same) | inr none ↦ absurd (in_none none) ]
-  bare_sat n (s ∷ sub) (a ∷ attrs) id has =
-      elim (Contains-cons_cases (ids.Multi n) [] id has) [ inl same ↦ ap (λ (id : TableId). lists_in (entry_at id)) (sym same) | inr none ↦ absurd (in_none none) ]
-
-  bare_effect : (n : ℕ) (driver : List ℕ) (id : TableId) → Contains (effect_tables n driver) id → lists_in (entry_at id) ≡ []
-  bare_effect n [] id has = absurd (in_none has)
-  bare_effect n (d ∷ driver) id has =
-      elim (Contains-cons_cases (ids.Effect n) [] id has) [ inl same ↦ ap (λ (id : TableId). lists_in (entry_at id)) (sym same) | inr none ↦ absurd (in_none none) ]
-
-  bare_feeds : (n : ℕ) (feeds : List FeedDef) (id : TableId) → Contains (feed_tables n feeds) id → lists_in (entry_at id) ≡ []
-  bare_feeds n [] id has = absurd (in_none has)
-  bare_feeds n (feed ∷ feeds) id has =
-      elim (Contains-append_cases (sat_tables n feed.sub feed.attrs ++ ids.Status n ∷ effect_tables n feed.driver) (feed_tables (n + 1) feeds) id has) [
-        | inl here ↦
-            elim (Contains-append_cases (sat_tables n feed.sub feed.attrs) (ids.Status n ∷ effect_tables n feed.driver) id here) [
-              | inl sat ↦ bare_sat n feed.sub feed.attrs id sat
-              | inr more ↦
-                  elim (Contains-cons_cases (ids.Status n) (effect_tables n feed.driver) id more) [
-                    | inl same ↦ ap (λ (id : TableId). lists_in (entry_at id)) (sym same)
-                    | inr effect ↦ bare_effect n feed.driver id effect
-                  ]
-            ]
-        | inr rest ↦ bare_feeds (n + 1) feeds id rest
-      ]
+  -- tables of feeds have nothing that clashes
+  bare_feeds : (id : TableId) → Contains (feed_tables 0 mapping.feeds) id → lists_in (entry_at id) ≡ []
+  bare_feeds = of_feeds (λ id. lists_in (entry_at id) ≡ []) 0 mapping.feeds (λ i n definition e got. record { sat = λ none. refl; multi = refl; status = refl; effect = refl })
 
   -- the tables of the vault: those of the hubs and the links, and those of the feeds
   split_vault : vault mapping hashes sealed ≡ map (λ parent. entry_at (table_of parent)) (parents mapping) ++ map entry_at (feed_tables 0 mapping.feeds)
@@ -135,7 +79,7 @@ module _ (mapping : Mapping) (hashes : Hashes) (sealed : List Window) (window : 
   bare_rest : (entry : TableRows) → Contains (map entry_at (feed_tables 0 mapping.feeds)) entry → lists_in entry ≡ []
   bare_rest entry has =
       let (id, member, is) = map_member entry_at (feed_tables 0 mapping.feeds) entry has in
-      ap lists_in (sym is) ∙ bare_feeds 0 mapping.feeds id member
+      ap lists_in (sym is) ∙ bare_feeds id member
 
   module _ (valid : is_valid mapping ≡ true) (windows_valid : are_windows_valid mapping hashes sealed ≡ true) where
     -- the names tell the lists of the sealed windows
@@ -150,8 +94,7 @@ module _ (mapping : Mapping) (hashes : Hashes) (sealed : List Window) (window : 
             ∙ (collision_free mapping hashes sealed (Hub hub)).1 (hub_apart mapping hashes sealed windows_valid hub under);
       };
       valid = valid;
-      whole = all_pass (is_window mapping) (reverse sealed)
-          (λ window has. passes_at (is_window mapping) sealed window (sealed_parts mapping hashes sealed windows_valid).whole ((reverse_member sealed window).0 has));
+      whole = reversed_whole (is_window mapping) sealed (sealed_parts mapping hashes sealed windows_valid).whole;
     }
 
     -- ---- a hub or a link
@@ -207,7 +150,7 @@ module _ (mapping : Mapping) (hashes : Hashes) (sealed : List Window) (window : 
     first_is [] free rest bare before entry behind split clear pair least =
         let within : Contains rest entry = subst (λ (all : List TableRows). Contains all entry) (sym split) (Contains-append_right before (entry ∷ behind) entry (Contains-cons_here entry behind)) in
         let nothing : Contains [] (record { digest = least.is.digest; refs = pair.first }) = subst (λ (all : List Hashed). Contains all (record { digest = least.is.digest; refs = pair.first })) (bare entry within) least.is.has_first in
-        absurd (in_none nothing)
+        Contains-nil (record { digest = least.is.digest; refs = pair.first }) nothing
     first_is (parent ∷ all) free rest bare [] entry behind split clear pair least =
         let others = map (λ parent. entry_at (table_of parent)) all ++ rest in
         let same : entry_at (table_of parent) ≡ entry = same_head (entry_at (table_of parent)) entry others behind split in

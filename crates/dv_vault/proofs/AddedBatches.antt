@@ -1,0 +1,152 @@
+-- What a window adds to each table of a vault, told from the rows alone, is its batch after the sealed windows.
+use Rattle.dv_vault.proofs.Vocabulary.{Contains, slice_get, List, None, Option, Some, [], ap, arith, inl, inr, length, map, refl, reverse, subst, sym, true, ℕ, ◌++◌, ◌+◌, ◌<◌, ◌∙◌, ◌∷◌, ◌≡◌, nat_lt, and_from, and_parts, false≢true, list_all, range_with_len, cons_option, nat_tests, delta}
+use Rattle.dv_vault.proofs.Vocabulary.{Contains-cons_here, Contains-cons_there, Contains-map, map_member, Contains-range, Hashes, all_refs, extract_of, AreNewestFirst, Extract, history, lists_of, appended, ascends, is_window, are_windows_valid, last_load, source, table_entry, vault, feed_batch}
+use Rattle.dv_vault.proofs.Vocabulary.{table_batch, batch_at, table_of, valid_feed, Mapping, feed_tables, tables, is_declared, is_valid, map-append, status_delta, sat_delta, IsPlain, FeedDef, Parent, Hub, Link, TableId, late_after, Rows, Hubs, Links, Sats, Statuses, NRow, Window, AreApart}
+use Rattle.dv_vault.proofs.Vocabulary.{all_added, kept, HasSealed, RawVault, added_to, is_kept, All-contains, Contains-append_cases, Contains-append_left, Contains-append_right, IsApart, collision, collision_in, parents, sat_batch, status_batch, next_delta as hub_delta_is, none_collide}
+use Rattle.dv_vault.proofs.Vocabulary.{appended-history, delta_is_batch as sat_delta_is, extract_added}
+use Rattle.dv_catalog.specs.declared.tables.TableId.TheVariants as ids
+use Rattle.dv_keys.proofs.LinkWindows.{next_delta as link_delta_is}
+use Rattle.dv_track.proofs.DeltaBatch.{delta_is_batch as status_delta_is}
+use Rattle.dv_vault.proofs.Afterwards.{loads_ascend}
+use Rattle.dv_vault.proofs.FeedLists.{feed_lists_apart, feed_newest_first, feed_plain, reversed_whole}
+use Rattle.dv_vault.proofs.FeedTables.{OfFeed, of_feeds}
+use Rattle.dv_vault.proofs.VaultCollisions.{apart_is_free, parents_first, sealed_parts, sealed_told, turned_back, unturned}
+
+module _ (mapping : Mapping) (hashes : Hashes) (sealed : List Window) (window : Window) (valid : is_valid mapping ≡ true) (windows_valid : are_windows_valid mapping hashes sealed ≡ true) (whole : is_window mapping window ≡ true)
+    (late : late_after (last_load sealed) window.load ≡ None) (free : collision mapping hashes (sealed ++ window ∷ []) ≡ None) where
+  -- the sealed windows, the newest first
+  abbrev older : List Window
+  older = reverse sealed
+
+  -- what the rows of a table tell, and its batch
+  abbrev added_at : TableId → Rows
+  added_at id = added_to mapping hashes window (table_entry mapping hashes older id)
+
+  abbrev batch_of_table : TableId → Rows
+  batch_of_table id = table_batch mapping hashes id older window
+
+  -- ---- windows
+
+  all_whole : list_all (is_window mapping) (window ∷ older) ≡ true
+  all_whole = and_from _ _ whole (reversed_whole (is_window mapping) sealed (sealed_parts mapping hashes sealed windows_valid).whole)
+
+  all_ascend : ascends (map (λ w. w.load) (reverse (window ∷ older))) ≡ true
+  all_ascend =
+      ap (λ (windows : List Window). ascends (map (λ w. w.load) windows)) (turned_back sealed window)
+      ∙ ap ascends (map-append (λ (w : Window). w.load) sealed (window ∷ []))
+      ∙ loads_ascend (map (λ w. w.load) sealed) window.load (sealed_parts mapping hashes sealed windows_valid).ordered late
+
+  free_at : (parent : Parent) → Contains (parents mapping) parent → collision_in mapping hashes (reverse (window ∷ older)) parent ≡ None
+  free_at parent has =
+      ap (λ windows. collision_in mapping hashes windows parent) (turned_back sealed window)
+      ∙ All-contains (λ (parent : Parent). collision_in mapping hashes (sealed ++ window ∷ []) parent ≡ None) (parents mapping) parent ((none_collide mapping hashes (sealed ++ window ∷ [])).0 free) has
+
+  free_before : (parent : Parent) → Contains (parents mapping) parent → collision_in mapping hashes (reverse older) parent ≡ None
+  free_before parent has =
+      unturned mapping hashes sealed window valid windows_valid parent
+      (All-contains (λ (parent : Parent). collision_in mapping hashes sealed parent ≡ None) (parents mapping) parent (sealed_parts mapping hashes sealed windows_valid).free has)
+
+  -- ---- hubs and links
+
+  parent_added : (parent : Parent) → Contains (parents mapping) parent → added_at (table_of parent) ≡ batch_of_table (table_of parent)
+  parent_added (Hub hub) has = ap Hubs (hub_delta_is mapping hashes hub older window (free_before (Hub hub) has) (free_at (Hub hub) has))
+  parent_added (Link link) has =
+      ap Links (link_delta_is mapping hashes link _ older window (sealed_told mapping hashes sealed window valid windows_valid) (free_before (Link link) has) (free_at (Link link) has))
+
+  -- ---- feeds
+
+  under : (n count : ℕ) → nat_lt n count ≡ true → n < count
+  under n count e = grind (arith, nat_tests, e)
+
+  declared_parent : (parent : Parent) → is_declared mapping parent ≡ true → Contains (parents mapping) parent
+  declared_parent (Hub hub) e =
+      Contains-append_left (map (λ n. Hub n) (range_with_len 0 (length mapping.hubs))) (map (λ n. Link n) (range_with_len 0 (length mapping.links))) (Hub hub)
+      (Contains-map (λ n. Hub n) (range_with_len 0 (length mapping.hubs)) hub (Contains-range (length mapping.hubs) hub (under hub (length mapping.hubs) e)))
+  declared_parent (Link link) e =
+      Contains-append_right (map (λ n. Hub n) (range_with_len 0 (length mapping.hubs))) (map (λ n. Link n) (range_with_len 0 (length mapping.links))) (Link link)
+      (Contains-map (λ n. Link n) (range_with_len 0 (length mapping.links)) link (Contains-range (length mapping.links) link (under link (length mapping.links) e)))
+
+  -- what a feed's table gets, by the table's rows, is the batch of its extract, by the older extracts
+  next_batch : {R : Type 0} (kind : List R → Rows) (feed : ℕ) (batch : List Extract → Extract → List R) (delta : List R → ℕ → List NRow → List R)
+      → ((newest : Extract) → extract_of feed window ≡ Some newest → delta (appended batch (history feed older)) newest.load newest.rows ≡ batch (history feed older) newest)
+      → (found : Option Extract) → extract_of feed window ≡ found
+      → extract_added (λ load staged. kind (delta (appended (feed_batch feed batch) older) load staged)) (kind []) found ≡ kind (batch_at batch (history feed older) found)
+  next_batch kind feed batch delta is None e = refl
+  next_batch kind feed batch delta is (Some newest) e = ap (λ rows. kind (delta rows newest.load newest.rows)) (appended-history feed batch older) ∙ ap kind (is newest e)
+
+  module _ (feed : ℕ) (definition : FeedDef) (at : slice_get mapping.feeds feed ≡ Some definition) where
+    grown : (newest : Extract) → extract_of feed window ≡ Some newest → history feed (window ∷ older) ≡ newest ∷ history feed older
+    grown newest e = ap (λ (found : Option Extract). cons_option found (history feed older)) e
+
+    lists_apart : IsApart hashes (lists_of (history feed (window ∷ older)))
+    lists_apart =
+        feed_lists_apart mapping hashes feed definition at (window ∷ older) all_whole
+        (free_at definition.parent (declared_parent definition.parent (valid_feed mapping valid feed definition at).declared))
+
+    order_with : (newest : Extract) → extract_of feed window ≡ Some newest → AreNewestFirst (newest ∷ history feed older)
+    order_with newest e = subst AreNewestFirst (grown newest e) (feed_newest_first feed (window ∷ older) all_ascend)
+
+    apart_with : (newest : Extract) → extract_of feed window ≡ Some newest → IsApart hashes (lists_of (newest ∷ history feed older))
+    apart_with newest e = subst (λ (extracts : List Extract). IsApart hashes (lists_of extracts)) (grown newest e) lists_apart
+
+    plain_with : definition.sub ≡ [] → (newest : Extract) → extract_of feed window ≡ Some newest → (extract : Extract) → Contains (newest ∷ history feed older) extract → IsPlain extract.rows
+    plain_with none newest e extract has =
+        feed_plain mapping hashes feed definition at (window ∷ older) all_whole none extract (subst (λ (extracts : List Extract). Contains extracts extract) (sym (grown newest e)) has)
+
+    sat_added : definition.sub ≡ [] → added_at (ids.Sat feed) ≡ batch_of_table (ids.Sat feed)
+    sat_added none =
+        next_batch Sats feed (sat_batch hashes (source mapping feed)) (λ rows load staged. sat_delta hashes (source mapping feed) rows load staged)
+        (λ newest e. sat_delta_is hashes (source mapping feed) (history feed older) newest (order_with newest e) (apart_with newest e) (plain_with none newest e)) (extract_of feed window) refl
+
+    status_added : added_at (ids.Status feed) ≡ batch_of_table (ids.Status feed)
+    status_added =
+        next_batch Statuses feed (status_batch hashes (source mapping feed)) (λ rows load staged. status_delta hashes (source mapping feed) rows load (all_refs staged))
+        (λ newest e. status_delta_is hashes (source mapping feed) (history feed older) newest (order_with newest e) (apart_with newest e)) (extract_of feed window) refl
+
+  abbrev IsAdded : TableId → Type 0
+  IsAdded id = is_kept id ≡ true → added_at id ≡ batch_of_table id
+
+  feed_added : (i feed : ℕ) (definition : FeedDef) → feed ≡ 0 + i → slice_get mapping.feeds i ≡ Some definition → OfFeed IsAdded feed definition
+  feed_added i feed definition e got =
+      let same : feed ≡ i = omega (arith, e) in
+      let at : slice_get mapping.feeds feed ≡ Some definition = ap (slice_get mapping.feeds) same ∙ got in
+      record {
+        sat = λ none kept. sat_added feed definition at none;
+        multi = λ kept. absurd (false≢true kept);
+        status = λ kept. status_added feed definition at;
+        effect = λ kept. absurd (false≢true kept);
+      }
+
+  -- ---- all tables
+
+  table_added : (id : TableId) → is_kept id ≡ true → Contains (tables mapping) id → added_at id ≡ batch_of_table id
+  table_added id kept has =
+      elim (Contains-append_cases (map table_of (parents mapping)) (feed_tables 0 mapping.feeds) id (subst (λ (all : List TableId). Contains all id) (parents_first mapping) has)) [
+        | inl parent ↦
+            let (of, member, is) = map_member table_of (parents mapping) id parent in
+            subst (λ (id : TableId). added_at id ≡ batch_of_table id) is (parent_added of member)
+        | inr feed ↦ of_feeds IsAdded 0 mapping.feeds feed_added id feed kept
+      ]
+
+  tables_added : (all : List TableId) → list_all is_kept all ≡ true → ((id : TableId) → Contains all id → Contains (tables mapping) id)
+      → map (added_to mapping hashes window) (map (table_entry mapping hashes older) all) ≡ map batch_of_table all
+  tables_added [] kept among = refl
+  tables_added (id ∷ all) kept among =
+      let (here, rest) = and_parts (is_kept id) (list_all is_kept all) kept in
+      let first = table_added id here (among id (Contains-cons_here id all)) in
+      let behind = tables_added all rest (λ other has. among other (Contains-cons_there id all other has)) in
+      λ i. first i ∷ behind i
+
+  pub vault_added : list_all is_kept (tables mapping) ≡ true → map (added_to mapping hashes window) (vault mapping hashes sealed) ≡ map (λ table. table_batch mapping hashes table (reverse sealed) window) (tables mapping)
+  vault_added kept = tables_added (tables mapping) kept (λ id has. has)
+
+-- ---- a vault
+
+-- where no table has a clash, what the window adds is its batches
+pub added_is_batch : (hashes : Hashes) (sealed : List Window) (raw : RawVault) → HasSealed hashes sealed raw → is_valid raw.mapping ≡ true
+    → (window : Window) → is_window raw.mapping window ≡ true → late_after (last_load sealed) window.load ≡ None
+    → list_all is_kept (tables raw.mapping) ≡ true → AreApart hashes raw window
+    → all_added hashes raw window ≡ map (λ table. table_batch raw.mapping hashes table (reverse sealed) window) (tables raw.mapping)
+added_is_batch hashes sealed raw has valid window whole late kept apart =
+    ap (map (added_to raw.mapping hashes window)) has.tables_are
+    ∙ vault_added raw.mapping hashes sealed window valid has.valid whole late (apart_is_free hashes sealed raw has valid window apart) kept

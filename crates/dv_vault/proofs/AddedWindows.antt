@@ -1,0 +1,74 @@
+-- What a vault is with what a window adds: the vault of the sealed windows and the new one.
+use Rattle.dv_vault.proofs.Vocabulary.{List, None, Option, Some, [], ap, arith, length, map, refl, reverse, suc, sym, true, zero, ℕ, ◌++◌, ◌+◌, ◌-◌, ◌∙◌, ◌∷◌, ◌≡◌, length-map, map-append, option_map, slice_get, sum_by, Hashes, is_window, head_of, last_load, row_count, rows_weight, tables_weight}
+use Rattle.dv_vault.proofs.Vocabulary.{vault_weight, vault, table_batch, tables, Rule, late_after, full_at, Rows, TableRows, Window, WindowHead, AreApart, raw_with, IsAddition, all_added, weight_with, HasSealed, IsBuilt, RawVault, entries_with, last_head, Addition, loaded, last_or}
+use Rattle.dv_vault.proofs.AddedBatches.{added_is_batch}
+use Rattle.dv_vault.proofs.Afterwards.{loaded_batches, vault_with, weight_with_batches, windows_still_valid}
+use Rattle.dv_vault.proofs.BuiltTables.{tables_kept}
+use Rattle.dv_vault.proofs.VaultCollisions.{apart_is_free}
+
+-- the last load date of windows is that of their heads
+last_got : {X : Type 0} (o : Option X) (x : X) (xs : List X) → last_or o (x ∷ xs) ≡ slice_get (x ∷ xs) (length xs)
+last_got o x [] = refl
+last_got o x (y ∷ ys) = last_got (Some x) y ys
+
+pub last_same : (windows : List Window) → last_load windows ≡ last_head (map head_of windows)
+last_same [] = refl
+last_same (window ∷ windows) =
+    last_got None window.load (map (λ w. w.load) windows)
+    ∙ by (window ∷ windows) (length (map (λ w. w.load) windows)) (length (map head_of (window ∷ windows)) - 1)
+    (length-map windows (λ (w : Window). w.load) ∙ sym (length-map windows head_of) ∙ one_less (length (map head_of windows)))
+  where
+    one_less : (n : ℕ) → n ≡ suc n - 1
+    one_less n = omega arith
+
+    got_load : (all : List Window) (n : ℕ) → slice_get (map (λ w. w.load) all) n ≡ option_map (λ head. head.load) (slice_get (map head_of all) n)
+    got_load [] n = refl
+    got_load (w ∷ all) zero = refl
+    got_load (w ∷ all) (suc n) = got_load all n
+
+    by : (all : List Window) (n m : ℕ) → n ≡ m → slice_get (map (λ w. w.load) all) n ≡ option_map (λ head. head.load) (slice_get (map head_of all) m)
+    by all n m e = got_load all n ∙ ap (λ k. option_map (λ head. head.load) (slice_get (map head_of all) k)) e
+
+module _ (hashes : Hashes) (sealed : List Window) (raw : RawVault) (has : HasSealed hashes sealed raw) (built : IsBuilt raw.mapping) (window : Window) (whole : is_window raw.mapping window ≡ true)
+    (late : late_after (last_head raw.heads) window.load ≡ None) (apart : AreApart hashes raw window) where
+  abbrev batches : List Rows
+  batches = map (λ table. table_batch raw.mapping hashes table (reverse sealed) window) (tables raw.mapping)
+
+  -- what the limits are asked of
+  abbrev fullness : Option Rule
+  fullness = full_at (vault_weight raw.mapping hashes (sealed ++ window ∷ [])) (length sealed)
+
+  later : late_after (last_load sealed) window.load ≡ None
+  later = ap (λ last. late_after last window.load) (last_same sealed ∙ ap last_head (sym has.heads_are)) ∙ late
+
+  batches_added : all_added hashes raw window ≡ batches
+  batches_added = added_is_batch hashes sealed raw has built.valid window whole later (tables_kept raw.mapping built.built) apart
+
+  pub full_with : full_at (weight_with hashes raw window) (length raw.heads) ≡ fullness
+  full_with =
+      ap (λ weight. full_at weight (length raw.heads))
+      (ap (λ (added : List Rows). tables_weight raw.tables + sum_by rows_weight added) batches_added
+      ∙ ap (λ (tables : List TableRows). tables_weight tables + sum_by rows_weight batches) has.tables_are
+      ∙ weight_with_batches raw.mapping hashes sealed window)
+      ∙ ap (full_at (vault_weight raw.mapping hashes (sealed ++ window ∷ []))) (ap length has.heads_are ∙ length-map sealed head_of)
+
+  module _ (addition : Addition) (adds : IsAddition hashes raw window addition) where
+    batches_are : addition.batches ≡ batches
+    batches_are = adds.batches_are ∙ batches_added
+
+    pub rows_loaded : addition.rows ≡ loaded raw.mapping hashes sealed window
+    rows_loaded = adds.rows_are ∙ ap (sum_by row_count) batches_are ∙ loaded_batches raw.mapping hashes sealed window
+
+    pub not_full : full_at addition.weight (length raw.heads) ≡ None → fullness ≡ None
+    not_full room = sym full_with ∙ ap (λ weight. full_at weight (length raw.heads)) (sym adds.weight_is) ∙ room
+
+    pub sealed_after : full_at addition.weight (length raw.heads) ≡ None → HasSealed hashes (sealed ++ window ∷ []) (raw_with addition raw)
+    sealed_after room = record {
+      valid = windows_still_valid raw.mapping hashes sealed window has.valid whole later (apart_is_free hashes sealed raw has built.valid window apart) (not_full room);
+      tables_are = ap (λ (tables : List TableRows). entries_with tables addition.batches) has.tables_are
+          ∙ ap (entries_with (vault raw.mapping hashes sealed)) batches_are
+          ∙ vault_with raw.mapping hashes sealed window;
+      heads_are = ap (λ (heads : List WindowHead). heads ++ head_of addition.window ∷ []) has.heads_are
+          ∙ ap (λ (w : Window). map head_of sealed ++ head_of w ∷ []) adds.window_is
+          ∙ sym (map-append head_of sealed (window ∷ []));
+    }

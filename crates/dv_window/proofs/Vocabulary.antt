@@ -1,0 +1,33 @@
+-- What the proofs of this crate, and of those above it, take from elsewhere.
+pub use Rattle.dv_text.proofs.Vocabulary.{Bool, Contains, List, None, Option, Some, [], and_from, ap, false, inl, inr, is_some, length, list_all, map, nat_le, option_map, option_or, option_to_list, refl, subst, sym, take, true, ℕ, ◌++◌, ◌==◌, ◌∙◌, ◌∷◌, ◌≡◌}
+pub use Rattle.dv_catalog.proofs.Vocabulary.{Mapping, first_of, found_member, is_none, is_valid, nat_lt, none_before_map, or_none, passes_at, table_name, tables}
+pub use Rattle.dv_stage.proofs.Vocabulary.{Contains-cons_here, Ok, made_of, option_map_or, option_or-none}
+pub use Rattle.dv_records.proofs.Vocabulary.{Contains-cons_there, Hashes, append-nil, are_windows_valid, ascends, collision, content_read, is_window, no_rows, rows_in, vault, vault_weight, ◌&&◌}
+pub use Rattle.dv_mapfile.proofs.Vocabulary.{IfSome, built_mapping, if◌then◌else◌}
+pub use Rattle.dv_vault.proofs.Vocabulary.{AreApart, HasSealed, IsAddition, IsBuilt, RawVault, TakesWindow, Told, are_heads_of, full_at, hashes_of, head_of, last_head, last_load, late_after, loaded}
+pub use Rattle.dv_judge.proofs.Vocabulary.{feed_twice, no_extracts, unknown_feed, window_of, window_rule}
+pub use Rattle.dv_catalog.specs.declared.rules.Rule.{Rule}
+pub use Rattle.dv_catalog.specs.declared.rules.Rule.TheVariants.{Collision}
+pub use Rattle.dv_catalog.specs.declared.windows.WindowIn.{WindowIn}
+pub use Rattle.dv_judge.proofs.ReadWindows.{window_of-is_window}
+pub use Rattle.dv_mapfile.proofs.ReadMappings.{built_parts}
+pub use Rattle.dv_records.specs.Outcomes.{accepted, collides, differs, differs_from, if_new, late, open_other, outcome, refusal, too_long, vault_full, window_at}
+pub use Rattle.dv_records.specs.Standing.{IsMappedBy}
+pub use Rattle.dv_records.specs.States.{State, are_dates_valid, are_not_later, beginning, snapshots_weight}
+pub use Rattle.dv_records.specs.Steps.{sealed_with}
+pub use Rattle.dv_records.specs.declared.answers.Outcome.{Outcome}
+pub use Rattle.dv_records.specs.declared.stores.Store.{Store}
+pub use Rattle.dv_text.specs.declared.rows.NRow.{NRow}
+pub use Rattle.dv_text.specs.declared.rows.Staged.{Staged}
+pub use Rattle.dv_text.specs.declared.rows.Window.{Window}
+pub use Rattle.dv_text.specs.declared.rows.WindowHead.{WindowHead}
+pub use Rattle.dv_vault.proofs.AddedWindows.{full_with, last_same, not_full, rows_loaded, sealed_after}
+pub use Rattle.dv_vault.proofs.EmptyTables.{empty_rows}
+pub use Rattle.dv_vault.proofs.NoWindows.{none_sealed, none_valid}
+pub use Rattle.dv_vault.proofs.SealedContents.{sealed_rows}
+pub use Rattle.dv_vault.proofs.VaultCollisions.{apart_is_free, clash_collides}
+pub use Rattle.dv_vault.specs.declared.additions.Addition.{Addition}
+pub use Rattle.dv_window.specs.Offices.{Agrees, AnswerSays, Held, IsAtRest, IsNew, IsNewOf, StandsFor}
+pub use Rattle.dv_window.specs.Plans.{Collides, IsAgain, IsNewWindow, IsPlan, IsTooMuch, Stops, early_rule, given_rules, head_at, held_with, late_by, window_read}
+pub use Rattle.dv_window.specs.Stopping.{answer_of}
+pub use Rattle.dv_window.specs.declared.stops.Stop.{Stop}
