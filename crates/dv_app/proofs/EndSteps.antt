@@ -1,24 +1,8 @@
 -- How the line of an ending ends the command.
-use Rattle.std.proofs.Common.{◌≡◌, ◌⊎◌, ℕ, ◌≤◌, Bool, true, false, List, [], ◌++◌, Option, Result, Ok, Err, inl, inr, refl, sym, ◌∙◌, ap, subst, arith, ⊎_elim}
-use Rattle.std.specs.Prelude.{IfOk, IfErr, OnErr}
-use Rattle.dv_text.specs.Causes.{Rose}
-use Rattle.dv_outside.proofs.Told.{after-after, after-nil, got_behind, got_nothing}
-use Rattle.dv_outside.specs.Bytes.{after}
-use Rattle.dv_outside.specs.Ends.{Ends, line_of}
-use Rattle.dv_outside.specs.declared.statuses.Status.{Status}
+use Rattle.dv_app.proofs.Vocabulary.{Bool, List, Option, [], ap, arith, false, inl, inr, refl, subst, sym, true, ℕ, ◌++◌, ◌∙◌, ◌≡◌, ◌≤◌, ◌⊎◌, Ok, Err, Result, ⊎_elim, Ends, line_of, Rose, after, IfOk, IfErr, OnErr, EndsOrMemory, IsReadCause, IsStopCause, StopsBy, line_of_ending, status_of}
+use Rattle.dv_app.proofs.Vocabulary.{absent_line, query_line, read_fault_line, refused_mapping_line, memory_line, HasEnd, HasLines, TryStops, WroteLines, Faults, HasLast, IsCaused, CutShort, Gives, Heard, IsCutLines, IsEnded, Trial, TrySays, tried_of, Tried, ended, status_for, NoCommand, asked}
+use Rattle.dv_app.proofs.Vocabulary.{Ending, Absent, BadMapping, BadQuery, Memory, Unread, Stop, Ended, Unwritten, after-after, after-nil, got_behind, got_nothing, Status}
 use Rattle.dv_outside.specs.declared.statuses.Status.TheVariants as statuses
-use Rattle.dv_app.specs.declared.endings.Ending.{Ending}
-use Rattle.dv_app.specs.declared.endings.Ending.TheVariants.{BadMapping, BadQuery, Absent, Unread, Memory}
-use Rattle.dv_app.specs.declared.endings.Stop.{Stop}
-use Rattle.dv_app.specs.declared.endings.Stop.TheVariants.{Ended, Unwritten}
-use Rattle.dv_app.specs.Endings.{EndsOrMemory, IsReadCause, IsStopCause, StopsBy, line_of_ending, status_of}
-use Rattle.dv_app.specs.Given.{absent_line, query_line, read_fault_line, refused_mapping_line}
-use Rattle.dv_app.specs.Lines.{memory_line}
-use Rattle.dv_app.specs.Loadings.{HasEnd, HasLines, TryStops, WroteLines}
-use Rattle.dv_app.specs.Run.{Faults, HasLast, IsCaused}
-use Rattle.dv_app.specs.Says.{CutShort, Gives, Heard, IsCutLines, IsEnded, Trial, TrySays, tried_of}
-use Rattle.dv_app.specs.Tried.{Tried, ended, status_for}
-use Rattle.dv_app.specs.Words.{NoCommand, asked}
 
 -- a line with a text that is printed, or the one for memory
 pub printed_ends : {E : Type 0} (text : Result (List ℕ) E) (made want front : List ℕ) (status : Status) (old new : Option (List ℕ)) (before now : ℕ) (result : Status)
@@ -44,10 +28,7 @@ module _ (before then now : ℕ) (later : before ≤ then) where
 
   pub read_cause_so : (ending : Ending) → IsReadCause then now ending → IsReadCause before now ending
   read_cause_so (Unread file) rose = rose_later rose
-  read_cause_so (BadMapping e) any = any
-  read_cause_so (BadQuery rule) any = any
-  read_cause_so (Absent file) any = any
-  read_cause_so Memory any = any
+  read_cause_so ending any = any
 
   pub stop_cause_so : (W P W' P' : Type 0) → (W → W') → (P → P') → (stop : Stop) → IsStopCause then now W P stop → IsStopCause before now W' P' stop
   stop_cause_so W P W' P' w p (Ended ending) cause = (read_cause_so ending cause.0, p cause.1)
@@ -120,11 +101,7 @@ module _ (t : Trial) (before now : ℕ) (heard : Heard) (quiet : heard.out ≡ h
   said_says statuses.Memory text memory said = record { out = quiet; text = text; is_text = memory; err = said }
   said_says statuses.Mapping text is said = whole statuses.Mapping text is said
   said_says statuses.Refused text is said = whole statuses.Refused text is said
-  said_says statuses.Done text none said = absurd none
-  said_says statuses.Usage text none said = absurd none
-  said_says statuses.KeeperFault text none said = absurd none
-  said_says statuses.WriteFault text none said = absurd none
-  said_says statuses.Damaged text none said = absurd none
+  said_says status text none said = absurd none
 
   module _ (mid : Option (List ℕ)) (err_before err_now : ℕ) (result : Status) where
     line_says : (lines : List ℕ) → mid ≡ after heard.err_old lines → (status : Status) (line : List ℕ) → IsEnded t before now status (lines ++ line)

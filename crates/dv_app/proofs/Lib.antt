@@ -5,4 +5,5 @@ pub mod MappingSteps
 pub mod OfficeSteps
 pub mod RunSteps
 pub mod TrySteps
+pub mod Vocabulary
 pub mod WholeSteps

@@ -1,79 +1,25 @@
 -- How an office starts, and how what it takes is a step of the run.
-use Rattle.std.proofs.Common.{◌≡◌, ℕ, ◌||◌, Bool, true, false, List, ◌++◌, Option, Some, None, Result, Ok, refl, sym, ◌∙◌, ap, subst, codes}
-use Rattle.std.specs.Fmt.{decimal}
-use Rattle.dv_text.specs.Keys.{Hashes}
-use Rattle.dv_text.specs.Told.{Told}
-use Rattle.dv_catalog.specs.Built.{built_if, built_mapping, unbuilt, unless_unbuilt}
-use Rattle.dv_catalog.specs.Entries.{Mapping}
-use Rattle.dv_catalog.specs.MappingFiles.{read_mapping}
-use Rattle.dv_catalog.specs.declared.map_error.MapError.{MapError}
-use Rattle.dv_catalog.specs.declared.windows.WindowIn.{WindowIn}
-use Rattle.dv_outside.specs.Bytes.{after, GotPrefix}
-use Rattle.dv_outside.specs.declared.folders.NamedFile.{NamedFile}
-use Rattle.dv_records.specs.MemoryKeepers.{empty_store, keeper_store}
-use Rattle.dv_records.specs.Outcomes.{outcome}
-use Rattle.dv_records.specs.Stores.{with_mapping}
-use Rattle.dv_records.specs.declared.answers.Outcome.{Outcome}
+use Rattle.dv_app.proofs.Vocabulary.{Bool, List, Option, Some, ap, codes, false, refl, subst, sym, true, ℕ, ◌++◌, ◌||◌, ◌∙◌, ◌≡◌, Ok, built_mapping, Agrees, Held, IsAtRest, StandsFor, IsNewOf, outcome, Mapping, GotPrefix, after, Hashes, Told, decimal, given, Goes, HasRows, IsReady, ManifestCut}
+use Rattle.dv_app.proofs.Vocabulary.{Takes, TakesArrival, outcome_of, taken_text, own_store, Brings, StandsForWhole, arrival_of, Arrival, Broken, Brought, Progress, arrival, is_refused, outcome_text, step, step_by, window_line, with_outcome, with_refusal, Arrived, Loading, Taken, WindowIn}
+use Rattle.dv_app.proofs.Vocabulary.{NamedFile, empty_store, with_mapping, Outcome, Store}
 use Rattle.dv_records.specs.declared.answers.Outcome.TheVariants as outcomes
-use Rattle.dv_records.specs.declared.stores.Store.{Store}
-use Rattle.dv_window.specs.Offices.{Agrees, Held, IsAtRest, IsNew, StandsFor}
-use Rattle.dv_app.specs.declared.arrivals.Arrived.{Arrived}
-use Rattle.dv_app.specs.declared.takings.Loading.{Loading}
-use Rattle.dv_app.specs.declared.takings.Taken.{Taken}
 use Rattle.dv_app.specs.declared.takings.Taken.TheVariants as taken
-use Rattle.dv_app.specs.Loadings.{Goes, HasRows, IsReady, ManifestCut, Takes, TakesArrival, outcome_of, taken_text}
-use Rattle.dv_app.specs.Readings.{Brings, StandsForWhole, arrival_of}
-use Rattle.dv_app.specs.Tried.{Absent, Arrival, Broken, Brought, Progress, arrival, is_refused, outcome_text, step, step_by, window_line, with_outcome, with_refusal}
+use Rattle.dv_app.specs.Tried.{Absent}
 
 -- ---- the start
 
-some_same : {A : Type 0} (o : Option A) (a b : A) → o ≡ Some a → o ≡ Some b → a ≡ b
-some_same o a b is_a is_b = cc
-
-ok_same : (r : Result Mapping MapError) (a b : Mapping) → r ≡ Ok a → r ≡ Ok b → a ≡ b
-ok_same r a b is_a is_b = cc
-
--- what holds of what is told, told by the same
-pub told_same : {A : Type 0} (P : A → Type 0) (x : A) (o : Option A) → o ≡ Some x → P x → Told o P
-told_same P x o is holds = λ y told. subst P (some_same o x y is told) holds
-
--- a store with nothing but a mapping is new
-pub new_store : (text : List ℕ) (mapping : Mapping) → built_mapping text ≡ Ok mapping → IsNew (with_mapping text empty_store)
-new_store text mapping built = record {
-  mapping = mapping;
-  text = text;
-  stored_is = refl;
-  built = built;
-  none_open = refl;
-  no_windows = refl;
-  no_rows = λ table. refl;
-}
-
--- what is told of a keeper of a new store
-pub told_new : (text : List ℕ) (store : Store) → store ≡ with_mapping text empty_store → (mapping : Mapping) → built_mapping text ≡ Ok mapping → Told (Some store) IsNew
-told_new text store is mapping built = told_same IsNew (with_mapping text empty_store) (Some store) (ap Some is) (new_store text mapping built)
-
--- an office that agrees with a store has the mapping that is stored
-module _ (text : List ℕ) (mapping : Mapping) (built : built_mapping text ≡ Ok mapping) where
-  built_same : (read : Mapping) (place : Option (List ℕ)) → unbuilt read ≡ place → unless_unbuilt place read ≡ Ok mapping → built_if (Ok read) ≡ Ok read
-  built_same read None e is = ap (λ p. unless_unbuilt p read) e
-  built_same read (Some place) e is = let no : unless_unbuilt (Some place) read ≡ Ok mapping = is in cc
-
-  reads_same : (read : Mapping) → read_mapping text ≡ Ok read → built_mapping text ≡ Ok read
-  reads_same read reads =
-      ap built_if reads ∙ built_same read (unbuilt read) refl (sym (ap built_if reads) ∙ built)
-
-  held_by : (store : Store) (held : Held) → store.mapping ≡ Some text → Agrees held store → built_mapping text ≡ Ok held.vault.mapping
-  held_by store held stored agrees =
-      reads_same held.vault.mapping (ap read_mapping (some_same store.mapping text agrees.mapped.text stored agrees.mapped.stored_is) ∙ agrees.mapped.reads)
-
-  pub mapping_held : (old new : Store) (held : Held) → old ≡ with_mapping text empty_store → Some new ≡ Some old → Told (Some new) (Agrees held) → built_mapping text ≡ Ok held.vault.mapping
-  mapping_held old new held is kept agrees = held_by old held (ap (λ (s : Store). s.mapping) is) (agrees old kept)
+-- a keeper that has the text of a mapping and nothing else agrees with the office of that mapping
+pub agrees_first : (text : List ℕ) (mapping : Mapping) → built_mapping text ≡ Ok mapping → (store : Store) → store ≡ with_mapping text empty_store → (held : Held) → ((store : Store) → IsNewOf mapping store → Agrees held store)
+    → Told (Some store) (Agrees held)
+agrees_first text mapping built store is held agrees = λ s told.
+    let same : store ≡ s = cc in
+    subst (Agrees held) (sym is ∙ same)
+    (agrees (with_mapping text empty_store) (record { text = text; stored_is = refl; built = built; none_open = refl; no_windows = refl; no_rows = λ table. refl }))
 
 -- ---- what came of a manifest
 
 -- an office that is as before can go on
-pub ready_still : (hashes : Hashes) (old new : Loading) → IsReady hashes old → new.office ≡ old.office → Some (keeper_store new.keeper) ≡ Some (keeper_store old.keeper) → IsReady hashes new
+pub ready_still : (hashes : Hashes) (old new : Loading) → IsReady hashes old → new.office ≡ old.office → Some (own_store new.keeper) ≡ Some (own_store old.keeper) → IsReady hashes new
 ready_still hashes old new ready same kept = record {
   state = ready.state;
   stands = subst (StandsFor hashes ready.state) (sym same) ready.stands;

@@ -1,22 +1,8 @@
 -- The run over manifests, so far.
-use Rattle.std.proofs.Common.{◌≡◌, ℕ, ◌+◌, ◌<◌, ◌≤◌, ◌||◌, Bool, true, false, List, [], ◌∷◌, ◌++◌, Option, Some, Result, Ok, Err, length, take, drop, get_or, slice_get, refl, sym, ◌∙◌, ap, subst, append_assoc}
-use Rattle.std.proofs.lemmas.List.{append-nil, drop_more, take-append-drop, take_all, take_more}
-use Rattle.std.proofs.lemmas.Option.{slice_get-get_or}
-use Rattle.dv_text.specs.Keys.{Hashes}
-use Rattle.dv_catalog.specs.Entries.{Mapping}
-use Rattle.dv_outside.proofs.Told.{after-after, after-nil, got_behind}
-use Rattle.dv_outside.specs.Bytes.{after, GotPrefix}
-use Rattle.dv_outside.specs.declared.folders.NamedFile.{NamedFile}
-use Rattle.dv_app.specs.declared.endings.Ending.{Ending}
-use Rattle.dv_app.specs.declared.endings.Ending.TheVariants.{BadMapping, BadQuery, Absent, Unread, Memory}
-use Rattle.dv_app.specs.declared.endings.Stop.{Stop}
-use Rattle.dv_app.specs.declared.endings.Stop.TheVariants.{Ended, Unwritten}
-use Rattle.dv_app.specs.declared.takings.Loading.{Loading}
-use Rattle.dv_app.specs.declared.takings.Taken.{Taken}
+use Rattle.dv_app.proofs.Vocabulary.{Bool, List, Option, Some, [], ap, append_assoc, false, get_or, length, refl, subst, sym, take, true, ℕ, ◌++◌, ◌+◌, ◌<◌, ◌||◌, ◌∙◌, ◌∷◌, ◌≡◌, ◌≤◌, Ok, slice_get, drop, Err, Result, slice_get-get_or, take_more, drop_more, append-nil, take-append-drop, take_all}
+use Rattle.dv_app.proofs.Vocabulary.{refusal, Mapping, GotPrefix, after, Hashes, BringEnds, IsStopCause, Goes, HasRefusal, IsLoaded, LoadEnds, LoadStops, LoadsAll, LoadsFirst, ManifestStops, SoFar, WroteLine, WroteLines, outcome_of, taken_text, Progress, is_refused, refusal_text, start, step}
+use Rattle.dv_app.proofs.Vocabulary.{step_by, step_on, steps, window_line, Ending, Absent, BadMapping, BadQuery, Memory, Unread, Stop, Ended, Unwritten, Loading, Taken, after-after, after-nil, got_behind, NamedFile}
 use Rattle.dv_app.specs.declared.takings.Taken.TheVariants as taken
-use Rattle.dv_app.specs.Endings.{BringEnds, IsStopCause}
-use Rattle.dv_app.specs.Loadings.{Goes, HasRefusal, IsLoaded, LoadEnds, LoadStops, LoadsAll, LoadsFirst, ManifestStops, SoFar, WroteLine, WroteLines, outcome_of, taken_text}
-use Rattle.dv_app.specs.Tried.{Progress, is_refused, refusal_text, start, step, step_by, step_on, steps, window_line}
 
 -- ---- the lines, whatever the folder tells
 

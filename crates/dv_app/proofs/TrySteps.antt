@@ -1,26 +1,8 @@
 -- How the parts of `try` are parts of what it says.
-use Rattle.std.proofs.Common.{◌≡◌, ℕ, ◌≤◌, List, [], ◌++◌, Option, Some, Ok, length, take, inl, inr, refl, sym, ◌∙◌, ap, subst, arith}
-use Rattle.std.proofs.lemmas.List.{take_all}
-use Rattle.dv_text.specs.Keys.{Hashes}
-use Rattle.dv_catalog.specs.Entries.{Mapping}
-use Rattle.dv_mart.specs.MartTexts.{mart_text}
-use Rattle.dv_mart.specs.declared.whats.What.{What}
-use Rattle.dv_outside.proofs.Told.{after-nil, got_all, got_longer, got_nothing}
-use Rattle.dv_outside.specs.Bytes.{after, GotPrefix}
+use Rattle.dv_app.proofs.Vocabulary.{List, Option, Some, [], ap, arith, inl, inr, length, refl, subst, sym, take, ℕ, ◌++◌, ◌∙◌, ◌≡◌, ◌≤◌, Ok, Mapping, GotPrefix, after, take_all, Hashes, HasSealed, RawVault, mart_text, IsReadCause, IsStopCause, line_of_ending, status_of, memory_line, Begins}
+use Rattle.dv_app.proofs.Vocabulary.{HasEnd, LoadEnds, LoadStops, LoadsAll, SoFar, TryStops, Gives, Heard, IsEnded, Trial, lines_before, lines_of, tried_of, Progress, Tried, at_end, ended, start, status_for, steps, Ending, Absent, Memory, Unread, Stop, Ended, Unwritten, Loading, What, after-nil}
+use Rattle.dv_app.proofs.Vocabulary.{got_all, got_longer, got_nothing, Window}
 use Rattle.dv_outside.specs.declared.statuses.Status.TheVariants as statuses
-use Rattle.dv_records.specs.States.{State}
-use Rattle.dv_vault.specs.Vaults.{HasSealed, RawVault}
-use Rattle.dv_text.specs.declared.rows.Window.{Window}
-use Rattle.dv_app.specs.declared.endings.Ending.{Ending}
-use Rattle.dv_app.specs.declared.endings.Ending.TheVariants.{BadMapping, BadQuery, Absent, Unread, Memory}
-use Rattle.dv_app.specs.declared.endings.Stop.{Stop}
-use Rattle.dv_app.specs.declared.endings.Stop.TheVariants.{Ended, Unwritten}
-use Rattle.dv_app.specs.declared.takings.Loading.{Loading}
-use Rattle.dv_app.specs.Endings.{IsReadCause, IsStopCause, line_of_ending, status_of}
-use Rattle.dv_app.specs.Lines.{memory_line}
-use Rattle.dv_app.specs.Loadings.{Begins, HasEnd, LoadEnds, LoadStops, LoadsAll, SoFar, TryStops}
-use Rattle.dv_app.specs.Says.{Gives, Heard, IsEnded, Trial, lines_before, lines_of, tried_of}
-use Rattle.dv_app.specs.Tried.{Progress, Tried, at_end, start, status_for, steps}
 use Rattle.dv_app.proofs.EndSteps.{read_cause_so}
 use Rattle.dv_app.proofs.MappingSteps.{no_line_yet}
 
@@ -50,8 +32,7 @@ module _ (t : Trial) (before now : ℕ) (mapping : Mapping) (what : What) (at : 
   load_ends k so_far (Unread file) cause ends =
       halted k so_far (Unread file) (inr ((k, so_far.progress.lines, file, lines_so k so_far.progress so_far.steps_are, inr ends, refl), cause))
   load_ends k so_far Memory cause ends = halted k so_far Memory (k, so_far.progress.lines, lines_so k so_far.progress so_far.steps_are, refl)
-  load_ends k so_far (BadMapping e) cause none = absurd none
-  load_ends k so_far (BadQuery rule) cause none = absurd none
+  load_ends k so_far ending cause none = absurd none
 
   pub load_stops : (then : ℕ) → before ≤ then → (W P : Type 0) (out : Option (List ℕ)) (stop : Stop) → IsStopCause then now W P stop → LoadStops mapping t.hashes t.files t.names said says stop
       → TryStops t before now (record { out_old = out; out = out; err_old = said; err = says }) stop

@@ -1,30 +1,9 @@
 -- The bytes that are not read of a manifest's files change no outcome.
-use Rattle.std.proofs.Common.{◌≡◌, ℕ, ◌+◌, ◌<◌, ◌≤◌, ◌==◌, ◌||◌, Bool, true, false, List, [], ◌∷◌, ◌++◌, Option, Some, None, Result, Ok, Err, length, map, min, take, cond, nat_lt, refl, sym, ◌∙◌, ap, subst, append_assoc, arith, option_map}
-use Rattle.std.specs.Prelude.{find, not, unwrap_or, if◌then◌else◌}
-use Rattle.std.specs.Option.{option_map_or, option_or}
-use Rattle.std.proofs.lemmas.List.{append-nil, length-map, length-take, take_all}
-use Rattle.std.proofs.lemmas.Bool.{le-ltb, lt-ltb, ltb-false, ltb-true}
-use Rattle.dv_text.specs.Keys.{Hashes}
-use Rattle.dv_text.specs.declared.rows.Window.{Window}
-use Rattle.dv_catalog.specs.Entries.{Mapping}
-use Rattle.dv_catalog.specs.FirstOf.{first_of}
-use Rattle.dv_catalog.specs.Windows.{window_of, window_rule}
-use Rattle.dv_mapfile.specs.declared.manifests.Manifest.{Manifest}
-use Rattle.dv_mapfile.specs.declared.manifests.ManifestExtract.{ManifestExtract}
-use Rattle.dv_catalog.specs.declared.rules.Rule.{Rule}
-use Rattle.dv_catalog.specs.declared.rules.Rule.TheVariants.{FeedTwice, NoExtracts, TooLong, UnknownFeed}
-use Rattle.dv_catalog.specs.declared.windows.ExtractIn.{ExtractIn}
-use Rattle.dv_catalog.specs.declared.windows.WindowIn.{WindowIn}
-use Rattle.dv_outside.specs.Files.{file_at}
-use Rattle.dv_outside.specs.declared.folders.NamedFile.{NamedFile}
-use Rattle.dv_records.specs.Outcomes.{accepted, collides, differs, feed_twice, if_new, is_feed, late, no_extracts, open_other, outcome, refusal, repeated_name, too_long_behind, unknown_feed, vault_full}
-use Rattle.dv_records.specs.Limits.{most_extract_bytes, most_window_bytes}
-use Rattle.dv_records.specs.States.{State}
-use Rattle.dv_records.specs.declared.answers.Outcome.{Outcome}
+use Rattle.dv_app.proofs.Vocabulary.{Bool, List, None, Option, Some, [], ap, append_assoc, arith, cond, false, length, map, refl, subst, sym, take, true, ℕ, ◌++◌, ◌+◌, ◌<◌, ◌==◌, ◌||◌, ◌∙◌, ◌∷◌, ◌≡◌, ◌≤◌, option_map, Ok, nat_lt, min, Err, Result, le-ltb, lt-ltb, ltb-false, ltb-true, length-map}
+use Rattle.dv_app.proofs.Vocabulary.{append-nil, take_all, length-take, option_or, option_map_or, first_of, if◌then◌else◌, find, not, unwrap_or, State, accepted, collides, differs, feed_twice, if_new, late, no_extracts, open_other, outcome, refusal, unknown_feed, vault_full, is_feed}
+use Rattle.dv_app.proofs.Vocabulary.{repeated_name, too_long_behind, window_of, window_rule, Mapping, file_at, Hashes, given, Reading, StandsForWhole, allowed, no_reading, read_from, read_more, read_on, with_extract, absent_or, first_absent, is_past, whole_extract, whole_window, Rule, FeedTwice}
+use Rattle.dv_app.proofs.Vocabulary.{NoExtracts, TooLong, UnknownFeed, ExtractIn, WindowIn, Manifest, ManifestExtract, NamedFile, most_extract_bytes, most_window_bytes, Outcome, Window}
 use Rattle.dv_records.specs.declared.answers.Outcome.TheVariants as outcomes
-use Rattle.dv_app.specs.Given.{given}
-use Rattle.dv_app.specs.Readings.{Reading, StandsForWhole, allowed, no_reading, read_from, read_more, read_on, with_extract}
-use Rattle.dv_app.specs.Tried.{absent_or, first_absent, is_past, whole_extract, whole_window}
 
 -- the feeds' names of extracts
 abbrev names_of : List ExtractIn → List (List ℕ)

@@ -7,6 +7,7 @@ use Rattle.dv_mapfile.specs.declared.manifests.ManifestExtract.{ManifestExtract}
 use Rattle.dv_catalog.specs.declared.map_error.MapError.{MapError}
 use Rattle.dv_catalog.specs.declared.map_error.MapError.TheVariants as errors
 use Rattle.dv_mart.specs.Whats.{offered_what}
+use Rattle.dv_mart.specs.declared.query_rules.QueryRule.{QueryRule}
 use Rattle.dv_mart.specs.declared.query_rules.QueryRule.TheVariants.{UnknownMart, BadDate}
 use Rattle.dv_outside.specs.Ends.{Ends}
 use Rattle.dv_outside.specs.Files.{file_at}
@@ -63,40 +64,33 @@ IsStopCause before now IsUnwritten IsOther (Ended ending) = IsReadCause before n
 
 -- ---- its meaning, by the folder's files
 
+-- the reading of files, by what it says of one that is absent, and of one that could not be read
+abbrev pub FileEnds : (List ℕ → Type 0) → (List ℕ → Type 0) → Ending → Type 0
+FileEnds IsAbsent IsUnread (Absent file) = IsAbsent file
+FileEnds IsAbsent IsUnread (Unread file) = IsUnread file
+FileEnds IsAbsent IsUnread Memory = Unit {0}
+FileEnds IsAbsent IsUnread ending = ⊥
+
 -- the reading of a file
 abbrev pub ReadEnds : List NamedFile → List ℕ → Ending → Type 0
-ReadEnds files name (Absent file) = (file ≡ name) × (file_at files name ≡ None)
-ReadEnds files name (Unread file) = file ≡ name
-ReadEnds files name Memory = Unit {0}
-ReadEnds files name ending = ⊥
+ReadEnds files name ending = FileEnds (λ file. (file ≡ name) × (file_at files name ≡ None)) (λ file. file ≡ name) ending
 
 -- the reading of an extract's file
 abbrev pub ExtractEnds : List NamedFile → Reading → ManifestExtract → Ending → Type 0
-ExtractEnds files r extract (Absent file) = read_next files extract r ≡ Err file
-ExtractEnds files r extract (Unread file) = extract.file ≡ file
-ExtractEnds files r extract Memory = Unit {0}
-ExtractEnds files r extract ending = ⊥
+ExtractEnds files r extract ending = FileEnds (λ file. read_next files extract r ≡ Err file) (λ file. extract.file ≡ file) ending
 
 -- the reading of the files of extracts
 abbrev pub ExtractsEnd : List NamedFile → List ManifestExtract → Ending → Type 0
-ExtractsEnd files extracts (Absent file) = read_from files no_reading extracts ≡ Err file
-ExtractsEnd files extracts (Unread file) = (extract : ManifestExtract) × Contains extracts extract × (extract.file ≡ file)
-ExtractsEnd files extracts Memory = Unit {0}
-ExtractsEnd files extracts ending = ⊥
+ExtractsEnd files extracts ending =
+    FileEnds (λ file. read_from files no_reading extracts ≡ Err file) (λ file. (extract : ManifestExtract) × Contains extracts extract × (extract.file ≡ file)) ending
 
 -- the reading of the files that a manifest names
 abbrev pub FilesEnd : List NamedFile → List ℕ → Ending → Type 0
-FilesEnd files bytes (Absent file) = brought files bytes ≡ spec.Absent file
-FilesEnd files bytes (Unread file) = IsFileOf bytes file
-FilesEnd files bytes Memory = Unit {0}
-FilesEnd files bytes ending = ⊥
+FilesEnd files bytes ending = FileEnds (λ file. brought files bytes ≡ spec.Absent file) (λ file. IsFileOf bytes file) ending
 
 -- the reading of a manifest and of the files that it names
 abbrev pub BringEnds : List NamedFile → List ℕ → Ending → Type 0
-BringEnds files name (Absent file) = arrival files name ≡ spec.Absent file
-BringEnds files name (Unread file) = IsReadFor files name file
-BringEnds files name Memory = Unit {0}
-BringEnds files name ending = ⊥
+BringEnds files name ending = FileEnds (λ file. arrival files name ≡ spec.Absent file) (λ file. IsReadFor files name file) ending
 
 -- a mapping that is refused, or not read for want of memory
 abbrev pub IsMappingEnd : MapError → Ending → Type 0
@@ -112,14 +106,16 @@ MappingEnds files (Unread file) = file ≡ mapping_file
 MappingEnds files Memory = Unit {0}
 MappingEnds files ending = ⊥
 
+-- what is asked for, by what is said of a rule that it breaks
+abbrev pub QueryEnds : (QueryRule → Type 0) → Ending → Type 0
+QueryEnds IsBroken (BadQuery rule) = IsBroken rule
+QueryEnds IsBroken Memory = Unit {0}
+QueryEnds IsBroken ending = ⊥
+
 -- the word for the mart
 abbrev pub WhatEnds : Mapping → List ℕ → Ending → Type 0
-WhatEnds mapping word (BadQuery rule) = (rule ≡ UnknownMart word) × (offered_what mapping word ≡ None)
-WhatEnds mapping word Memory = Unit {0}
-WhatEnds mapping word ending = ⊥
+WhatEnds mapping word ending = QueryEnds (λ rule. (rule ≡ UnknownMart word) × (offered_what mapping word ≡ None)) ending
 
 -- the date
 abbrev pub DateEnds : List ℕ → Ending → Type 0
-DateEnds date (BadQuery rule) = (rule ≡ BadDate date) × (stamp_of date ≡ None)
-DateEnds date Memory = Unit {0}
-DateEnds date ending = ⊥
+DateEnds date ending = QueryEnds (λ rule. (rule ≡ BadDate date) × (stamp_of date ≡ None)) ending

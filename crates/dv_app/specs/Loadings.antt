@@ -3,7 +3,6 @@ use Rattle.std.specs.Prelude.{◌≡◌, ℕ, Bool, true, ◌||◌, List, ◌++�
 use Rattle.std.specs.Fmt.{decimal}
 use Rattle.dv_text.specs.Keys.{Hashes}
 use Rattle.dv_text.specs.Told.{Told}
-use Rattle.dv_catalog.specs.Built.{built_mapping}
 use Rattle.dv_catalog.specs.Entries.{Mapping}
 use Rattle.dv_catalog.specs.Windows.{window_of}
 use Rattle.dv_catalog.specs.declared.rules.Rule.{Rule}
@@ -12,7 +11,6 @@ use Rattle.dv_mart.specs.declared.whats.What.{What}
 use Rattle.dv_outside.specs.Bytes.{after, GotPrefix}
 use Rattle.dv_outside.specs.declared.folders.NamedFile.{NamedFile}
 use Rattle.dv_records.specs.Loads.{loaded}
-use Rattle.dv_records.specs.MemoryKeepers.{keeper_store}
 use Rattle.dv_records.specs.Outcomes.{outcome}
 use Rattle.dv_records.specs.States.{State}
 use Rattle.dv_records.specs.declared.answers.Outcome.{Outcome}
@@ -29,6 +27,7 @@ use Rattle.dv_app.specs.declared.words.Asked.{Asked}
 use Rattle.dv_app.specs.Endings.{BringEnds, line_of_ending, status_of}
 use Rattle.dv_app.specs.Given.{absent_line}
 use Rattle.dv_app.specs.Lines.{memory_line}
+use Rattle.dv_app.specs.OwnKeepers.{own_store}
 use Rattle.dv_app.specs.Says.{CutShort, Heard, IsCutLines, IsEnded, IsMemory, IsReadNext, Trial, lines_before, lines_of, tried_of}
 use Rattle.dv_app.specs.Tried.{Absent, Arrival, Broken, Brought, Progress, arrival, at_end, is_refused, refusal_text, start, state_after, step, step_by, steps, window_line}
 
@@ -39,16 +38,12 @@ trial_of hashes files a =
 
 -- ---- a window
 
--- a text is read as a mapping in which every form is built
-abbrev pub IsMappingText : List ℕ → Type 0
-IsMappingText text = (mapping : Mapping) × (built_mapping text ≡ Ok mapping)
-
 -- a window can be given to the office: it stands for some state with no window open, and its keeper agrees with it
 pub record IsReady (hashes : Hashes) (loading : Loading) : Type 0 where
   pub state : State
   pub stands : StandsFor hashes state loading.office
   pub rest : IsAtRest loading.office
-  pub agrees : Told (Some (keeper_store loading.keeper)) (Agrees loading.office)
+  pub agrees : Told (Some (own_store loading.keeper)) (Agrees loading.office)
 
 -- what the code has loaded is what the run has
 pub record IsLoaded (mapping : Mapping) (hashes : Hashes) (loading : Loading) (p : Progress) : Type 0 where

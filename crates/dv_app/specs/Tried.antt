@@ -5,6 +5,7 @@ use Rattle.dv_text.specs.Keys.{Hashes}
 use Rattle.dv_text.specs.Stamps.{stamp_of}
 use Rattle.dv_catalog.specs.Built.{built_mapping}
 use Rattle.dv_catalog.specs.Entries.{Mapping}
+use Rattle.dv_catalog.specs.Limits.{most_manifest_bytes, most_mapping_bytes}
 use Rattle.dv_mapfile.specs.Manifests.{manifest_in}
 use Rattle.dv_catalog.specs.Printed.{printed}
 use Rattle.dv_catalog.specs.RuleTexts.{rule_text}
@@ -90,7 +91,7 @@ brought files bytes = brought_if files (manifest_in bytes)
 
 -- the first bytes of a manifest: one more than it may have
 abbrev pub manifest_bytes : List NamedFile → List ℕ → Option (List ℕ)
-manifest_bytes files name = given 65537 files name
+manifest_bytes files name = given (most_manifest_bytes + 1) files name
 
 abbrev pub arrival_by : List NamedFile → List ℕ → Option (List ℕ) → Arrival
 arrival_by files name None = Absent name
@@ -176,9 +177,9 @@ at_end mapping hashes what date (Ok p) =
 
 -- ---- the whole command
 
--- the mapping's file, read
+-- the mapping's file, read: one byte more than it may have
 abbrev pub mapping_at : List NamedFile → Option (Result Mapping MapError)
-mapping_at files = option_map built_mapping (given 1048577 files mapping_file)
+mapping_at files = option_map built_mapping (given (most_mapping_bytes + 1) files mapping_file)
 
 abbrev pub tried_at : Mapping → Hashes → List NamedFile → What → List ℕ → List (List ℕ) → Option ℕ → Tried
 tried_at mapping hashes files what date names None = ended statuses.Refused (query_line (BadDate date))

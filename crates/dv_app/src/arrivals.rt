@@ -14,6 +14,9 @@ use dv_outside::Folder;
 use dv_text::{Duplicate, List, Memory, Text};
 use std::alloc::Global;
 
+/// The most bytes of a manifest.
+const MOST_MANIFEST_BYTES: u64 = 65_536;
+
 /// The most bytes of an extract.
 const MOST_BYTES: u64 = 33_554_432;
 
@@ -167,6 +170,6 @@ pub(crate) fn bring<F: Folder>(
     ensures kept { F.files folder.new ≡ F.files folder.old }
     ensures later { F.faults folder.old ≤ F.faults folder.new }
 {
-    let bytes = read_named(alloc, folder, name, 65_537)?;
+    let bytes = read_named(alloc, folder, name, MOST_MANIFEST_BYTES + 1)?;
     bring_files(alloc, folder, bytes.items())
 }

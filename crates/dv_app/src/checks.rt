@@ -1,12 +1,13 @@
 // What has to be there before a window is loaded: the mapping, a mart that is offered, and a date.
 ghost use Rattle.std.specs.Prelude.{◌≡◌, ◌≤◌, ℕ, Some, Ok, IfOk, IfErr};
-ghost use Rattle.dv_text.specs.Keys.{hashes_of};
+ghost use Rattle.dv_text.specs.Keys.{Hashes};
 ghost use Rattle.dv_text.specs.Stamps.{stamp_of};
 ghost use Rattle.dv_text.specs.Told.{Told};
 ghost use Rattle.dv_catalog.specs.Built.{built_mapping};
 ghost use Rattle.dv_mart.specs.Whats.{offered_what};
+ghost use Rattle.dv_vault.specs.Vaults.{IsBuilt};
 ghost use Rattle.dv_app.specs.Endings.{DateEnds, IsMappingEnd, IsReadCause, MappingEnds, WhatEnds};
-ghost use Rattle.dv_app.specs.Loadings.{IsLoaded, IsMappingText, IsReady};
+ghost use Rattle.dv_app.specs.Loadings.{IsLoaded, IsReady};
 ghost use Rattle.dv_app.specs.Tried.{mapping_at, start};
 
 use crate::endings::Ending;
@@ -17,8 +18,11 @@ use dv_catalog::{Catalog, MapError};
 use dv_mapfile::read_built_catalog;
 use dv_mart::{QueryRule, What};
 use dv_outside::Folder;
-use dv_text::{Duplicate, KeyDigest, Memory, Stamp, Text};
+use dv_text::{Duplicate, Memory, Stamp, Text};
 use std::alloc::Global;
+
+/// The most bytes of a mapping's file.
+const MOST_MAPPING_BYTES: u64 = 1_048_576;
 
 // The end where a mapping is refused, or could not be read for want of memory.
 fn end_mapping(e: MapError) -> Ending
@@ -31,10 +35,18 @@ fn end_mapping(e: MapError) -> Ending
     Ending::BadMapping(e)
 }
 
-// The text of the mapping's file, which is read as a mapping.
-fn read_mapping<F: Folder>(alloc: Global, folder: &mut F) -> Result<Text, Ending>
-    ensures ok { IfOk result (λ text. Told (F.files folder.old) (λ files. mapping_at files ≡ Some (built_mapping text))) }
-    ensures mapping { IfOk result IsMappingText }
+/// The mapping's file: the mapping that it is read as, and its text.
+#[derive(Drop)]
+struct MappingFile {
+    catalog: Catalog,
+    text: Text,
+}
+
+// The mapping's file, read.
+fn read_mapping<F: Folder>(alloc: Global, folder: &mut F) -> Result<MappingFile, Ending>
+    ensures ok { IfOk result (λ file. Told (F.files folder.old) (λ files. mapping_at files ≡ Some (Ok file.catalog))) }
+    ensures built { IfOk result (λ file. IsBuilt file.catalog) }
+    ensures text { IfOk result (λ file. built_mapping file.text ≡ Ok file.catalog) }
     ensures ends { IfErr result (λ ending. Told (F.files folder.old) (λ files. MappingEnds files ending)) }
     ensures cause { IfErr result (IsReadCause (F.faults folder.old) (F.faults folder.new)) }
     ensures kept { F.files folder.new ≡ F.files folder.old }
@@ -43,29 +55,28 @@ fn read_mapping<F: Folder>(alloc: Global, folder: &mut F) -> Result<Text, Ending
     let Ok(name) = Text::of(alloc, MAPPING_NAME) else {
         return Err(Ending::Memory);
     };
-    let bytes = read_named(alloc, folder, &name, 1_048_577)?;
+    let bytes = read_named(alloc, folder, &name, MOST_MAPPING_BYTES + 1)?;
     match read_built_catalog(alloc, bytes.items()) {
-        Ok(_) => Ok(Text::from_vec(bytes.into_vec())),
+        Ok(catalog) => Ok(MappingFile {
+            catalog,
+            text: Text::from_vec(bytes.into_vec()),
+        }),
         Err(e) => Err(end_mapping(e)),
     }
 }
 
-/// The mapping's file is read, and an office started over a keeper of its own.
-pub(crate) fn open_loading<F: Folder, H: KeyDigest>(
-    alloc: Global,
-    folder: &mut F,
-    digest: &H,
-) -> Result<Loading, Ending>
+/// The mapping's file is read, and an office begun over a keeper of its own.
+pub(crate) fn open_loading<F: Folder>(alloc: Global, folder: &mut F) -> Result<Loading, Ending>
     ensures ok { IfOk result (λ loading. Told (F.files folder.old) (λ files. mapping_at files ≡ Some (Ok loading.office.vault.mapping))) }
-    ensures ready { IfOk result (IsReady (hashes_of H.digest_of H.size)) }
-    ensures loaded { IfOk result (λ loading. IsLoaded loading.office.vault.mapping (hashes_of H.digest_of H.size) loading start) }
+    ensures ready { (hashes : Hashes) → IfOk result (IsReady hashes) }
+    ensures loaded { (hashes : Hashes) → IfOk result (λ loading. IsLoaded loading.office.vault.mapping hashes loading start) }
     ensures ends { IfErr result (λ ending. Told (F.files folder.old) (λ files. MappingEnds files ending)) }
     ensures cause { IfErr result (IsReadCause (F.faults folder.old) (F.faults folder.new)) }
     ensures kept { F.files folder.new ≡ F.files folder.old }
     ensures later { F.faults folder.old ≤ F.faults folder.new }
 {
-    let text = read_mapping(alloc, folder)?;
-    match begin_loading(alloc, &text, digest) {
+    let file = read_mapping(alloc, folder)?;
+    match begin_loading(alloc, file.catalog, file.text) {
         Ok(loading) => Ok(loading),
         Err(Memory) => Err(Ending::Memory),
     }

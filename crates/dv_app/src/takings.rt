@@ -1,26 +1,26 @@
 // One manifest is taken: its window is loaded, repeated or refused, and its line is made.
 ghost use Rattle.std.specs.Prelude.{◌≡◌, ◌++◌, IfOk, OnOk, Ok};
-ghost use Rattle.dv_text.specs.Keys.{hashes_of};
+ghost use Rattle.dv_text.specs.Keys.{Hashes, hashes_of};
 ghost use Rattle.dv_catalog.specs.Built.{built_mapping};
 ghost use Rattle.dv_catalog.specs.Entries.{Mapping};
-ghost use Rattle.dv_records.specs.MemoryKeepers.{empty_store, keeper_store};
-ghost use Rattle.dv_records.specs.Stores.{with_mapping};
-ghost use Rattle.dv_app.specs.Loadings.{outcome_of, taken_text, IsLine, IsLoaded, IsMappingText, IsReady, Takes, TakesArrival, TakesWindow};
+ghost use Rattle.dv_vault.specs.Vaults.{IsBuilt};
+ghost use Rattle.dv_app.specs.Loadings.{outcome_of, taken_text, IsLine, IsLoaded, IsReady, Takes, TakesArrival, TakesWindow};
 ghost use Rattle.dv_app.specs.Readings.{arrival_of};
 ghost use Rattle.dv_app.specs.Tried.{is_refused, start, window_line as line_of_window, Progress};
 
 use crate::arrivals::Arrived;
-use dv_catalog::{Rule, WindowIn, printed, rule_text};
+use crate::own_keepers::OwnKeeper;
+use dv_catalog::{Catalog, Rule, WindowIn, printed, rule_text};
 use dv_outside::Gate;
-use dv_records::{Keeper, LoadAnswer, MemoryKeeper};
-use dv_text::{KeyDigest, List, Memory, Text};
+use dv_records::LoadAnswer;
+use dv_text::{KeyDigest, Memory, Text};
 use dv_window::{Office, Order};
 use std::alloc::Global;
 
 /// What is loaded: the office over a keeper of its own, and whether a window was refused.
 #[derive(Drop)]
 pub(crate) struct Loading {
-    pub keeper: MemoryKeeper,
+    pub keeper: OwnKeeper,
     pub office: Office,
     pub refused: bool,
 }
@@ -33,41 +33,23 @@ pub(crate) enum Taken {
     Refused(Rule),
 }
 
-// A keeper of which no failure is planned, with nothing but the text of a mapping.
-fn new_keeper(alloc: Global, mapping: &Text) -> Result<MemoryKeeper, Memory>
-    ensures { IfOk result (λ keeper. keeper_store keeper ≡ with_mapping mapping.now empty_store) }
+/// An office over a keeper of its own, which has the text of the mapping and nothing else.
+pub(crate) fn begin_loading(alloc: Global, catalog: Catalog, text: Text) -> Result<Loading, Memory>
+    requires built { IsBuilt catalog }
+    requires text { built_mapping text ≡ Ok catalog }
+    ensures ready { (hashes : Hashes) → IfOk result (IsReady hashes) }
+    ensures mapping { IfOk result (λ loading. loading.office.vault.mapping ≡ catalog) }
+    ensures loaded { (hashes : Hashes) → IfOk result (λ loading. IsLoaded loading.office.vault.mapping hashes loading start) }
 {
-    let mut keeper = MemoryKeeper::new(alloc, List::new(alloc));
-    match keeper.put_mapping(alloc, mapping) {
-        Ok(()) => Ok(keeper),
-        Err(_) => Err(Memory),
-    }
+    let office = Office::begin(alloc, catalog)?;
+    Ok(Loading {
+        keeper: OwnKeeper::new(alloc, text),
+        office,
+        refused: false,
+    })
 }
 
-/// An office over a keeper of its own, which has nothing but the text of a mapping. A fault of that keeper,
-/// which plans none, is answered as want of memory.
-pub(crate) fn begin_loading<H: KeyDigest>(
-    alloc: Global,
-    mapping: &Text,
-    digest: &H,
-) -> Result<Loading, Memory>
-    requires { IsMappingText mapping.now }
-    ensures ready { IfOk result (IsReady (hashes_of H.digest_of H.size)) }
-    ensures mapping { IfOk result (λ loading. built_mapping mapping.now ≡ Ok loading.office.vault.mapping) }
-    ensures loaded { IfOk result (λ loading. IsLoaded loading.office.vault.mapping (hashes_of H.digest_of H.size) loading start) }
-{
-    let mut keeper = new_keeper(alloc, mapping)?;
-    match Office::start(alloc, &mut keeper, digest) {
-        Ok(office) => Ok(Loading {
-            keeper,
-            office,
-            refused: false,
-        }),
-        Err(_) => Err(Memory),
-    }
-}
-
-// Gives a window to the office. A fault of its own keeper is answered as want of memory.
+// Gives a window to the office, whose keeper doesn't fail.
 fn load_window<H: KeyDigest, G: Gate>(
     alloc: Global,
     loading: &mut Loading,
@@ -95,7 +77,8 @@ fn load_window<H: KeyDigest, G: Gate>(
         LoadAnswer::Loaded { rows } => Ok(Taken::Loaded { rows }),
         LoadAnswer::Repeated => Ok(Taken::Repeated),
         LoadAnswer::Refused(rule) => Ok(Taken::Refused(rule)),
-        LoadAnswer::KeeperFault | LoadAnswer::Memory => Err(Memory),
+        LoadAnswer::Memory => Err(Memory),
+        LoadAnswer::KeeperFault => unreachable!(),
     }
 }
 

@@ -1,7 +1,7 @@
 // `try`: the windows of manifests are loaded into a keeper of its own, and a mart's text is written.
 ghost use Rattle.std.specs.Prelude.{◌≡◌, ◌≤◌, ◌⊎◌, ℕ, List, IfOk, OnOk, IfErr};
 ghost use Rattle.dv_text.specs.Causes.{Rose};
-ghost use Rattle.dv_text.specs.Keys.{hashes_of};
+ghost use Rattle.dv_text.specs.Keys.{Hashes, hashes_of};
 ghost use Rattle.dv_text.specs.Told.{Told};
 ghost use Rattle.dv_catalog.specs.Entries.{Mapping};
 ghost use Rattle.dv_mart.specs.OfferedMarts.{IsOffered};
@@ -90,24 +90,19 @@ fn load_all<F: Folder, E: Sink, H: KeyDigest, G: Gate>(
 }
 
 // All that comes before the manifests.
-fn begin<F: Folder, H: KeyDigest>(
-    alloc: Global,
-    asked: &Asked<'_>,
-    folder: &mut F,
-    digest: &H,
-) -> Result<Readied, Ending>
-    ensures ok { IfOk result (λ readied. Told (F.files folder.old) (λ files.
-        Begins (trial_of (hashes_of H.digest_of H.size) files asked.now) readied.loading.office.vault.mapping readied.what readied.date)) }
-    ensures ready { IfOk result (λ readied. IsReady (hashes_of H.digest_of H.size) readied.loading) }
-    ensures loaded { IfOk result (λ readied. IsLoaded readied.loading.office.vault.mapping (hashes_of H.digest_of H.size) readied.loading start) }
+fn begin<F: Folder>(alloc: Global, asked: &Asked<'_>, folder: &mut F) -> Result<Readied, Ending>
+    ensures ok { (hashes : Hashes) → IfOk result (λ readied. Told (F.files folder.old) (λ files.
+        Begins (trial_of hashes files asked.now) readied.loading.office.vault.mapping readied.what readied.date)) }
+    ensures ready { (hashes : Hashes) → IfOk result (λ readied. IsReady hashes readied.loading) }
+    ensures loaded { (hashes : Hashes) → IfOk result (λ readied. IsLoaded readied.loading.office.vault.mapping hashes readied.loading start) }
     ensures offered { IfOk result (λ readied. IsOffered readied.loading.office.vault.mapping readied.what) }
-    ensures ends { IfErr result (λ ending. Told (F.files folder.old) (λ files.
-        IsEnded (trial_of (hashes_of H.digest_of H.size) files asked.now) (F.faults folder.old) (F.faults folder.new) (status_of ending) (line_of_ending ending))) }
+    ensures ends { (hashes : Hashes) → IfErr result (λ ending. Told (F.files folder.old) (λ files.
+        IsEnded (trial_of hashes files asked.now) (F.faults folder.old) (F.faults folder.new) (status_of ending) (line_of_ending ending))) }
     ensures cause { IfErr result (IsReadCause (F.faults folder.old) (F.faults folder.new)) }
     ensures kept { F.files folder.new ≡ F.files folder.old }
     ensures later { F.faults folder.old ≤ F.faults folder.new }
 {
-    let loading = open_loading(alloc, folder, digest)?;
+    let loading = open_loading(alloc, folder)?;
     let what = check_what(alloc, loading.office.catalog(), asked.what)?;
     let date = check_date(asked.date)?;
     Ok(Readied {
@@ -139,7 +134,7 @@ fn try_all<F: Folder, O: Sink, E: Sink, H: KeyDigest, G: Gate>(
     ensures kept { F.files folder.new ≡ F.files folder.old }
     ensures later { (F.faults folder.old ≤ F.faults folder.new) × (O.faults out.old ≤ O.faults out.new) × (E.faults err.old ≤ E.faults err.new) }
 {
-    let mut readied = begin(alloc, asked, folder, digest)?;
+    let mut readied = begin(alloc, asked, folder)?;
     load_all(
         alloc,
         &mut readied.loading,

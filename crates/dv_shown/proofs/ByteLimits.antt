@@ -1,8 +1,5 @@
 -- A mapping file within the limit of its bytes, and one past it.
-use Rattle.std.proofs.Common.{◌≡◌, ◌<◌, ◌≤◌, ℕ, nat_le, nat_lt, true, false, List, length, None, Err, codes, refl, arith}
-use Rattle.std.proofs.lemmas.Bool.Decides.{nat_tests}
-use Rattle.dv_catalog.specs.Documents.{document_of, mapping_document}
-use Rattle.dv_mapfile.specs.Manifests.{manifest_in, manifest_or_text}
+use Rattle.dv_shown.proofs.Vocabulary.{◌≡◌, ◌<◌, ◌≤◌, ℕ, nat_le, nat_lt, true, false, List, length, None, refl, arith, Err, codes, nat_tests, document_of, mapping_document, manifest_in, manifest_or_text}
 
 at_most : (n most : ℕ) → n ≤ most → nat_le n most ≡ true
 at_most n most h = grind (arith, nat_tests)

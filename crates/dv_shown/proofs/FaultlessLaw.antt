@@ -1,38 +1,13 @@
 -- An outline whose mapping is valid has its form, and no check refuses it.
-use Rattle.std.proofs.Common.{◌≡◌, ◌⊎◌, inl, inr, ℕ, zero, suc, ◌+◌, ◌<◌, ◌≤◌, Bool, true, false, not, ◌&&◌, ◌||◌, ◌==◌, List, [], ◌∷◌, ◌++◌, find, get_or, length, map, nat_eq, nat_le, nat_lt, Option, Some, None, refl, sym, ◌∙◌, ap, subst, arith, append_assoc}
-use Rattle.std.specs.Prelude.{if◌then◌else◌, Contains, is_none, is_some, option_and_then, slice_get}
-use Rattle.std.specs.List.{filter_map, flat_map, list_all, list_any, position_or_len, range_with_len, zip}
-use Rattle.std.specs.Option.{option_map, option_map_or, option_or}
-use Rattle.std.specs.Str.{bytes_eq}
-use Rattle.std.proofs.lemmas.Bool.{and_from, and_parts, eq-eqb, eqb-true, false_from_ne_true, lt-ltb, ltb-true, le-leb, not-true, or_cases, or_parts}
-use Rattle.std.proofs.lemmas.Bool.Decides.{nat_tests}
-use Rattle.std.proofs.lemmas.List.{length-map, map-append}
-use Rattle.std.proofs.lemmas.List.Folds.{list_any-append}
-use Rattle.std.proofs.lemmas.List.Elements.{Contains-append_cases, Contains-get_or}
-use Rattle.std.proofs.lemmas.List.FromFn.{get_or-range_with_len, length-range_with_len}
-use Rattle.std.proofs.lemmas.Option.{slice_get_read}
-use Rattle.std.proofs.lemmas.Simd.{map-map}
-use Rattle.std.proofs.lemmas.Slice.Eq.{bytes_eq-Decides}
-use Rattle.dv_text.proofs.Members.{Contains-cons_cases, Contains-cons_here, Contains-cons_there, Contains-map, Contains-nil, filter_map_member, flat_map_member, map_member}
-use Rattle.dv_text.proofs.Options.{none_from, or_none}
-use Rattle.dv_text.proofs.Passing.{all_pass, find_none, found_member, list_any-map, none_pass, passes_at, some_passes, some_passes_at}
-use Rattle.dv_catalog.specs.declared.map_error.MapError.{MapError}
-use Rattle.dv_catalog.specs.declared.outlines.FeedOutline.{FeedOutline}
-use Rattle.dv_catalog.specs.declared.outlines.HubOutline.{HubOutline}
-use Rattle.dv_catalog.specs.declared.outlines.LinkOutline.{LinkOutline}
-use Rattle.dv_catalog.specs.declared.outlines.Outline.{Outline}
-use Rattle.dv_catalog.specs.declared.outlines.ParentName.{ParentName}
-use Rattle.dv_catalog.specs.declared.outlines.ParentName.TheVariants.{Hub, Link}
-use Rattle.dv_catalog.specs.declared.outlines.PathOutline.{PathOutline}
+use Rattle.dv_shown.proofs.Vocabulary.{◌≡◌, ◌⊎◌, inl, inr, ℕ, zero, suc, ◌+◌, ◌<◌, ◌≤◌, Bool, true, false, not, ◌&&◌, ◌||◌, ◌==◌, List, [], ◌∷◌, ◌++◌, find, get_or, length, map, nat_eq, nat_le, nat_lt, Option, Some, None, refl, sym, ◌∙◌, ap, subst, arith, append_assoc, if◌then◌else◌, Contains}
+use Rattle.dv_shown.proofs.Vocabulary.{is_none, is_some, option_and_then, slice_get, filter_map, flat_map, list_all, list_any, position_or_len, range_with_len, zip, option_map, option_map_or, option_or, bytes_eq, and_from, and_parts, eq-eqb, eqb-true, false_from_ne_true, lt-ltb, ltb-true, le-leb}
+use Rattle.dv_shown.proofs.Vocabulary.{not-true, or_cases, or_parts, nat_tests, length-map, map-append, list_any-append, Contains-append_cases, Contains-get_or, get_or-range_with_len, length-range_with_len, slice_get_read, map-map, bytes_eq-Decides, Contains-cons_cases, Contains-cons_here}
+use Rattle.dv_shown.proofs.Vocabulary.{Contains-cons_there, Contains-map, Contains-nil, filter_map_member, flat_map_member, map_member, none_from, or_none, all_pass, find_none, found_member, list_any-map, none_pass, passes_at, some_passes, some_passes_at, MapError, FeedOutline, HubOutline}
+use Rattle.dv_shown.proofs.Vocabulary.{LinkOutline, Outline, ParentName, Hub, Link, PathOutline, Mapping, first_of, has_column_form, has_name_form, is_within, most_columns, most_ignored, most_parts, most_references, most_steps, again, again_after, is_among, number_twice, text_twice}
+use Rattle.dv_shown.proofs.Vocabulary.{are_joined_by, are_some_places, feed_def, feed_place, has_number, has_shape, hub_def, hub_place, is_declared, is_hub, is_link, is_link_feed, is_of_link, is_place_of_step, is_valid, is_valid_driver, is_valid_hub, is_valid_link, is_valid_feed, is_valid_path}
+use Rattle.dv_shown.proofs.Vocabulary.{link_def, link_place, mapping_of, parent_def, path_def, reference_place, valid_feed, valid_hub, valid_link, valid_parts, valid_path, ValidFeed, ValidHub, ValidLink, ValidPath, passes_at_place, place_under, same_place, columns_fit, hubs_of_parent, is_step}
+use Rattle.dv_shown.proofs.Vocabulary.{places_of_step}
 use Rattle.dv_catalog.specs.Checks as spec
-use Rattle.dv_catalog.specs.Entries.{Mapping}
-use Rattle.dv_catalog.specs.FirstOf.{first_of}
-use Rattle.dv_catalog.specs.Limits.{has_column_form, has_name_form, is_within, most_columns, most_ignored, most_parts, most_references, most_steps}
-use Rattle.dv_catalog.specs.Lookups.{again, again_after, is_among, number_twice, text_twice}
-use Rattle.dv_catalog.specs.Mappings.{are_joined_by, are_some_places, feed_def, feed_place, has_number, has_shape, hub_def, hub_place, is_declared, is_hub, is_link, is_link_feed, is_of_link, is_place_of_step, is_valid, is_valid_driver, is_valid_hub, is_valid_link, is_valid_feed, is_valid_path, link_def, link_place, mapping_of, parent_def, path_def, reference_place}
-use Rattle.dv_catalog.proofs.ValidReads.{valid_feed, valid_hub, valid_link, valid_parts, valid_path, ValidFeed, ValidHub, ValidLink, ValidPath}
-use Rattle.dv_mapfile.proofs.Apart.{passes_at_place, place_under, same_place}
-use Rattle.dv_mapfile.proofs.Resolved.{columns_fit, hubs_of_parent, is_step, places_of_step}
 
 -- ---- tests
 

@@ -1,4 +1,6 @@
 mod ByteLimits
 mod FaultlessLaw
+pub mod Limits
 mod Literals
 mod RecordLaw
+pub mod Vocabulary

@@ -1,14 +1,6 @@
 -- The rule of records is that of the least record that breaks one.
-use Rattle.std.proofs.Common.{◌≡◌, inl, inr, ℕ, zero, suc, ◌+◌, ◌<◌, ◌≤◌, List, [], ◌∷◌, ◌++◌, length, map, take, Option, Some, None, refl, sym, ◌∙◌, ap, subst, arith, append_assoc, append-nil}
-use Rattle.std.specs.Prelude.{option_and_then, slice_get}
-use Rattle.std.specs.Option.{option_or}
-use Rattle.std.proofs.lemmas.Bool.{cases_lt}
-use Rattle.std.proofs.lemmas.List.{length-append, length_push, map-append}
-use Rattle.dv_catalog.specs.declared.entries.FeedDef.{FeedDef}
-use Rattle.dv_catalog.specs.declared.rules.Rule.{Rule}
-use Rattle.dv_catalog.specs.FirstOf.{first_of}
-use Rattle.dv_catalog.specs.Records.{record_rule, records_rule, row_of}
-use Rattle.dv_shown.specs.CatalogLaws.{rule_at, IsAtLeast}
+use Rattle.dv_shown.proofs.Vocabulary.{◌≡◌, inl, inr, ℕ, zero, suc, ◌+◌, ◌<◌, ◌≤◌, List, [], ◌∷◌, ◌++◌, length, map, take, Option, Some, None, refl, sym, ◌∙◌, ap, subst, arith, append_assoc, append-nil, option_and_then, slice_get, option_or, cases_lt, length-append, length_push, map-append}
+use Rattle.dv_shown.proofs.Vocabulary.{FeedDef, Rule, first_of, record_rule, records_rule, row_of, rule_at, IsAtLeast}
 
 -- the same from a place on
 abbrev LeastFrom : {R : Type 0} → (ℕ → Option R) → ℕ → ℕ → Option R → Type 0

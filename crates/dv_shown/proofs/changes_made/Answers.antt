@@ -1,8 +1,4 @@
-use Rattle.std.proofs.Common.{◌≡◌, ◌≤◌, ℕ, List, [], slice_index, inl, inr, refl, arith, ap, ⊎_elim, Option, Some, None}
-use Rattle.std.specs.Prelude.{codes, unwrap_or}
-use Rattle.std.specs.Option.{option_and_then}
-use Rattle.dv_records.specs.declared.keepers.KeeperError.TheVariants.{Failed, Memory}
-use Rattle.dv_records.specs.declared.stores.Store.{Store}
+use Rattle.dv_shown.proofs.Vocabulary.{◌≡◌, ◌≤◌, ℕ, List, [], slice_index, inl, inr, refl, arith, ap, ⊎_elim, Option, Some, None, codes, unwrap_or, option_and_then, Failed, Memory, Store}
 use Rattle.dv_shown.proofs.changes_made.Goals as goal
 
 -- the mapping that a store holds, where it is told

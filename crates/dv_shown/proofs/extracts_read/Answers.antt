@@ -1,4 +1,4 @@
-use Rattle.std.proofs.Common.{refl}
+use Rattle.dv_shown.proofs.Vocabulary.{refl}
 use Rattle.dv_shown.proofs.Literals.{extracts_on_literals}
 use Rattle.dv_shown.proofs.extracts_read.Goals as goal
 

@@ -1,7 +1,4 @@
-use Rattle.std.proofs.Common.{refl}
-use Rattle.std.specs.Fmt.{digits}
-use Rattle.std.specs.Str.{chars, is_utf8}
-use Rattle.toml.proofs.OnLiterals.{toml_on_literals}
+use Rattle.dv_shown.proofs.Vocabulary.{refl, digits, chars, is_utf8, toml_on_literals}
 use Rattle.dv_shown.proofs.files_declared.Goals as goal
 
 pub returns : goal.returns

@@ -1,5 +1,4 @@
-use Rattle.std.proofs.Common.{refl}
-use Rattle.md5.specs.Md5.{block_words, compress, digest_bytes, hash_after, md5, rounds}
+use Rattle.dv_shown.proofs.Vocabulary.{refl, block_words, compress, digest_bytes, hash_after, md5, rounds}
 use Rattle.dv_shown.proofs.hashes_digested.Goals as goal
 
 pub returns : goal.returns

@@ -1,14 +1,5 @@
-use Rattle.std.proofs.Common.{◌≡◌, ℕ, List, [], inl, inr, refl, ap, arith, length, ⊎_elim, Option, Some, None, ◌∙◌}
-use Rattle.std.specs.Str.{chars, is_utf8}
-use Rattle.toml.proofs.OnLiterals.{toml_on_literals}
-use Rattle.std.specs.Prelude.{Result, Ok, Err, unwrap_or}
-use Rattle.dv_catalog.specs.declared.map_error.MapError.{MapError}
-use Rattle.dv_catalog.specs.Entries.{Mapping}
-use Rattle.dv_catalog.specs.MappingFiles.{read_mapping}
-use Rattle.dv_records.specs.declared.stores.Store.{Store}
-use Rattle.dv_records.specs.Steps.{BothRead}
-use Rattle.dv_shown.specs.Mappings.{bare, with_customers_and_sites}
-use Rattle.dv_shown.specs.Stepped.{bare_file, mapped, other_file}
+use Rattle.dv_shown.proofs.Vocabulary.{◌≡◌, ℕ, List, [], inl, inr, refl, ap, arith, length, ⊎_elim, Option, Some, None, ◌∙◌, chars, is_utf8, toml_on_literals, Result, Ok, Err, unwrap_or, MapError, Mapping, read_mapping, Store, BothRead, bare, with_customers_and_sites, bare_file, mapped}
+use Rattle.dv_shown.proofs.Vocabulary.{other_file}
 use Rattle.dv_shown.proofs.inits_step.Goals as goal
 
 -- how long the mapping text is that a store holds

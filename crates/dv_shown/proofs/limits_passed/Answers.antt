@@ -1,31 +1,6 @@
-use Rattle.std.proofs.Common.{◌≡◌, ◌<◌, ◌≤◌, ℕ, ◌+◌, Bool, nat_le, nat_lt, true, false, ◌||◌, [], ◌∷◌, ◌++◌, length, refl, arith}
-use Rattle.std.proofs.lemmas.Bool.Decides.{nat_tests}
-use Rattle.std.proofs.lemmas.List.Sums.{sum_by-append}
-use Rattle.std.proofs.Math.Bool.{and-false, false-and}
-use Rattle.dv_text.specs.Keys.{Hashes}
-use Rattle.dv_catalog.specs.Entries.{Mapping}
-use Rattle.dv_records.specs.Snapshots.{snapshot}
-use Rattle.dv_records.specs.States.{State, snapshots_weight}
-use Rattle.dv_shown.specs.Limited.{weight_with}
+use Rattle.dv_shown.proofs.Vocabulary.{◌≡◌, ◌<◌, ◌≤◌, ℕ, ◌+◌, Bool, nat_le, nat_lt, true, false, ◌||◌, [], ◌∷◌, ◌++◌, length, refl, arith, nat_tests, sum_by-append, and-false, false-and, Hashes, Mapping, snapshot, State, snapshots_weight, weight_with}
+use Rattle.dv_shown.proofs.Limits.{above, at_most, is_above, not_above, together}
 use Rattle.dv_shown.proofs.limits_passed.Goals as goal
-
-at_most : (n most : ℕ) → n ≤ most → nat_le n most ≡ true
-at_most n most h = grind (arith, nat_tests)
-
-not_above : (n most : ℕ) → n ≤ most → nat_lt most n ≡ false
-not_above n most h = grind (arith, nat_tests)
-
-is_above : (n most : ℕ) → most < n → nat_lt most n ≡ true
-is_above n most h = grind (arith, nat_tests)
-
-above : (n most : ℕ) → most < n → nat_le n most ≡ false
-above n most h = grind (arith, nat_tests)
-
--- the weight of the stored snapshots and the new one
-together : (mapping : Mapping) (hashes : Hashes) (state : State) (date : ℕ) → snapshots_weight mapping hashes state.sealed (state.dates ++ date ∷ []) ≡ weight_with mapping hashes state date
-together mapping hashes state date =
-    let sums = sum_by-append (λ d. (snapshot mapping hashes state.sealed d).head.weight) state.dates (date ∷ []) in
-    omega (arith, sums)
 
 or-true : (b : Bool) → (b || true) ≡ true
 or-true true = refl

@@ -1,8 +1,4 @@
-use Rattle.std.proofs.Common.{◌≡◌, ℕ, inl, inr, refl, ap, arith, length, ⊎_elim}
-use Rattle.std.specs.Option.{option_to_list}
-use Rattle.dv_catalog.specs.declared.rules.Rule.TheVariants.{NoExtracts}
-use Rattle.dv_records.specs.declared.answers.Outcome.TheVariants.{Load, Repeated, Refused}
-use Rattle.dv_records.specs.States.{State}
+use Rattle.dv_shown.proofs.Vocabulary.{◌≡◌, ℕ, inl, inr, refl, ap, arith, length, ⊎_elim, option_to_list, NoExtracts, Load, Repeated, Refused, State}
 use Rattle.dv_shown.proofs.Literals.{extracts_on_literals}
 use Rattle.dv_shown.proofs.loads_step.Goals as goal
 

@@ -1,9 +1,4 @@
-use Rattle.std.proofs.Common.{refl}
-use Rattle.std.specs.Fmt.{digits}
-use Rattle.std.specs.Str.{chars, is_utf8}
-use Rattle.toml.proofs.OnLiterals.{toml_on_literals}
-use Rattle.jiff_core.specs.Calendar.{day_count, days_from_civil, days_of_months, days_of_years}
-use Rattle.dv_text.specs.Stamps.{has_digits, has_form, has_marks, seconds_if, stamp_in}
+use Rattle.dv_shown.proofs.Vocabulary.{refl, digits, chars, is_utf8, toml_on_literals, day_count, days_from_civil, days_of_months, days_of_years, has_digits, has_form, has_marks, seconds_if, stamp_in}
 use Rattle.dv_shown.proofs.ByteLimits.{manifest_in-past, manifest_in-within}
 use Rattle.dv_shown.proofs.manifests_read.Goals as goal
 

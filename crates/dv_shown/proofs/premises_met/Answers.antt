@@ -1,17 +1,5 @@
 -- The premises, window by window and row by row.
-use Rattle.std.proofs.Common.{◌≡◌, false, List, [], ◌∷◌, refl}
-use Rattle.std.specs.Prelude.{Contains, codes}
-use Rattle.std.specs.List.{AllByRecursion}
-use Rattle.std.specs.List.Sorted.{IsStrictlySortedBy}
-use Rattle.std.proofs.lemmas.List.Elements.{All-contains, All-from_recursion}
-use Rattle.dv_text.specs.declared.rows.Key.{Key}
-use Rattle.dv_text.specs.declared.rows.NRow.{NRow}
-use Rattle.dv_text.specs.Keys.{is_missing}
-use Rattle.dv_text.specs.Orders.{row_cmp}
-use Rattle.dv_records.specs.History.{Extract, history, IsInLoadOrder}
-use Rattle.dv_records.specs.Reconstruction.{key_row}
-use Rattle.dv_shown.specs.Windows.{keys_come_and_go}
-use Rattle.dv_shown.specs.Words.{bare_row, key}
+use Rattle.dv_shown.proofs.Vocabulary.{◌≡◌, false, List, [], ◌∷◌, refl, Contains, codes, AllByRecursion, IsStrictlySortedBy, All-contains, All-from_recursion, Key, NRow, is_missing, row_cmp, Extract, history, IsInLoadOrder, key_row, keys_come_and_go, bare_row, key}
 use Rattle.dv_shown.proofs.premises_met.Goals as goal
 
 -- a row of a key alone that isn't missing

@@ -1,10 +1,4 @@
-use Rattle.std.proofs.Common.{◌≡◌, ℕ, inl, inr, refl, ap, arith, length, ⊎_elim, Some, None, [], sym, ◌∙◌}
-use Rattle.dv_records.specs.States.{State}
-use Rattle.dv_text.specs.declared.rows.Window.{Window}
-use Rattle.dv_records.specs.Loads.{loaded}
-use Rattle.dv_shown.specs.Answered.{first_loaded}
-use Rattle.dv_shown.specs.Mappings.{with_names}
-use Rattle.dv_shown.specs.Words.{plain}
+use Rattle.dv_shown.proofs.Vocabulary.{◌≡◌, ℕ, inl, inr, refl, ap, arith, length, ⊎_elim, Some, None, [], sym, ◌∙◌, State, Window, loaded, first_loaded, with_names, plain}
 use Rattle.dv_shown.proofs.resumes_step.Goals as goal
 
 not_two : (window : Window) → Some first_loaded ≡ Some window → 2 ≡ loaded with_names plain [] window → ⊥

@@ -1,7 +1,5 @@
-use Rattle.std.proofs.Common.{◌≡◌, ℕ, slice_index, inl, inr, refl, ap, arith, length, ⊎_elim, Some, None}
-use Rattle.dv_records.specs.States.{State}
-use Rattle.dv_records.specs.declared.answers.SnapAnswer.TheVariants.{Future, Repeated}
-use Rattle.dv_shown.specs.Words.{day}
+use Rattle.dv_shown.proofs.Vocabulary.{◌≡◌, ℕ, slice_index, inl, inr, refl, ap, arith, length, ⊎_elim, Some, None, State, Future, day}
+use Rattle.dv_records.specs.declared.answers.SnapAnswer.TheVariants.{Repeated}
 use Rattle.dv_shown.proofs.snapshots_step.Goals as goal
 
 -- how many snapshots a state has, and the date of the first

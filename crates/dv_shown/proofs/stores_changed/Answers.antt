@@ -1,5 +1,4 @@
-use Rattle.std.proofs.Common.{◌≡◌, refl, arith}
-use Rattle.dv_shown.specs.Words.{day}
+use Rattle.dv_shown.proofs.Vocabulary.{◌≡◌, refl, arith, day}
 use Rattle.dv_shown.proofs.stores_changed.Goals as goal
 
 pub returns : goal.returns

@@ -1,18 +1,6 @@
-use Rattle.std.proofs.Common.{◌≡◌, ℕ, zero, suc, List, [], refl, ap, ◌∙◌, arith, length, map, slice_get, Option, Some, None, true, false}
-use Rattle.std.specs.Prelude.{Result, Ok, Err, unwrap_or}
-use Rattle.dv_catalog.specs.declared.map_error.MapError.{MapError}
-use Rattle.dv_catalog.specs.declared.tables.TableId.TheVariants.{Hub, Status}
-use Rattle.dv_catalog.specs.Entries.{Mapping}
-use Rattle.dv_catalog.specs.MappingFiles.{read_mapping}
-use Rattle.dv_records.specs.Standing.{HasTables, IsMappedBy}
-use Rattle.dv_records.specs.Stores.{row_count}
-use Rattle.dv_records.specs.Vault.{partial}
-use Rattle.dv_shown.specs.Mappings.{bare}
-use Rattle.dv_shown.specs.Windows.{two_keys_window}
-use Rattle.dv_shown.specs.Words.{day, plain}
-use Rattle.std.specs.Str.{chars, is_utf8}
-use Rattle.toml.proofs.OnLiterals.{toml_on_literals}
-use Rattle.dv_shown.specs.Stepped.{bare_file, other_file, status_first, two_staged}
+use Rattle.dv_shown.proofs.Vocabulary.{◌≡◌, ℕ, zero, suc, List, [], refl, ap, ◌∙◌, arith, length, map, Option, Some, None, true, false, slice_get, Result, Ok, Err, unwrap_or, MapError, Status, Mapping, read_mapping, HasTables, IsMappedBy, row_count, partial, bare, two_keys_window, day, plain}
+use Rattle.dv_shown.proofs.Vocabulary.{chars, is_utf8, toml_on_literals, bare_file, other_file, status_first, two_staged}
+use Rattle.dv_catalog.specs.declared.tables.TableId.TheVariants.{Hub}
 use Rattle.dv_shown.proofs.stores_stand.Goals as goal
 
 -- a number of tables that have the batch leaves none of them out before another

@@ -1,10 +1,5 @@
-use Rattle.std.proofs.Common.{refl}
-use Rattle.md5.specs.Md5.{block_words, compress, digest_bytes, hash_after, md5, rounds}
-use Rattle.jiff_core.specs.Calendar.{day_count, days_from_civil, days_of_months, days_of_years}
-use Rattle.dv_text.specs.Stamps.{has_digits, has_form, has_marks, month_from, seconds_if, stamp_in, stamp_text, year_from}
-use Rattle.csv.specs.Writing.{fields_text, is_blank}
-use Rattle.hex.proofs.OnLiterals.{hex_on_literals}
-use Rattle.std.specs.Fmt.{digits}
+use Rattle.dv_shown.proofs.Vocabulary.{refl, block_words, compress, digest_bytes, hash_after, md5, rounds, day_count, days_from_civil, days_of_months, days_of_years, has_digits, has_form, has_marks, month_from, seconds_if, stamp_in, stamp_text, year_from, fields_text, is_blank, hex_on_literals}
+use Rattle.dv_shown.proofs.Vocabulary.{digits}
 use Rattle.dv_shown.proofs.tables_written.Goals as goal
 
 pub returns : goal.returns

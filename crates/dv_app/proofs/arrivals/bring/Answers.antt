@@ -1,5 +1,4 @@
-use Rattle.std.proofs.Common.{Some, sym, ◌∙◌, ap}
-use Rattle.std.proofs.lemmas.Result.{err_from_is_err_and}
+use Rattle.dv_app.proofs.Vocabulary.{Some, ap, sym, ◌∙◌, err_from_is_err_and}
 use Rattle.dv_app.proofs.EndSteps.{if_err_so, if_ok_so, read_cause_so}
 use Rattle.dv_app.proofs.ExtractSteps.{files_read, files_unread, manifest_unread}
 use Rattle.dv_app.proofs.arrivals.bring.Goals as goal

@@ -1,4 +1,4 @@
-use Rattle.std.proofs.lemmas.Result.{err_from_is_err_and}
+use Rattle.dv_app.proofs.Vocabulary.{err_from_is_err_and}
 use Rattle.dv_app.proofs.ExtractSteps.{extracts_read, extracts_unread}
 use Rattle.dv_app.proofs.arrivals.bring_files.Goals as goal
 

@@ -1,7 +1,4 @@
-use Rattle.std.proofs.Common.{sym, ◌∙◌, ap, arith}
-use Rattle.std.proofs.lemmas.List.{drop_all}
-use Rattle.std.proofs.lemmas.Result.{err_from_is_err_and}
-use Rattle.dv_app.specs.Readings.{read_from, reading_of}
+use Rattle.dv_app.proofs.Vocabulary.{ap, arith, sym, ◌∙◌, err_from_is_err_and, drop_all, read_from, reading_of}
 use Rattle.dv_app.proofs.EndSteps.{read_cause_so}
 use Rattle.dv_app.proofs.ExtractSteps.{extract_unread, reads_on}
 use Rattle.dv_app.proofs.arrivals.read_extracts.Goals as goal

@@ -1,6 +1,4 @@
-use Rattle.std.proofs.Common.{◌≡◌, ◌≤◌, drop}
-use Rattle.dv_text.specs.Told.{Told}
-use Rattle.dv_app.specs.Readings.{no_reading, read_from, reading_of}
+use Rattle.dv_app.proofs.Vocabulary.{◌≡◌, ◌≤◌, drop, Told, no_reading, read_from, reading_of}
 use Rattle.dv_app.proofs.arrivals.read_extracts.Given as goal
 
 -- the reading of the extracts behind goes on from there

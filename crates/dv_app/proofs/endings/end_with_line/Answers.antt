@@ -1,6 +1,4 @@
-use Rattle.std.proofs.Common.{inl, refl, ap}
-use Rattle.dv_catalog.specs.Printed.{printed}
-use Rattle.dv_app.specs.Lines.{absent_front, mapping_front, program_front, read_fault_front}
+use Rattle.dv_app.proofs.Vocabulary.{ap, inl, refl, printed, absent_front, mapping_front, program_front, read_fault_front}
 use Rattle.dv_app.proofs.EndSteps.{printed_ends}
 use Rattle.dv_app.proofs.endings.end_with_line.Goals as goal
 

@@ -1,7 +1,4 @@
-use Rattle.std.proofs.Common.{Some, subst}
-use Rattle.dv_text.specs.Keys.{hashes_of}
-use Rattle.dv_records.specs.MemoryKeepers.{keeper_store}
-use Rattle.dv_window.specs.Offices.{OfficeAfter, StoreAfter}
+use Rattle.dv_app.proofs.Vocabulary.{Some, subst, OfficeAfter, StoreAfter, hashes_of, own_store}
 use Rattle.dv_app.proofs.OfficeSteps.{ready_still}
 use Rattle.dv_app.proofs.takings.load_window.Goals as goal
 
@@ -11,7 +8,7 @@ returns-in-Repeated-clause-ready g c =
     let hashes = hashes_of g.H.KeyDigest.digest_of g.H.KeyDigest.size in
     ready_still hashes _ _ r
     (subst (λ a. OfficeAfter hashes r.state c.args.given.now c.args.loading.now.office a c.load-answer.new.self) c.in-Repeated.is (c.load-answer.ensures.office r.state r.stands r.rest))
-    (subst (λ a. StoreAfter c.load-answer.new.self (Some (keeper_store c.args.loading.now.keeper)) a (Some (keeper_store c.load-answer.new.keeper))) c.in-Repeated.is c.load-answer.ensures.store)
+    (subst (λ a. StoreAfter c.load-answer.new.self (Some (own_store c.args.loading.now.keeper)) a (Some (own_store c.load-answer.new.keeper))) c.in-Repeated.is c.load-answer.ensures.store)
 
 pub returns-in-Refused-clause-ready : goal.returns-in-Refused-clause-ready
 returns-in-Refused-clause-ready g c =
@@ -19,4 +16,4 @@ returns-in-Refused-clause-ready g c =
     let hashes = hashes_of g.H.KeyDigest.digest_of g.H.KeyDigest.size in
     ready_still hashes _ _ r
     (subst (λ a. OfficeAfter hashes r.state c.args.given.now c.args.loading.now.office a c.load-answer.new.self) c.in-Refused.is (c.load-answer.ensures.office r.state r.stands r.rest))
-    (subst (λ a. StoreAfter c.load-answer.new.self (Some (keeper_store c.args.loading.now.keeper)) a (Some (keeper_store c.load-answer.new.keeper))) c.in-Refused.is c.load-answer.ensures.store)
+    (subst (λ a. StoreAfter c.load-answer.new.self (Some (own_store c.args.loading.now.keeper)) a (Some (own_store c.load-answer.new.keeper))) c.in-Refused.is c.load-answer.ensures.store)

@@ -1,6 +1,4 @@
-use Rattle.std.proofs.Common.{◌||◌, ◌∙◌, ap}
-use Rattle.dv_text.specs.Keys.{hashes_of}
-use Rattle.dv_app.specs.Readings.{arrival_of}
+use Rattle.dv_app.proofs.Vocabulary.{ap, ◌||◌, ◌∙◌, hashes_of, arrival_of}
 use Rattle.dv_app.proofs.OfficeSteps.{taken_so}
 use Rattle.dv_app.proofs.takings.take.Goals as goal
 

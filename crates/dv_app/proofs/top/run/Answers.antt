@@ -1,6 +1,4 @@
-use Rattle.std.proofs.Common.{inl, map, string_bytes, refl, sym, ◌∙◌, ap}
-use Rattle.dv_text.specs.Keys.{hashes_of}
-use Rattle.dv_app.specs.Words.{asked}
+use Rattle.dv_app.proofs.Vocabulary.{ap, inl, map, refl, sym, ◌∙◌, string_bytes, hashes_of, asked}
 use Rattle.dv_app.proofs.Completes.{run_completes}
 use Rattle.dv_app.proofs.top.run.Goals as goal
 

@@ -1,6 +1,4 @@
-use Rattle.std.proofs.Common.{refl, sym, ◌∙◌, subst, arith}
-use Rattle.std.proofs.lemmas.Result.{err_from_is_err_and}
-use Rattle.dv_app.specs.Loadings.{WroteLines}
+use Rattle.dv_app.proofs.Vocabulary.{arith, refl, subst, sym, ◌∙◌, err_from_is_err_and, WroteLines}
 use Rattle.dv_app.proofs.EndSteps.{rose_later, stop_cause_so}
 use Rattle.dv_app.proofs.RunSteps.{all_taken, goes_one, leads, none_wrote, none_yet, wrote_more}
 use Rattle.dv_app.proofs.tries.load_all.Goals as goal

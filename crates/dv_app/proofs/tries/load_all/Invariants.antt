@@ -1,7 +1,4 @@
-use Rattle.std.proofs.Common.{◌≡◌, ◌≤◌}
-use Rattle.dv_text.specs.Keys.{hashes_of}
-use Rattle.dv_text.specs.Told.{Told}
-use Rattle.dv_app.specs.Loadings.{IsReady, LoadsFirst, WroteLines}
+use Rattle.dv_app.proofs.Vocabulary.{◌≡◌, ◌≤◌, Told, hashes_of, IsReady, LoadsFirst, WroteLines}
 use Rattle.dv_app.proofs.tries.load_all.Given as goal
 
 -- the manifests so far were taken

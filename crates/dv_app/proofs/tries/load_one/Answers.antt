@@ -1,7 +1,4 @@
-use Rattle.std.proofs.Common.{refl, subst, ◌∙◌, ap}
-use Rattle.std.proofs.lemmas.Result.{err_from_is_err_and}
-use Rattle.dv_text.specs.Keys.{hashes_of}
-use Rattle.dv_outside.specs.Bytes.{after, GotPrefix}
+use Rattle.dv_app.proofs.Vocabulary.{ap, refl, subst, ◌∙◌, GotPrefix, after, err_from_is_err_and, hashes_of}
 use Rattle.dv_app.proofs.OfficeSteps.{manifest_cut, manifest_goes}
 use Rattle.dv_app.proofs.tries.load_one.Goals as goal
 

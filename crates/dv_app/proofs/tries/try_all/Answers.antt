@@ -1,9 +1,4 @@
-use Rattle.std.proofs.Common.{refl, inr, sym, ◌∙◌, ap, subst}
-use Rattle.dv_vault.specs.Vaults.{RawVault}
-use Rattle.std.proofs.lemmas.Result.{err_from_is_err_and}
-use Rattle.dv_text.specs.Keys.{hashes_of}
-use Rattle.dv_mart.specs.OfferedMarts.{IsOffered}
-use Rattle.dv_app.specs.Loadings.{trial_of}
+use Rattle.dv_app.proofs.Vocabulary.{ap, inr, refl, subst, sym, ◌∙◌, err_from_is_err_and, RawVault, hashes_of, IsOffered, trial_of}
 use Rattle.dv_app.proofs.EndSteps.{stop_cause_so}
 use Rattle.dv_app.proofs.RunSteps.{none_wrote}
 use Rattle.dv_app.proofs.TrySteps.{begin_ends, gives_all, load_stops, no_text, text_cut}
@@ -13,7 +8,7 @@ pub returns-in_err-readied-clause-stops : goal.returns-in_err-readied-clause-sto
 returns-in_err-readied-clause-stops g c =
     let p = err_from_is_err_and c.from_residual.result c.from_residual.ensures.1 in
     rw (p.1, p.2) (λ files told.
-    (refl, begin_ends (trial_of (hashes_of g.H.KeyDigest.digest_of g.H.KeyDigest.size) files c.args.asked.now) _ _ _ _ (c.in_err-readied.ensures.ends files told)))
+    (refl, begin_ends (trial_of (hashes_of g.H.KeyDigest.digest_of g.H.KeyDigest.size) files c.args.asked.now) _ _ _ _ (c.in_err-readied.ensures.ends (hashes_of g.H.KeyDigest.digest_of g.H.KeyDigest.size) files told)))
 
 pub returns-in_err-readied-clause-cause : goal.returns-in_err-readied-clause-cause
 returns-in_err-readied-clause-cause g c =
@@ -25,7 +20,7 @@ pub returns-in_err-load_all-clause-stops : goal.returns-in_err-load_all-clause-s
 returns-in_err-load_all-clause-stops g c =
     let p = err_from_is_err_and c.from_residual-in_err-load_all.result c.from_residual-in_err-load_all.ensures.1 in
     rw (p.1, p.2) (λ files told.
-    load_stops (trial_of (hashes_of g.H.KeyDigest.digest_of g.H.KeyDigest.size) files c.args.asked.now) _ _ _ _ _ (c.in_ok-readied.ensures.ok files told) _ _ _ c.in_ok-readied.ensures.later _ _ _ _
+    load_stops (trial_of (hashes_of g.H.KeyDigest.digest_of g.H.KeyDigest.size) files c.args.asked.now) _ _ _ _ _ (c.in_ok-readied.ensures.ok (hashes_of g.H.KeyDigest.digest_of g.H.KeyDigest.size) files told) _ _ _ c.in_ok-readied.ensures.later _ _ _ _
     c.in_err-load_all.ensures.cause
     (c.in_err-load_all.ensures.stops files (c.in_ok-readied.ensures.kept ∙ told)))
 
@@ -34,13 +29,16 @@ returns-in_err-load_all-clause-cause g c =
     let p = err_from_is_err_and c.from_residual-in_err-load_all.result c.from_residual-in_err-load_all.ensures.1 in
     rw (p.1, p.2) (stop_cause_so _ _ _ c.in_ok-readied.ensures.later _ _ _ _ (λ rose. inr rose) (λ lines. lines) _ c.in_err-load_all.ensures.cause)
 
+pub load_all-requires-clause-loaded : goal.load_all-requires-clause-loaded
+load_all-requires-clause-loaded g c κs within = c.in_ok-readied.ensures.loaded (hashes_of g.H.KeyDigest.digest_of g.H.KeyDigest.size)
+
 pub mart_text-requires : goal.mart_text-requires
 mart_text-requires g c = record { offered = subst (λ m. IsOffered m c.in_ok-readied.readied.what) (sym (ap (λ (v : RawVault). v.mapping) c.vault.ensures ∙ c.load_all.ensures.mapping)) c.in_ok-readied.ensures.offered }
 
 pub returns-in_default-clause-stops : goal.returns-in_default-clause-stops
 returns-in_default-clause-stops g c = λ files told. (
   refl,
-  no_text (trial_of (hashes_of g.H.KeyDigest.digest_of g.H.KeyDigest.size) files c.args.asked.now) _ _ _ _ _ (c.in_ok-readied.ensures.ok files told) _ _ _
+  no_text (trial_of (hashes_of g.H.KeyDigest.digest_of g.H.KeyDigest.size) files c.args.asked.now) _ _ _ _ _ (c.in_ok-readied.ensures.ok (hashes_of g.H.KeyDigest.digest_of g.H.KeyDigest.size) files told) _ _ _
       (c.in_ok-load_all.ensures.ok files (c.in_ok-readied.ensures.kept ∙ told)),
 )
 
@@ -50,11 +48,11 @@ returns-in_default-clause-cause g c = (tt, (c.in_ok-load_all.ensures.wrote.lines
 pub returns-in-Ok-write_all-clause-ok : goal.returns-in-Ok-write_all-clause-ok
 returns-in-Ok-write_all-clause-ok g c = λ files told.
     let loads = c.in_ok-load_all.ensures.ok files (c.in_ok-readied.ensures.kept ∙ told) in
-    gives_all (trial_of (hashes_of g.H.KeyDigest.digest_of g.H.KeyDigest.size) files c.args.asked.now) 0 0 _ _ _ (c.in_ok-readied.ensures.ok files told) _ _ _ loads _ _
+    gives_all (trial_of (hashes_of g.H.KeyDigest.digest_of g.H.KeyDigest.size) files c.args.asked.now) 0 0 _ _ _ (c.in_ok-readied.ensures.ok (hashes_of g.H.KeyDigest.digest_of g.H.KeyDigest.size) files told) _ _ _ loads _ _
     c.bytes.result.now c.vault.result.now c.vault.ensures (λ hashes sealed has. c.bytes.ensures ∙ c.in-Ok.ensures hashes sealed has) c.in-Ok-write_all.ensures.ok
 
 pub returns-clause-stops : goal.returns-clause-stops
 returns-clause-stops g c = λ files told.
     let loads = c.in_ok-load_all.ensures.ok files (c.in_ok-readied.ensures.kept ∙ told) in
-    text_cut (trial_of (hashes_of g.H.KeyDigest.digest_of g.H.KeyDigest.size) files c.args.asked.now) _ _ _ _ _ (c.in_ok-readied.ensures.ok files told) _ _ _ loads _ _
+    text_cut (trial_of (hashes_of g.H.KeyDigest.digest_of g.H.KeyDigest.size) files c.args.asked.now) _ _ _ _ _ (c.in_ok-readied.ensures.ok (hashes_of g.H.KeyDigest.digest_of g.H.KeyDigest.size) files told) _ _ _ loads _ _
     c.bytes.result.now c.vault.result.now c.vault.ensures (λ hashes sealed has. c.bytes.ensures ∙ c.in-Ok.ensures hashes sealed has) c.in-Err.ensures.err

@@ -1,5 +1,4 @@
-use Rattle.dv_text.specs.Keys.{hashes_of}
-use Rattle.dv_app.specs.Loadings.{trial_of}
+use Rattle.dv_app.proofs.Vocabulary.{hashes_of, trial_of}
 use Rattle.dv_app.proofs.EndSteps.{done_caused, done_says, stop_caused, stop_says}
 use Rattle.dv_app.proofs.tries.try_command.Goals as goal
 

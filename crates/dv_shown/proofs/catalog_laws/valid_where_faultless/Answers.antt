@@ -1,4 +1,4 @@
-use Rattle.dv_mapfile.proofs.ValidMappings.{mapping_valid}
+use Rattle.dv_shown.proofs.Vocabulary.{mapping_valid}
 use Rattle.dv_shown.proofs.FaultlessLaw.{has_form, no_fault}
 use Rattle.dv_shown.proofs.catalog_laws.valid_where_faultless.Goals as goal
 

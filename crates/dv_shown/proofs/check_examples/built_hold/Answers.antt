@@ -1,5 +1,4 @@
-use Rattle.std.proofs.Common.{refl}
-use Rattle.std.specs.Fmt.{digits}
+use Rattle.dv_shown.proofs.Vocabulary.{refl, digits}
 use Rattle.dv_shown.proofs.check_examples.built_hold.Goals as goal
 
 pub returns : goal.returns

@@ -1,0 +1,20 @@
+-- Numbers at a limit and past it, and the weight of snapshots with one more.
+use Rattle.dv_shown.proofs.Vocabulary.{◌≡◌, ◌<◌, ◌≤◌, ℕ, ◌+◌, nat_le, nat_lt, true, false, [], ◌∷◌, ◌++◌, arith, nat_tests, sum_by-append, Hashes, Mapping, snapshot, State, snapshots_weight, weight_with}
+
+pub at_most : (n most : ℕ) → n ≤ most → nat_le n most ≡ true
+at_most n most h = grind (arith, nat_tests)
+
+pub not_above : (n most : ℕ) → n ≤ most → nat_lt most n ≡ false
+not_above n most h = grind (arith, nat_tests)
+
+pub is_above : (n most : ℕ) → most < n → nat_lt most n ≡ true
+is_above n most h = grind (arith, nat_tests)
+
+pub above : (n most : ℕ) → most < n → nat_le n most ≡ false
+above n most h = grind (arith, nat_tests)
+
+-- the weight of the stored snapshots and the new one
+pub together : (mapping : Mapping) (hashes : Hashes) (state : State) (date : ℕ) → snapshots_weight mapping hashes state.sealed (state.dates ++ date ∷ []) ≡ weight_with mapping hashes state date
+together mapping hashes state date =
+    let sums = sum_by-append (λ d. (snapshot mapping hashes state.sealed d).head.weight) state.dates (date ∷ []) in
+    omega (arith, sums)
