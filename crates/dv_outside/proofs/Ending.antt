@@ -1,11 +1,6 @@
 -- How an ending of a part is one of the whole.
-use Rattle.std.proofs.Common.{◌≡◌, ℕ, ◌≤◌, List, ◌++◌, Option, inl, inr, refl, ◌∙◌, ap, arith}
-use Rattle.dv_outside.specs.Bytes.{after, GotPrefix}
-use Rattle.dv_text.specs.Causes.{Rose}
-use Rattle.dv_outside.specs.declared.statuses.Status.{Status}
-use Rattle.dv_outside.specs.declared.statuses.Status.TheVariants.{WriteFault}
+use Rattle.dv_outside.proofs.Vocabulary.{◌≡◌, ℕ, ◌≤◌, List, ◌++◌, Option, inl, inr, refl, ◌∙◌, ap, arith, after, GotPrefix, Rose, Status, WriteFault, Ends, Stops}
 use Rattle.dv_outside.proofs.Told.{after-after, got_behind, got_longer}
-use Rattle.dv_outside.specs.Ends.{Ends, Stops}
 
 module _ (MayEnd : Status → List ℕ → Type 0) (old mid new : Option (List ℕ)) (before then now : ℕ) (front : List ℕ) (so_far : mid ≡ after old front) (later : before ≤ then) where
   -- behind what was written so far, the last line

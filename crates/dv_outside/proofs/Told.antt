@@ -1,7 +1,5 @@
 -- How what is told goes on over several calls.
-use Rattle.std.proofs.Common.{◌≡◌, ℕ, ◌-◌, List, [], ◌++◌, Option, Some, None, refl, sym, ◌∙◌, ap, append_assoc, length, take, drop, length-drop, arith}
-use Rattle.std.proofs.lemmas.List.{append-nil, take_all}
-use Rattle.dv_outside.specs.Bytes.{after, GotPrefix}
+use Rattle.dv_outside.proofs.Vocabulary.{◌≡◌, ℕ, ◌+◌, ◌-◌, ◌≤◌, drop-drop, length-take-le, List, [], ◌++◌, Option, Some, None, refl, sym, ◌∙◌, ap, append_assoc, length, take, drop, length-drop, arith, take-append-drop, append-nil, take_all, take-append_seam, after, GotPrefix}
 
 pub after-nil : (o : Option (List ℕ)) → after o [] ≡ o
 after-nil None = refl
@@ -38,3 +36,12 @@ got_nothing old new a is = record { piece = []; is = is ∙ sym (after-nil old);
 -- and all of it is
 pub got_all : (old new : Option (List ℕ)) (a : List ℕ) → new ≡ after old a → GotPrefix old new a
 got_all old new a is = record { piece = a; is = is; front = record { rest = []; is = sym (append-nil a) } }
+
+-- bytes that are copied from a place on, and those behind them
+pub copied_front : (count at : ℕ) (input copied rest : List ℕ) → copied ≡ take count (drop at input) → count ≤ length (drop at input) → drop at input ≡ take count (copied ++ rest) ++ drop (at + count) input
+copied_front count at input copied rest is fits =
+    let whole : length copied ≡ count = ap length is ∙ length-take-le count (drop at input) fits in
+    let front : take count (copied ++ rest) ≡ copied = ap (λ k. take k (copied ++ rest)) (sym whole) ∙ take-append_seam copied rest in
+    sym (take-append-drop count (drop at input))
+    ∙ ap (λ l. l ++ drop count (drop at input)) (sym is ∙ sym front)
+    ∙ ap (λ l. take count (copied ++ rest) ++ l) (drop-drop count at input)

@@ -3,7 +3,11 @@ pub mod Calls
 pub mod Causes
 pub mod Ends
 pub mod Files
+pub mod Lines
+pub mod MemoryDoors
 pub mod MemoryFolders
+pub mod MemoryLinks
 pub mod MemorySinks
 pub mod RealFolders
+pub mod RealLinks
 pub mod RealStreams

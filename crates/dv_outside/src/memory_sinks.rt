@@ -16,8 +16,10 @@ pub struct MemorySink {
 }
 
 impl MemorySink {
-    ghost use Rattle.std.specs.Prelude.{[], IfOk, ◌≡◌};
-    ghost use Rattle.dv_outside.specs.MemorySinks.{sink_written, sink_room, sink_writes, sink_fails, sink_faults};
+    ghost use Rattle.std.specs.Prelude.{[], IfOk, ◌≡◌, is_ok, not, if◌then◌else◌};
+    ghost use Rattle.dv_text.specs.Causes.{HasCause};
+    ghost use Rattle.dv_outside.specs.Calls.{one_more};
+    ghost use Rattle.dv_outside.specs.MemorySinks.{sink_written, sink_room, sink_writes, sink_fails, sink_faults, sink_fails_next};
 
     /// An empty sink that takes `room` bytes in all, and makes the room for them. The writes whose numbers,
     /// from 1, are among `fails` are to fail.
@@ -34,6 +36,20 @@ impl MemorySink {
             room,
             calls: Calls::new(fails),
         })
+    }
+
+    // Counts a call that writes nothing, and fails where it is to.
+    pub(crate) fn pass(&mut self) -> Result<(), Failed>
+        ensures fails { is_ok result ≡ not (sink_fails_next self.old) }
+        ensures faults { sink_faults self.new
+            ≡ (if is_ok result then sink_faults self.old else one_more (sink_faults self.old)) }
+        ensures writes { sink_writes self.new ≡ one_more (sink_writes self.old) }
+        ensures plan { sink_fails self.new ≡ sink_fails self.old }
+        ensures room { sink_room self.new ≡ sink_room self.old }
+        ensures written { sink_written self.new ≡ sink_written self.old }
+        ensures cause { HasCause (sink_faults self.old) (sink_faults self.new) result }
+    {
+        self.calls.begin()
     }
 
     /// The bytes written so far.

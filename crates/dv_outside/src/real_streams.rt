@@ -6,9 +6,13 @@ use crate::folders::Failed;
 use crate::sinks::Sink;
 use std::io::{Stderr, Stdout, Write};
 
-// The standard streams keep no buffer: each write is one call of the system, and its failure is answered
-// by that very call.
-fn write_some<W: Write>(to: &mut W, faults: &mut u64, piece: &[u8]) -> Result<usize, Failed>
+// Neither the standard streams nor a connection keep a buffer: each write is one call of the system, and its
+// failure is answered by that very call.
+pub(crate) fn write_some<W: Write>(
+    to: &mut W,
+    faults: &mut u64,
+    piece: &[u8],
+) -> Result<usize, Failed>
     ensures some { IfOk result (λ n. 0 < n) }
     ensures within { IfOk result (λ n. n ≤ length piece.now) }
     ensures cause { HasCause faults.old faults.new result }

@@ -1,4 +1,4 @@
-ghost use Rattle.std.specs.Prelude.{◌≡◌, ◌≤◌, IsErrOf, IsOk, Some, [], length, take, ◌++◌};
+ghost use Rattle.std.specs.Prelude.{◌≡◌, ◌<◌, ◌≤◌, IsErrOf, IsOk, Some, [], length, take, ◌++◌};
 ghost use Rattle.dv_text.specs.Causes.{Rose};
 ghost use Rattle.dv_outside.specs.Bytes.{after};
 ghost use Rattle.dv_outside.specs.MemoryFolders.{folder_fails, folder_faults};
@@ -7,6 +7,8 @@ ghost use Rattle.dv_outside.specs.MemorySinks.{sink_fails, sink_faults, sink_lef
 use super::*;
 use dv_text::{List, Memory, Text};
 use std::alloc::Global;
+use std::io::{Read, Write};
+use std::net::{Ipv4Addr, Shutdown, SocketAddr, TcpListener, TcpStream};
 use std::test::Fail;
 
 fn list(alloc: Global, bytes: &[u8]) -> Result<List<u8>, Memory> {
@@ -238,4 +240,154 @@ fn command<E: Sink>(err: &mut E, absent: bool, which: u8) -> Status
         Ok(_) => end(err, b"x\n", Status::Memory),
         Err(status) => status,
     }
+}
+
+fn link(
+    alloc: Global,
+    input: &[u8],
+    piece: u32,
+    room: u64,
+    fails: &[u64],
+) -> Result<MemoryLink, Memory>
+    requires { 0 < piece }
+{
+    MemoryLink::new(
+        alloc,
+        list(alloc, input)?,
+        piece,
+        room,
+        numbers(alloc, fails)?,
+    )
+}
+
+// One read of at most so many bytes, told as what came, or `!` for a failure.
+fn read_told(text: &mut Vec<u8>, link: &mut MemoryLink, most: usize) -> Result<(), Memory> {
+    let mut into = [0u8; 8];
+    let most = most.clamp(1, 8);
+    match link.read(&mut into[..most]) {
+        Ok(count) => text.extend_from_slice(&into[..count])?,
+        Err(Failed) => text.push(b'!')?,
+    }
+    text.push(b'|')?;
+    Ok(())
+}
+
+fn write_told(text: &mut Vec<u8>, link: &mut MemoryLink, piece: &[u8]) -> Result<(), Memory> {
+    if piece.is_empty() {
+        return Ok(());
+    }
+    match link.write(piece) {
+        Ok(count) => text.extend_from_slice(&piece[..count])?,
+        Err(Failed) => text.push(b'!')?,
+    }
+    text.push(b'|')?;
+    Ok(())
+}
+
+#[test]
+fn links_give_pieces_and_take_what_fits(rt: HostRuntime) -> Result<(), Fail> {
+    let alloc = rt.alloc();
+    for (piece, room, fails, told, written) in [
+        (
+            2,
+            9,
+            [].as_slice(),
+            b"ab|c|xyz|de|f||w|".as_slice(),
+            b"xyzw".as_slice(),
+        ),
+        (8, 4, [].as_slice(), b"abcd|e|xyz|f|||w|", b"xyzw"),
+        (8, 2, [].as_slice(), b"abcd|e|xy|f|||!|", b"xy"),
+        (1, 9, [1, 3].as_slice(), b"!|a|!|b|c|d|w|", b"w"),
+        (8, 9, [7].as_slice(), b"abcd|e|xyz|f|||!|", b"xyz"),
+        (8, 0, [2, 4, 5].as_slice(), b"abcd|!|!|!|!|ef|!|", b""),
+    ] {
+        let mut link = link(alloc, b"abcdef", piece, room, fails)?;
+        let mut text = Vec::new(alloc);
+        read_told(&mut text, &mut link, 4)?;
+        read_told(&mut text, &mut link, 1)?;
+        write_told(&mut text, &mut link, b"xyz")?;
+        for _ in 0..3 {
+            read_told(&mut text, &mut link, 8)?;
+        }
+        write_told(&mut text, &mut link, b"w")?;
+        assert!(rt; text.as_slice() == told, "{:?}", text);
+        assert_eq!(rt; link.written(), written);
+    }
+    Ok(())
+}
+
+#[test]
+fn doors_give_connections_and_take_them_back(rt: HostRuntime) -> Result<(), Fail> {
+    let alloc = rt.alloc();
+    let mut lines = List::new(alloc);
+    for input in [b"a".as_slice(), b"b", b"c"] {
+        lines.push(link(alloc, input, 8, 8, &[])?)?;
+    }
+    let mut doors = MemoryDoors::new(alloc, lines, numbers(alloc, &[2])?)?;
+    assert_eq!(rt; doors.port(), None);
+    doors.listen(8080);
+    doors.listen(80);
+    assert_eq!(rt; doors.port(), Some(80));
+    let mut text = Vec::new(alloc);
+    for _ in 0..6 {
+        match doors.next() {
+            Ok(Some(mut line)) => {
+                read_told(&mut text, &mut line, 8)?;
+                write_told(&mut text, &mut line, b"x")?;
+                doors.done(line);
+            }
+            Ok(None) => text.push(b'-')?,
+            Err(Failed) => text.push(b'!')?,
+        }
+    }
+    assert!(rt;
+        text.as_slice() == b"a|x|!b|x|c|x|--".as_slice(),
+        "{:?}",
+        text
+    );
+    assert_eq!(rt; doors.served().len(), 3);
+    for line in doors.served() {
+        assert_eq!(rt; line.written(), b"x".as_slice());
+    }
+    Ok(())
+}
+
+#[test]
+fn a_real_connection_is_read_and_written(rt: HostRuntime) -> Result<(), Fail> {
+    let listener = TcpListener::bind(&rt, "127.0.0.1:0")?;
+    let port = listener.local_addr()?.port();
+    drop(listener);
+    let mut doors = RealDoors::new(&rt);
+    assert!(rt; doors.next().is_err());
+    doors.listen(port);
+    assert!(rt; doors.open());
+    // It listens at this one address, so the port is free at its neighbour.
+    let beside = SocketAddr::from((Ipv4Addr::new(127, 0, 0, 2), port));
+    assert!(rt; TcpListener::bind(&rt, beside).is_ok());
+    let mut client = TcpStream::connect(&rt, SocketAddr::from((Ipv4Addr::LOCALHOST, port)))?;
+    client.write_all(b"hello")?;
+    client.shutdown(Shutdown::Write)?;
+    let Ok(Some(mut line)) = doors.next() else {
+        return Err(Fail::new("no connection"));
+    };
+    let mut into = [0u8; 16];
+    assert_eq!(rt; line.read(&mut into), Ok(5));
+    assert!(rt; into.starts_with(b"hello"));
+    assert_eq!(rt; line.read(&mut into), Ok(0));
+    assert_eq!(rt; line.write(b"bye"), Ok(3));
+    doors.done(line);
+    let mut back = [0u8; 16];
+    assert_eq!(rt; client.read(&mut back)?, 3);
+    assert!(rt; back.starts_with(b"bye"));
+    assert_eq!(rt; client.read(&mut back)?, 0);
+    Ok(())
+}
+
+#[test]
+fn a_port_that_is_taken_is_a_fault(rt: HostRuntime) -> Result<(), Fail> {
+    let listener = TcpListener::bind(&rt, "127.0.0.1:0")?;
+    let mut doors = RealDoors::new(&rt);
+    doors.listen(listener.local_addr()?.port());
+    assert!(rt; doors.next().is_err());
+    Ok(())
 }

@@ -1,8 +1,4 @@
-use Rattle.std.proofs.Common.{take, drop, sym, ◌∙◌, ap, arith}
-use Rattle.std.proofs.Math.Seq.{take-add}
-use Rattle.std.proofs.lemmas.List.{take-append-drop}
-use Rattle.std.proofs.lemmas.Result.{err_from_is_err_and}
-use Rattle.dv_outside.specs.Bytes.{after}
+use Rattle.dv_outside.proofs.Vocabulary.{take, drop, sym, ◌∙◌, ap, arith, take-add, take-append-drop, err_from_is_err_and, after}
 use Rattle.dv_outside.proofs.Told.{after-after, tail_slice}
 use Rattle.dv_outside.proofs.lines.write_all.Goals as goal
 

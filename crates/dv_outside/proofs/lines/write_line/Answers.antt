@@ -1,6 +1,4 @@
-use Rattle.std.proofs.Common.{◌++◌, [], ◌∷◌, ◌∙◌, ap}
-use Rattle.std.proofs.lemmas.Result.{err_from_is_err_and}
-use Rattle.dv_outside.specs.Bytes.{after}
+use Rattle.dv_outside.proofs.Vocabulary.{◌++◌, [], ◌∷◌, ◌∙◌, ap, err_from_is_err_and, after}
 use Rattle.dv_outside.proofs.Told.{after-after, got_behind}
 use Rattle.dv_outside.proofs.lines.write_line.Goals as goal
 

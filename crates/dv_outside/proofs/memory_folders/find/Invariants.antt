@@ -1,5 +1,4 @@
-use Rattle.std.proofs.Common.{◌≡◌, drop}
-use Rattle.dv_outside.specs.Files.{file_at}
+use Rattle.dv_outside.proofs.Vocabulary.{◌≡◌, drop, file_at}
 use Rattle.dv_outside.proofs.memory_folders.find.Given as goal
 
 -- the name is that of no file before

@@ -1,0 +1,5 @@
+use Rattle.dv_http.proofs.Vocabulary.{◌≡◌, drop, list_all, is_ascii_digit}
+use Rattle.dv_http.proofs.fields.all_digits.Given as goal
+
+abbrev pub invariant-loop-byte : goal.invariant-loop-byte
+invariant-loop-byte l = list_all is_ascii_digit (drop l.byte-index l.value) ≡ list_all is_ascii_digit l.value

@@ -1,0 +1,8 @@
+use Rattle.dv_http.proofs.Vocabulary.{◌≡◌, ◌++◌, take, drop, path_of, query_of}
+use Rattle.dv_http.proofs.targets.split.Given as goal
+
+abbrev pub invariant-loop-at : goal.invariant-loop-at
+invariant-loop-at l = record {
+  path : take l.at l.target ++ path_of (drop l.at l.target) ≡ path_of l.target;
+  query : query_of (drop l.at l.target) ≡ query_of l.target;
+}

@@ -1,0 +1,11 @@
+use Rattle.dv_http_shown.proofs.Vocabulary.{refl, digits}
+use Rattle.dv_http_shown.proofs.replies_hold.Goals as goal
+
+pub returns : goal.returns
+unfolding digits
+returns c =
+    record {
+      loaded = refl;
+      mart = refl;
+      method = refl;
+    }
