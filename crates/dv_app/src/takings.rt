@@ -51,7 +51,6 @@ pub(crate) fn begin_loading(alloc: Global, catalog: Catalog, text: Text) -> Resu
 
 // Gives a window to the office, whose keeper doesn't fail.
 fn load_window<H: KeyDigest, G: Gate>(
-    alloc: Global,
     loading: &mut Loading,
     given: &WindowIn,
     digest: &H,
@@ -64,15 +63,7 @@ fn load_window<H: KeyDigest, G: Gate>(
     ensures mapping { loading.new.office.vault.mapping ≡ loading.old.office.vault.mapping }
     ensures refused { loading.new.refused ≡ loading.old.refused }
 {
-    let answer = loading.office.load(
-        alloc,
-        &mut loading.keeper,
-        given,
-        1,
-        Order::Declared,
-        digest,
-        gate,
-    );
+    let answer = loading.office.load(&mut loading.keeper, given, 1, Order::Declared, digest, gate);
     match answer {
         LoadAnswer::Loaded { rows } => Ok(Taken::Loaded { rows }),
         LoadAnswer::Repeated => Ok(Taken::Repeated),
@@ -84,7 +75,6 @@ fn load_window<H: KeyDigest, G: Gate>(
 
 // Gives what a manifest brought to the office, where it is a window.
 fn load_arrived<H: KeyDigest, G: Gate>(
-    alloc: Global,
     loading: &mut Loading,
     arrived: Arrived,
     digest: &H,
@@ -99,7 +89,7 @@ fn load_arrived<H: KeyDigest, G: Gate>(
 {
     match arrived {
         Arrived::Broken(rule) => Ok(Taken::Refused(rule)),
-        Arrived::Brought(given) => load_window(alloc, loading, &given, digest, gate),
+        Arrived::Brought(given) => load_window(loading, &given, digest, gate),
     }
 }
 

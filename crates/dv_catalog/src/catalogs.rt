@@ -6,6 +6,7 @@ ghost use Rattle.dv_catalog.specs.Mappings.{is_valid};
 use crate::entries::{FeedDef, HubDef, LinkDef, PathDef};
 use crate::lookups::find_place;
 use dv_text::{List, Text};
+use std::alloc::Global;
 use std::marker::Model;
 
 /// A mapping that was read. Contracts see it as its entries in declared order.
@@ -69,6 +70,11 @@ impl Catalog {
             feeds,
             paths,
         }
+    }
+
+    /// The allocator that the mapping keeps. Takes no memory.
+    pub fn allocator(&self) -> Global {
+        self.hubs.allocator()
     }
 
     /// Whether both catalogs have equal definitions in equal order. Takes no memory.

@@ -81,10 +81,10 @@ fn add_feeds(tables: &mut List<TableId>, feeds: &[FeedDef]) -> Result<(), Memory
 
 impl Catalog {
     /// The raw tables, in table order.
-    pub fn tables(&self, alloc: Global) -> Result<List<TableId>, Memory>
+    pub fn tables(&self) -> Result<List<TableId>, Memory>
         ensures { IfOk result (λ tables. tables ≡ spec.tables self.now) }
     {
-        let mut tables = List::new(alloc);
+        let mut tables = List::new(self.allocator());
         add_hubs(&mut tables, self.hub_count())?;
         add_links(&mut tables, self.link_count())?;
         add_feeds(&mut tables, self.feeds())?;
@@ -92,10 +92,11 @@ impl Catalog {
     }
 
     /// The name of a raw table: `hub_H`, `link_L`, `sat_F`, `msat_F`, `status_F` or `eff_F`.
-    pub fn table_name(&self, alloc: Global, table: TableId) -> Result<Text, Memory>
+    pub fn table_name(&self, table: TableId) -> Result<Text, Memory>
         requires { IsTrue (is_table_of self.now table) }
         ensures { IfOk result (λ name. name ≡ spec.table_name self.now table) }
     {
+        let alloc = self.allocator();
         match table {
             TableId::Hub(n) => named(alloc, b"hub_", &self.hub(n).name),
             TableId::Link(n) => named(alloc, b"link_", &self.link(n).name),
@@ -107,12 +108,12 @@ impl Catalog {
     }
 
     /// The raw table with a name; none exactly where no raw table has it.
-    pub fn find_table(&self, alloc: Global, name: &Text) -> Result<Option<TableId>, Memory>
+    pub fn find_table(&self, name: &Text) -> Result<Option<TableId>, Memory>
         ensures { IfOk result (λ table. table ≡ table_named self.now name.now) }
     {
-        let tables = self.tables(alloc)?;
+        let tables = self.tables()?;
         for table in tables.items() {
-            if self.table_name(alloc, *table)? == *name {
+            if self.table_name(*table)? == *name {
                 return Ok(Some(*table));
             }
         }

@@ -1,2 +1,3 @@
 pub mod Fits
+pub mod HashedExtracts
 pub mod Tiny

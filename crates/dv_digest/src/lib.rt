@@ -2,6 +2,7 @@
 #![tactic(auto)]
 
 mod fits;
+mod hashed_extracts;
 mod hashes;
 mod hex_texts;
 mod md5_keys;
@@ -9,6 +10,7 @@ mod rooms;
 mod tiny_keys;
 
 pub use fits::{attrs_fit, refs_fit};
+pub use hashed_extracts::HashedExtract;
 pub use hashes::{hash_diff, hash_key};
 pub use hex_texts::hex_text;
 pub use md5_keys::Md5Keys;

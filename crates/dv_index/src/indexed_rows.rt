@@ -59,6 +59,11 @@ impl<R: Placed> IndexedRows<R> {
         })
     }
 
+    /// The allocator that the table keeps. Takes no memory.
+    pub fn allocator(&self) -> Global {
+        *self.rows.allocator()
+    }
+
     /// The rows, in the order in which they were appended. Takes no memory.
     pub fn rows(&self) -> &[R]
         ensures { result.now ≡ self.now.rows }
@@ -76,10 +81,10 @@ impl<R: Placed> IndexedRows<R> {
 
     /// The last row of each parent that is not later than the date, by parent: the references point into the
     /// table. One walk over the index.
-    pub fn latest_of_each(&self, alloc: Global, date: Stamp) -> Result<Vec<&R>, Memory>
+    pub fn latest_of_each(&self, date: Stamp) -> Result<Vec<&R>, Memory>
         ensures { IfOk result (λ found. map (λ row. row.now) found.items ≡ latest_of_each R.place self.now.rows date) }
     {
-        walks::latest_of_each(alloc, &self.rows, &self.index, date)
+        walks::latest_of_each(self.allocator(), &self.rows, &self.index, date)
     }
 
     /// Makes room for so many more rows. The rows stay as they are, also for want of memory.

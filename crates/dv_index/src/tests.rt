@@ -122,7 +122,7 @@ fn latest(table: &IndexedRows<Row>, name: u8, date: i64) -> Result<Option<u64>, 
 }
 
 fn latest_of_each(alloc: Global, table: &IndexedRows<Row>, date: i64) -> Result<Vec<u64>, Fail> {
-    let found = table.latest_of_each(alloc, day(date)?)?;
+    let found = table.latest_of_each(day(date)?)?;
     Ok(numbers(alloc, &found)?)
 }
 

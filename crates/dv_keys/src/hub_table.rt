@@ -94,7 +94,6 @@ impl HubTable {
     /// have one hash key, the error is the least such pair. Want of memory is `DeltaFault::Memory`.
     pub fn delta<H: KeyDigest>(
         &self,
-        alloc: Global,
         load: Stamp,
         items: &List<Delivery>,
         catalog: &Catalog,
@@ -111,6 +110,7 @@ impl HubTable {
         ensures held { (hub : ℕ) (older : list_of Window) (window : Window) → IsHeld catalog.now (hashes_of H.digest_of H.size) hub older window self.now.rows items.now
             → Answers result None [] }
     {
+        let alloc = self.held.allocator();
         let lists = lists_for(alloc, items, &self.held, &OwnKeys, catalog, digest)?;
         let rows = hub_rows(alloc, load, lists, catalog)?;
         Ok(rows)

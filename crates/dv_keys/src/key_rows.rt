@@ -37,6 +37,11 @@ impl<R: Placed> KeyRows<R> {
         Ok(KeyRows { indexed })
     }
 
+    /// The allocator that the table keeps. Takes no memory.
+    pub(crate) fn allocator(&self) -> Global {
+        self.indexed.allocator()
+    }
+
     /// The rows, in the order in which they were loaded. Takes no memory.
     pub(crate) fn rows(&self) -> &[R]
         ensures value { result.now ≡ self.now.rows }

@@ -115,7 +115,6 @@ impl LinkTable {
     /// is the missing key. Want of memory is `DeltaFault::Memory`.
     pub fn delta<H: KeyDigest, N: HubNames>(
         &self,
-        alloc: Global,
         load: Stamp,
         items: &List<Delivery>,
         names: &N,
@@ -133,6 +132,7 @@ impl LinkTable {
         ensures held { (link : ℕ) (older : list_of Window) (window : Window) → IsHeld catalog.now (hashes_of H.digest_of H.size) (N.names names.now) link older window self.now.rows items.now
             → Answers result None [] }
     {
+        let alloc = self.held.allocator();
         let named = NamedKeys {
             names,
             catalog,

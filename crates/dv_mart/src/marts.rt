@@ -19,11 +19,11 @@ use std::alloc::Global;
 
 /// The rows of a feed in the last sealed window that has it and is not later than the date, by references,
 /// then attributes. Condition: the feed is in the mapping.
-pub fn feed_mart(alloc: Global, vault: &Vault, feed: u32, date: Stamp) -> Result<List<NRow>, Memory>
+pub fn feed_mart(vault: &Vault, feed: u32, date: Stamp) -> Result<List<NRow>, Memory>
     requires { feed < length vault.now.mapping.feeds }
     ensures { IfOk result (λ rows. (hashes : Hashes) (sealed : list_of Window) → HasSealed hashes sealed vault.now → rows ≡ marts.feed_mart sealed feed date) }
 {
-    vault.content(alloc, feed, date)
+    vault.content(feed, date)
 }
 
 // The text of a feed's mart.
@@ -31,7 +31,7 @@ fn feed_mart_text(alloc: Global, vault: &Vault, feed: u32, date: Stamp) -> Resul
     requires { feed < length vault.now.mapping.feeds }
     ensures { IfOk result (λ text. (hashes : Hashes) (sealed : list_of Window) → HasSealed hashes sealed vault.now → text ≡ spec.mart_text vault.now.mapping hashes sealed (What.Feed feed) date) }
 {
-    let rows = feed_mart(alloc, vault, feed, date)?;
+    let rows = feed_mart(vault, feed, date)?;
     feed_text(alloc, vault.catalog().feed(feed), rows.items())
 }
 

@@ -54,7 +54,7 @@ fn table_word(alloc: Global, catalog: &Catalog, word: &Text) -> Result<Option<Wh
         return Ok(None);
     };
     let name = Text::of(alloc, rest)?;
-    match catalog.find_table(alloc, &name)? {
+    match catalog.find_table(&name)? {
         Some(table) => Ok(Some(What::Table(table))),
         None => Ok(None),
     }

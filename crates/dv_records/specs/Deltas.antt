@@ -1,7 +1,7 @@
 -- What the rows that a window adds to a hub or a link are told from: the reference lists that are brought and those in
 -- the table, each with its hash key, and when two different ones have one hash key (Linstedt and Olschimke 2015,
 -- chapter 11, on hashing).
-use Rattle.std.specs.Prelude.{◌≡◌, ℕ, List, [], ◌∷◌, Option, None, Some, Result, Ok, Err, Contains, map}
+use Rattle.std.specs.Prelude.{◌≡◌, ℕ, List, [], ◌∷◌, Option, None, Some, Result, Ok, Err, All, Contains, map}
 use Rattle.std.specs.declared.cmp.Ordering.TheVariants.{Less}
 use Rattle.dv_text.specs.declared.rows.Key.{Key}
 use Rattle.dv_text.specs.Keys.{Hashes}
@@ -13,6 +13,7 @@ use Rattle.dv_catalog.specs.Entries.{Mapping}
 use Rattle.dv_records.specs.declared.deliveries.DeltaFault.{DeltaFault}
 use Rattle.dv_records.specs.declared.deliveries.DeltaFault.TheVariants.{Collision, Memory}
 use Rattle.dv_records.specs.declared.deliveries.Delivery.{Delivery}
+use Rattle.dv_records.specs.declared.deliveries.HashedDelivery.{HashedDelivery}
 use Rattle.dv_records.specs.Collisions.{Pair, missing_refs, pair_cmp}
 
 -- a reference list with its hash key
@@ -23,6 +24,14 @@ pub record Hashed : Type 0 where
 -- a reference list with the hash key that it has by a function
 abbrev pub hashed_by : Hashes → List Key → Hashed
 hashed_by hashes refs = record { digest = hashes.hash refs; refs = refs }
+
+-- deliveries without their hash keys
+abbrev pub delivered : List HashedDelivery → List Delivery
+delivered items = map (λ item. item.delivery) items
+
+-- each has the hash key of its reference list
+abbrev pub AreHashed : Hashes → List HashedDelivery → Type 0
+AreHashed hashes items = All (λ item. item.digest ≡ hashes.hash item.delivery.refs) items
 
 -- what is missing in the raw table of a hub or a link: the missing key, or the list of missing keys
 abbrev pub missing_in : Mapping → TableId → List Key

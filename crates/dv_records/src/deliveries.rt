@@ -13,6 +13,13 @@ pub struct Delivery {
     pub feed: u32,
 }
 
+/// A delivery with the hash key of its reference list.
+#[derive(Debug, Drop)]
+pub struct HashedDelivery {
+    pub delivery: Delivery,
+    pub digest: Digest,
+}
+
 /// Why the rows that a window adds to a hub or a link are not given: two different reference lists have one
 /// hash key, of which the lesser one is the first; or want of memory.
 #[derive(Debug, PartialEq, Eq, Drop)]

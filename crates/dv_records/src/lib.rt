@@ -21,7 +21,7 @@ mod turns;
 mod weights;
 
 pub use answers::{InitAnswer, LoadAnswer, Outcome, ResumeAnswer, SnapAnswer};
-pub use deliveries::{Delivery, DeltaFault, HubNames};
+pub use deliveries::{Delivery, DeltaFault, HashedDelivery, HubNames};
 pub use keepers::{Keeper, KeeperError};
 pub use mart_rows::{HubCell, HubMartRow, PathRow, PeriodRow};
 pub use memory_keepers::MemoryKeeper;

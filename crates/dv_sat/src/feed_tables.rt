@@ -13,7 +13,6 @@ use crate::sat_tables::SatTable;
 use dv_catalog::Catalog;
 use dv_records::{RawTable, Rows};
 use dv_text::{KeyDigest, List, Memory, Staged, Stamp};
-use std::alloc::Global;
 
 impl RawTable for SatTable {
     ghost held = { λ table. rows_of.Sats table.rows };
@@ -39,7 +38,6 @@ impl SatTable {
     /// longer than those of staged rows, and no row of the table is later than the load date.
     pub fn additions<H: KeyDigest>(
         &self,
-        alloc: Global,
         load: Stamp,
         feed: u32,
         staged: Option<&Staged>,
@@ -57,12 +55,12 @@ impl SatTable {
     {
         match staged {
             Some(staged) => {
-                let rows = self.delta(alloc, load, staged, catalog, digest)?;
+                let rows = self.delta(load, staged, catalog, digest)?;
                 Ok(Rows::Sats(rows))
             }
             None => {
                 self.note_order();
-                Ok(Rows::Sats(List::new(alloc)))
+                Ok(Rows::Sats(List::new(self.allocator())))
             }
         }
     }

@@ -57,6 +57,10 @@ impl SatTable {
         self.indexed.rows()
     }
 
+    pub(crate) fn allocator(&self) -> Global {
+        self.indexed.allocator()
+    }
+
     /// Does nothing: a call tells a proof that the rows ascend.
     pub(crate) fn note_order(&self)
         ensures { IsStrictlySortedBy sat_order self.now.rows }
@@ -145,7 +149,6 @@ impl SatTable {
     // The rows that an extract's rows add, in the order of these.
     fn changes<H: KeyDigest>(
         &self,
-        alloc: Global,
         load: Stamp,
         source: &Text,
         rows: &[NRow],
@@ -155,8 +158,8 @@ impl SatTable {
         requires attrs_fit { IsTrue (list_all (λ row. fits.attrs_fit row.attrs) rows.now) }
         ensures { IfOk result (λ made. made.items ≡ filter_map (sat_change (hashes_of H.digest_of H.size) source.now self.now.rows load) rows.now) }
     {
-        let mut room = Room::new(alloc)?;
-        let mut made = Vec::new(alloc);
+        let mut room = Room::new(self.allocator())?;
+        let mut made = Vec::new(self.allocator());
         for row in rows {
             let change = self.change(load, source, row, digest, &mut room)?;
             add(&mut made, change)?;
@@ -173,7 +176,6 @@ impl SatTable {
     /// the load date.
     pub fn delta<H: KeyDigest>(
         &self,
-        alloc: Global,
         load: Stamp,
         staged: &Staged,
         catalog: &Catalog,
@@ -188,13 +190,12 @@ impl SatTable {
         ensures follows { IfOk result (λ rows. IsStrictlySortedBy sat_order (self.now.rows ++ rows)) }
         ensures batch { IfOk result (IsSatBatchAfter (hashes_of H.digest_of H.size) (source catalog.now staged.now.feed) self.now.rows (record { load = load; rows = staged.now.rows })) }
     {
-        let rows = self.delta_rows(alloc, load, staged, catalog, digest)?;
+        let rows = self.delta_rows(load, staged, catalog, digest)?;
         Ok(rows)
     }
 
     fn delta_rows<H: KeyDigest>(
         &self,
-        alloc: Global,
         load: Stamp,
         staged: &Staged,
         catalog: &Catalog,
@@ -208,10 +209,10 @@ impl SatTable {
         ensures order { IsStrictlySortedBy sat_order self.now.rows }
     {
         if self.has_load(load) {
-            return Ok(List::new(alloc));
+            return Ok(List::new(self.allocator()));
         }
-        let source = record_source(alloc, catalog.feed(staged.feed))?;
-        let changes = self.changes(alloc, load, &source, staged.rows.items(), digest)?;
+        let source = record_source(self.allocator(), catalog.feed(staged.feed))?;
+        let changes = self.changes(load, &source, staged.rows.items(), digest)?;
         let rows = in_batch_order(changes)?;
         Ok(rows)
     }

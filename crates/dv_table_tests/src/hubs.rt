@@ -40,7 +40,7 @@ fn delta<H: KeyDigest>(
     if !are_up_to(table.rows(), load) {
         return Err("too late".into());
     }
-    Ok(table.delta(alloc, load, &items, &catalog, digest))
+    Ok(table.delta(load, &items, &catalog, digest))
 }
 
 fn append(table: &mut HubTable, rows: List<HubRow>) -> Result<(), Memory>

@@ -78,7 +78,7 @@ fn delta<H: KeyDigest>(
     if !are_up_to(table.rows(), load) {
         return Err("too late".into());
     }
-    Ok(table.delta(alloc, load, &items, names, &catalog, digest))
+    Ok(table.delta(load, &items, names, &catalog, digest))
 }
 
 fn append(table: &mut LinkTable, rows: List<LinkRow>) -> Result<(), Memory>

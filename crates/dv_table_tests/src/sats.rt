@@ -54,7 +54,7 @@ fn delta<H: KeyDigest>(
     if !are_up_to(table.rows(), load) {
         return Err("too late".into());
     }
-    let rows = table.delta(alloc, load, extract, &catalog, digest)?;
+    let rows = table.delta(load, extract, &catalog, digest)?;
     Ok(rows)
 }
 

@@ -48,7 +48,7 @@ fn delta<H: KeyDigest>(
     if !are_up_to(table.rows(), load) {
         return Err("too late".into());
     }
-    let rows = table.delta(alloc, load, extract, &catalog, digest)?;
+    let rows = table.delta(load, extract, &catalog, digest)?;
     Ok(rows)
 }
 
@@ -122,7 +122,7 @@ fn present(alloc: Global, loads: &[(u8, &[u8])], date: &[u8]) -> Result<Vec<u8>,
     let (table, _) = loaded(alloc, loads, &Md5Keys)?;
     let date = Stamp::read(date).ok_or("no stamp")?;
     let mut out = Vec::new(alloc);
-    for parent in table.parents(alloc, date)?.items() {
+    for parent in table.parents(date)?.items() {
         put_digest(alloc, &mut out, parent, b' ')?;
     }
     Ok(out)

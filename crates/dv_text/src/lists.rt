@@ -53,6 +53,11 @@ impl<T> List<T> {
         vec
     }
 
+    /// The allocator that the list keeps. Takes no memory.
+    pub fn allocator(&self) -> Global {
+        *self.vec.allocator()
+    }
+
     /// The items, in their order.
     pub fn items(&self) -> &[T]
         ensures { result.now ≡ self.now }
@@ -87,7 +92,7 @@ impl<T> List<T> {
 
 impl<T: Duplicate> Duplicate for List<T> {
     fn copy(&self) -> Result<List<T>, Memory> {
-        let mut made = List::with_room(*self.vec.allocator(), self.vec.len())?;
+        let mut made = List::with_room(self.allocator(), self.vec.len())?;
         for item in self.items() {
             made.push(item.copy()?)?;
         }

@@ -13,7 +13,6 @@ use crate::status_tables::StatusTable;
 use dv_catalog::Catalog;
 use dv_records::{RawTable, Rows};
 use dv_text::{KeyDigest, List, Memory, Staged, Stamp};
-use std::alloc::Global;
 
 impl RawTable for StatusTable {
     ghost held = { λ table. rows_of.Statuses table.rows };
@@ -39,7 +38,6 @@ impl StatusTable {
     /// longer than those of staged rows, and no row of the table is later than the load date.
     pub fn additions<H: KeyDigest>(
         &self,
-        alloc: Global,
         load: Stamp,
         feed: u32,
         staged: Option<&Staged>,
@@ -56,12 +54,12 @@ impl StatusTable {
     {
         match staged {
             Some(staged) => {
-                let rows = self.delta(alloc, load, staged, catalog, digest)?;
+                let rows = self.delta(load, staged, catalog, digest)?;
                 Ok(Rows::Statuses(rows))
             }
             None => {
                 self.note_order();
-                Ok(Rows::Statuses(List::new(alloc)))
+                Ok(Rows::Statuses(List::new(self.allocator())))
             }
         }
     }

@@ -40,14 +40,13 @@ fn appeared_parents(alloc: Global, rows: &[&StatusRow]) -> Result<Vec<Digest>, M
 
 // The parents that are present at a date, ascending. One walk over the index.
 pub(crate) fn present_parents(
-    alloc: Global,
     indexed: &IndexedRows<StatusRow>,
     date: Stamp,
 ) -> Result<Vec<Digest>, Memory>
     ensures { IfOk result (λ found. found.items ≡ spec.present_parents indexed.now.rows date) }
 {
-    let rows = indexed.latest_of_each(alloc, date)?;
-    let found = appeared_parents(alloc, &rows)?;
+    let rows = indexed.latest_of_each(date)?;
+    let found = appeared_parents(indexed.allocator(), &rows)?;
     Ok(found)
 }
 

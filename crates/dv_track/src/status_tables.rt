@@ -59,7 +59,7 @@ impl StatusTable {
     {
         let last = last_load(rows.items());
         let indexed = IndexedRows::from_rows(alloc, rows)?;
-        let present = present_parents(alloc, &indexed, last)?;
+        let present = present_parents(&indexed, last)?;
         Ok(StatusTable {
             indexed,
             present,
@@ -74,6 +74,10 @@ impl StatusTable {
         ensures kept { IsStrictlySortedBy status_order self.now.rows }
     {
         self.indexed.rows()
+    }
+
+    pub(crate) fn allocator(&self) -> Global {
+        self.indexed.allocator()
     }
 
     /// Does nothing: a call tells a proof that the rows ascend.
@@ -133,10 +137,10 @@ impl StatusTable {
     }
 
     /// The parents that are present at a date, ascending.
-    pub fn parents(&self, alloc: Global, date: Stamp) -> Result<List<Digest>, Memory>
+    pub fn parents(&self, date: Stamp) -> Result<List<Digest>, Memory>
         ensures { IfOk result (λ found. found ≡ present_parents self.now.rows date) }
     {
-        let found = present_parents(alloc, &self.indexed, date)?;
+        let found = present_parents(&self.indexed, date)?;
         Ok(List::from_vec(found))
     }
 
@@ -151,7 +155,6 @@ impl StatusTable {
     // The rows of the digests that appeared or vanished, without a walk over the table.
     fn changes(
         &self,
-        alloc: Global,
         load: Stamp,
         source: &Text,
         now: Vec<Digest>,
@@ -160,7 +163,7 @@ impl StatusTable {
         ensures { IfOk result (λ made. made ≡ status_changes source.now self.now.rows load now.items) }
     {
         let now = sorted_distinct(now);
-        let made = changes_between(alloc, load, source, &self.present, now.items())?;
+        let made = changes_between(self.allocator(), load, source, &self.present, now.items())?;
         Ok(made)
     }
 
@@ -172,7 +175,6 @@ impl StatusTable {
     /// date.
     pub fn delta<H: KeyDigest>(
         &self,
-        alloc: Global,
         load: Stamp,
         staged: &Staged,
         catalog: &Catalog,
@@ -186,13 +188,12 @@ impl StatusTable {
         ensures follows { IfOk result (λ rows. IsStrictlySortedBy status_order (self.now.rows ++ rows)) }
         ensures batch { IfOk result (IsBatchAfter (hashes_of H.digest_of H.size) (source catalog.now staged.now.feed) self.now.rows (record { load = load; rows = staged.now.rows })) }
     {
-        let rows = self.delta_rows(alloc, load, staged, catalog, digest)?;
+        let rows = self.delta_rows(load, staged, catalog, digest)?;
         Ok(rows)
     }
 
     fn delta_rows<H: KeyDigest>(
         &self,
-        alloc: Global,
         load: Stamp,
         staged: &Staged,
         catalog: &Catalog,
@@ -205,11 +206,12 @@ impl StatusTable {
         ensures order { IsStrictlySortedBy status_order self.now.rows }
     {
         if self.has_load(load) {
-            return Ok(List::new(alloc));
+            return Ok(List::new(self.allocator()));
         }
+        let alloc = self.allocator();
         let source = record_source(alloc, catalog.feed(staged.feed))?;
         let now = hash_keys(alloc, digest, staged.rows.items())?;
-        let rows = self.changes(alloc, load, &source, now)?;
+        let rows = self.changes(load, &source, now)?;
         Ok(rows)
     }
 }

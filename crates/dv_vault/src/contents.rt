@@ -184,13 +184,14 @@ fn rows_read(
 impl Vault {
     /// The rows of a feed in the last sealed window that has the feed and is not later than the date, read
     /// back from the tables, by references, then attributes. Condition: the feed is in the mapping.
-    pub fn content(&self, alloc: Global, feed: u32, date: Stamp) -> Result<List<NRow>, Memory>
+    pub fn content(&self, feed: u32, date: Stamp) -> Result<List<NRow>, Memory>
         requires { feed < length self.now.mapping.feeds }
         ensures read { IfOk result (λ rows. rows ≡ spec.content_read self.now.mapping self.now.tables feed date) }
         ensures told { IfOk result (λ rows. (hashes : Hashes) (sealed : list_of Window) → HasSealed hashes sealed self.now → rows ≡ feed_mart sealed feed date) }
     {
         let (catalog, raw) = (&self.catalog, &self.raw);
-        let parents = raw.status(feed).parents(alloc, date)?;
+        let alloc = self.heads.allocator();
+        let parents = raw.status(feed).parents(date)?;
         let rows = rows_read(alloc, catalog, raw, feed, parents.items(), date)?;
         Ok(sorted_rows(rows))
     }

@@ -91,10 +91,11 @@ fn keep<K: Keeper>(
 }
 
 // Takes the last head away. Takes no memory.
-fn drop_last(alloc: Global, heads: &mut List<WindowHead>)
+fn drop_last(heads: &mut List<WindowHead>)
     ensures { (front : list_of WindowHead) (last : WindowHead) → heads.old ≡ front ++ last ∷ [] → heads.new ≡ front }
 {
-    let mut items = std::mem::replace(heads, List::new(alloc)).into_vec();
+    let none = List::new(heads.allocator());
+    let mut items = std::mem::replace(heads, none).into_vec();
     items.pop();
     *heads = List::from_vec(items);
 }
@@ -149,12 +150,7 @@ impl Vault {
     /// window's rows and its head. With an error the vault is as before; `Failed` comes only where the keeper's
     /// count of faults rose. Condition: the keeper's store, where it is told, has the rows of the tables and no
     /// window open.
-    pub fn take<K: Keeper>(
-        &mut self,
-        alloc: Global,
-        keeper: &mut K,
-        addition: Addition,
-    ) -> Result<(), KeeperError>
+    pub fn take<K: Keeper>(&mut self, keeper: &mut K, addition: Addition) -> Result<(), KeeperError>
         requires fits { Fits self.old addition }
         requires told { Told (K.store keeper.old) (λ s. (s.stage ≡ None) × HasTables s self.old.tables) }
         ensures taken { OnOk result (self.new ≡ raw_with addition self.old) }
@@ -162,9 +158,10 @@ impl Vault {
         ensures told { OnOk result (spec.TakesWindow addition.window self.old.tables addition.batches (K.store keeper.old) (K.store keeper.new)) }
         ensures cause { KeeperCause (K.faults keeper.old) (K.faults keeper.new) result }
     {
+        let alloc = self.heads.allocator();
         make_room(alloc, &mut self.raw.tables, &mut self.heads, &addition)?;
         if let Err(error) = keep(alloc, keeper, &self.raw.tables, &addition) {
-            drop_last(alloc, &mut self.heads);
+            drop_last(&mut self.heads);
             return Err(error);
         }
         self.weight = addition.weight;

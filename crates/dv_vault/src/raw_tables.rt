@@ -52,7 +52,7 @@ impl RawTables {
         requires { IsTrue (list_all spec.is_kept (tables catalog.now)) }
         ensures { IfOk result (λ raw. entries_of raw ≡ map (λ id. record { table = id; rows = no_rows id }) (tables catalog.now)) }
     {
-        let ids = catalog.tables(alloc)?;
+        let ids = catalog.tables()?;
         let tables = empty_tables(alloc, ids.items())?;
         Ok(RawTables { tables })
     }

@@ -69,7 +69,7 @@ fn hub_rows<H: KeyDigest>(
     ensures stamped { IfOk result (λ rows. AreOfLoad window.now.load rows) }
 {
     let items = deliveries(alloc, catalog, window, Parent::Hub(hub))?;
-    let rows = table.delta(alloc, window.load, &items, catalog, digest)?;
+    let rows = table.delta(window.load, &items, catalog, digest)?;
     Ok(Rows::Hubs(rows))
 }
 
@@ -94,7 +94,7 @@ fn link_rows<H: KeyDigest, N: HubNames>(
     ensures stamped { IfOk result (λ rows. AreOfLoad window.now.load rows) }
 {
     let items = deliveries(alloc, catalog, window, Parent::Link(link))?;
-    let rows = table.delta(alloc, window.load, &items, names, catalog, digest)?;
+    let rows = table.delta(window.load, &items, names, catalog, digest)?;
     Ok(Rows::Links(rows))
 }
 
@@ -207,11 +207,11 @@ impl Table {
             }
             Table::Sat { feed, rows } => {
                 let staged = staged_of(catalog, window, *feed);
-                Ok(rows.additions(alloc, window.load, *feed, staged, catalog, digest)?)
+                Ok(rows.additions(window.load, *feed, staged, catalog, digest)?)
             }
             Table::Status { feed, rows } => {
                 let staged = staged_of(catalog, window, *feed);
-                Ok(rows.additions(alloc, window.load, *feed, staged, catalog, digest)?)
+                Ok(rows.additions(window.load, *feed, staged, catalog, digest)?)
             }
         }
     }

@@ -133,7 +133,6 @@ impl Vault {
     // The rows that a window adds to each table, in table order, or the first collision that it makes.
     fn batches<H: KeyDigest>(
         &self,
-        alloc: Global,
         window: &Window,
         digest: &H,
     ) -> Result<List<Rows>, AdditionFault>
@@ -144,6 +143,7 @@ impl Vault {
         ensures follow { IfOk result (spec.FollowAll window.now.load self.now.tables) }
         ensures clashes { IfErr result (spec.Clashes (hashes_of H.digest_of H.size) self.now window.now) }
     {
+        let alloc = self.heads.allocator();
         let names = hub_keys(alloc, &self.catalog, &self.raw)?;
         all_deltas(
             alloc,
@@ -159,7 +159,6 @@ impl Vault {
     /// one, and the least pair there. Condition: it is a window of the mapping, later than the last sealed one.
     pub fn addition<H: KeyDigest>(
         &self,
-        alloc: Global,
         window: Window,
         digest: &H,
     ) -> Result<Addition, AdditionFault>
@@ -170,7 +169,7 @@ impl Vault {
         ensures clashes { IfErr result (spec.Clashes (hashes_of H.digest_of H.size) self.now window) }
     {
         let weight_before = self.weight;
-        let batches = self.batches(alloc, &window, digest)?;
+        let batches = self.batches(&window, digest)?;
         let rows = count_all(batches.items())?;
         let weight = weight_with(weight_before, batches.items())?;
         Ok(Addition {

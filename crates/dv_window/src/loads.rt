@@ -15,7 +15,6 @@ use dv_outside::Gate;
 use dv_records::{Keeper, KeeperError, LoadAnswer};
 use dv_text::KeyDigest;
 use dv_vault::Addition;
-use std::alloc::Global;
 
 impl Office {
     /// Loads a window: decides what comes of it, gives it to the keeper, and adds it to the vault.
@@ -27,7 +26,6 @@ impl Office {
     /// whatever `workers` and `order` say.
     pub fn load<K: Keeper, H: KeyDigest, G: Gate>(
         &mut self,
-        alloc: Global,
         keeper: &mut K,
         given: &WindowIn,
         _workers: u32,
@@ -44,8 +42,8 @@ impl Office {
         ensures cause { result ≡ LoadAnswer.KeeperFault → Rose (K.faults keeper.old) (K.faults keeper.new) }
         ensures later { K.faults keeper.old ≤ K.faults keeper.new }
     {
-        match self.plan(alloc, given, digest) {
-            Ok(addition) => match self.carry_out(alloc, keeper, addition) {
+        match self.plan(given, digest) {
+            Ok(addition) => match self.carry_out(keeper, addition) {
                 Ok(rows) => LoadAnswer::Loaded { rows },
                 Err(KeeperError::Failed) => LoadAnswer::KeeperFault,
                 Err(KeeperError::Memory) => LoadAnswer::Memory,
@@ -57,7 +55,6 @@ impl Office {
     // Gives an addition to the keeper and to the vault, and answers the number of its rows.
     fn carry_out<K: Keeper>(
         &mut self,
-        alloc: Global,
         keeper: &mut K,
         addition: Addition,
     ) -> Result<u64, KeeperError>
@@ -70,7 +67,7 @@ impl Office {
         ensures cause { KeeperCause (K.faults keeper.old) (K.faults keeper.new) result }
     {
         let rows = addition.rows;
-        self.vault.take(alloc, keeper, addition)?;
+        self.vault.take(keeper, addition)?;
         Ok(rows)
     }
 }

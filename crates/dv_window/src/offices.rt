@@ -61,6 +61,10 @@ impl Office {
         &self.vault
     }
 
+    pub(crate) fn allocator(&self) -> Global {
+        self.dates.allocator()
+    }
+
     /// The heads of the sealed windows, in order. Takes no memory.
     pub fn heads(&self) -> &List<WindowHead>
         ensures value { result.now ≡ self.now.vault.heads }
@@ -78,10 +82,10 @@ impl Office {
 
     /// The rows of a feed in the last sealed window that has the feed and is not later than the date, read
     /// back from the vault, by references, then attributes. Condition: the feed is in the mapping.
-    pub fn content(&self, alloc: Global, feed: u32, date: Stamp) -> Result<List<NRow>, Memory>
+    pub fn content(&self, feed: u32, date: Stamp) -> Result<List<NRow>, Memory>
         requires { feed < length self.now.vault.mapping.feeds }
         ensures { IfOk result (λ rows. rows ≡ content_read self.now.vault.mapping self.now.vault.tables feed date) }
     {
-        self.vault.content(alloc, feed, date)
+        self.vault.content(feed, date)
     }
 }

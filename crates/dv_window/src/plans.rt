@@ -39,7 +39,7 @@ fn read_back(alloc: Global, vault: &Vault, head: &WindowHead) -> Result<Window, 
 {
     let mut extracts = List::new(alloc);
     for feed in head.feeds.items() {
-        let rows = vault.content(alloc, *feed, head.load)?;
+        let rows = vault.content(*feed, head.load)?;
         extracts.push(Staged { feed: *feed, rows })?;
     }
     Ok(Window {
@@ -77,9 +77,10 @@ impl Office {
     }
 
     // The first rule, W1 to W4 and W6, that a window breaks as it is given.
-    fn given_rule(&self, alloc: Global, given: &WindowIn) -> Result<Option<Rule>, Memory>
+    fn given_rule(&self, given: &WindowIn) -> Result<Option<Rule>, Memory>
         ensures { IfOk result (λ rule. rule ≡ spec.given_rules self.now.vault given.now) }
     {
+        let alloc = self.allocator();
         if let Some(rule) = given_rule(alloc, self.catalog(), given)? {
             return Ok(Some(rule));
         }
@@ -91,7 +92,7 @@ impl Office {
     }
 
     // The window that the extracts read as, or the first rule, W1 to W18, that is broken.
-    fn window_of(&self, alloc: Global, given: &WindowIn) -> Result<Window, Stop>
+    fn window_of(&self, given: &WindowIn) -> Result<Window, Stop>
         ensures early { IfOk result (λ window. spec.early_rule self.now.vault given.now ≡ None) }
         ensures window { IfOk result (λ window. window ≡ window_of self.now.vault.mapping given.now) }
         ensures whole { IfOk result (λ window. IsTrue (is_window self.now.vault.mapping window)) }
@@ -99,17 +100,16 @@ impl Office {
         ensures built { IsBuilt self.now.vault.mapping }
     {
         let catalog = self.catalog();
-        if let Some(rule) = self.given_rule(alloc, given)? {
+        if let Some(rule) = self.given_rule(given)? {
             return Err(Stop::Refused(rule));
         }
-        let window = stage_window(alloc, catalog, given)?;
+        let window = stage_window(self.allocator(), catalog, given)?;
         Ok(window)
     }
 
     // What a new window adds to the vault, or why it can't.
     fn plan_new<H: KeyDigest>(
         &self,
-        alloc: Global,
         given: &WindowIn,
         window: Window,
         digest: &H,
@@ -120,7 +120,7 @@ impl Office {
         ensures plan { IfOk result (IsPlan (hashes_of H.digest_of H.size) self.now.vault given.now) }
         ensures stops { IfErr result (Stops (hashes_of H.digest_of H.size) self.now.vault given.now) }
     {
-        let addition = addition(alloc, &self.vault, window, digest)?;
+        let addition = addition(&self.vault, window, digest)?;
         let windows = count_windows(self.heads().items())?;
         match too_full(addition.weight, windows) {
             Some(rule) => Err(Stop::Refused(rule)),
@@ -129,20 +129,15 @@ impl Office {
     }
 
     /// What is decided of a window: what it adds to the vault, or why it is not loaded.
-    pub(crate) fn plan<H: KeyDigest>(
-        &self,
-        alloc: Global,
-        given: &WindowIn,
-        digest: &H,
-    ) -> Result<Addition, Stop>
+    pub(crate) fn plan<H: KeyDigest>(&self, given: &WindowIn, digest: &H) -> Result<Addition, Stop>
         ensures plan { IfOk result (IsPlan (hashes_of H.digest_of H.size) self.now.vault given.now) }
         ensures stops { IfErr result (Stops (hashes_of H.digest_of H.size) self.now.vault given.now) }
         ensures built { IsBuilt self.now.vault.mapping }
     {
-        let window = self.window_of(alloc, given)?;
+        let window = self.window_of(given)?;
         if let Some(head) = self.head_at(given.load) {
-            return Err(again(alloc, &self.vault, head, &window)?);
+            return Err(again(self.allocator(), &self.vault, head, &window)?);
         }
-        self.plan_new(alloc, given, window, digest)
+        self.plan_new(given, window, digest)
     }
 }

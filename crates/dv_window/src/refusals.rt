@@ -11,10 +11,9 @@ use crate::stops::Stop;
 use dv_catalog::{Catalog, Rule};
 use dv_text::{KeyDigest, Memory, Window};
 use dv_vault::{Addition, AdditionFault, Vault};
-use std::alloc::Global;
 
 // What a fault of an addition is answered as.
-fn refusal(alloc: Global, catalog: &Catalog, fault: AdditionFault) -> Result<Stop, Memory>
+fn refusal(catalog: &Catalog, fault: AdditionFault) -> Result<Stop, Memory>
     requires { IsTrue (spec.names_table catalog.now fault) }
     ensures { IfOk result (λ stop. spec.IsRefusal catalog.now fault stop) }
 {
@@ -26,7 +25,7 @@ fn refusal(alloc: Global, catalog: &Catalog, fault: AdditionFault) -> Result<Sto
     else {
         return Err(Memory);
     };
-    let table = catalog.table_name(alloc, table)?;
+    let table = catalog.table_name(table)?;
     Ok(Stop::Refused(Rule::Collision {
         table,
         first,
@@ -36,7 +35,6 @@ fn refusal(alloc: Global, catalog: &Catalog, fault: AdditionFault) -> Result<Sto
 
 /// What a window adds to a vault, or the rule of the collision that it makes.
 pub(crate) fn addition<H: KeyDigest>(
-    alloc: Global,
     vault: &Vault,
     window: Window,
     digest: &H,
@@ -47,8 +45,8 @@ pub(crate) fn addition<H: KeyDigest>(
     ensures fits { IfOk result (Fits vault.now) }
     ensures stops { IfErr result (spec.StopsRows (hashes_of H.digest_of H.size) vault.now window) }
 {
-    match vault.addition(alloc, window, digest) {
+    match vault.addition(window, digest) {
         Ok(addition) => Ok(addition),
-        Err(fault) => Err(refusal(alloc, vault.catalog(), fault)?),
+        Err(fault) => Err(refusal(vault.catalog(), fault)?),
     }
 }

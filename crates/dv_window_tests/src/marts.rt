@@ -140,21 +140,8 @@ fn window(alloc: Global, load: &str, given: &[(&[u8], &[u8])]) -> Result<WindowI
     Ok(WindowIn { load, extracts })
 }
 
-fn load(
-    alloc: Global,
-    office: &mut Office,
-    keeper: &mut Untold,
-    given: &WindowIn,
-) -> Result<(), Fail> {
-    match office.load(
-        alloc,
-        keeper,
-        given,
-        1,
-        Order::Declared,
-        &Md5Keys,
-        &OpenGate,
-    ) {
+fn load(office: &mut Office, keeper: &mut Untold, given: &WindowIn) -> Result<(), Fail> {
+    match office.load(keeper, given, 1, Order::Declared, &Md5Keys, &OpenGate) {
         LoadAnswer::Loaded { .. } => Ok(()),
         _ => Err("not loaded")?,
     }
@@ -170,7 +157,7 @@ fn office(alloc: Global) -> Result<Office, Fail> {
     };
     for (day, extracts) in WINDOWS {
         let given = window(alloc, day, extracts)?;
-        load(alloc, &mut office, &mut keeper, &given)?;
+        load(&mut office, &mut keeper, &given)?;
     }
     Ok(office)
 }
@@ -297,7 +284,7 @@ fn a_table_has_the_rows_that_are_not_later(rt: HostRuntime) -> Result<(), Fail> 
 fn row_count(alloc: Global, office: &Office, feed: u32, date: &str) -> Result<usize, Fail> {
     let date = stamp(date)?;
     if feed < office.catalog().feed_count() {
-        let rows = feed_mart(alloc, office.vault(), feed, date)?;
+        let rows = feed_mart(office.vault(), feed, date)?;
         Ok(rows.items().len())
     } else {
         Err("no feed")?
