@@ -150,7 +150,7 @@ pub(crate) fn take<H: KeyDigest, G: Gate>(
         → IfOk result (Takes mapping (hashes_of H.digest_of H.size) name.now (arrival_of arrived) p loading.new) }
     ensures mapping { loading.new.office.vault.mapping ≡ loading.old.office.vault.mapping }
 {
-    let taken = load_arrived(alloc, loading, arrived, digest, gate)?;
+    let taken = load_arrived(loading, arrived, digest, gate)?;
     let line = window_line(alloc, name, &taken)?;
     loading.refused |= is_refusal(&taken);
     Ok(line)

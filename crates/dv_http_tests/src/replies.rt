@@ -2,51 +2,53 @@ use dv_http::{Reply, ReplyKind, reply_bytes};
 use dv_text::Text;
 use std::test::Fail;
 
+const REPLIES: &[(u16, ReplyKind, &[u8], bool, &[u8], &[u8])] = &[
+    (
+        200,
+        ReplyKind::Json,
+        b"",
+        false,
+        b"{\"answer\":\"Loaded\",\"rows\":18}",
+        b"HTTP/1.1 200 OK\r\nContent-Type: application/json\r\nContent-Length: 29\r\n\r\n{\"answer\":\"Loaded\",\"rows\":18}",
+    ),
+    (
+        200,
+        ReplyKind::Csv,
+        b"",
+        true,
+        b"A\nb\n",
+        b"HTTP/1.1 200 OK\r\nContent-Type: text/csv; charset=utf-8\r\nContent-Length: 4\r\nConnection: close\r\n\r\nA\nb\n",
+    ),
+    (
+        405,
+        ReplyKind::Json,
+        b"GET, POST",
+        true,
+        b"",
+        b"HTTP/1.1 405 Method Not Allowed\r\nContent-Type: application/json\r\nContent-Length: 0\r\nAllow: GET, POST\r\nConnection: close\r\n\r\n",
+    ),
+    (
+        413,
+        ReplyKind::Json,
+        b"",
+        true,
+        b"{}",
+        b"HTTP/1.1 413 Payload Too Large\r\nContent-Type: application/json\r\nContent-Length: 2\r\nConnection: close\r\n\r\n{}",
+    ),
+    (
+        799,
+        ReplyKind::Json,
+        b"",
+        false,
+        b"",
+        b"HTTP/1.1 799 \r\nContent-Type: application/json\r\nContent-Length: 0\r\n\r\n",
+    ),
+];
+
 #[test]
 fn replies_have_their_lines(rt: HostRuntime) -> Result<(), Fail> {
     let alloc = rt.alloc();
-    for (status, kind, allow, last, body, expected) in [
-        (
-            200,
-            ReplyKind::Json,
-            b"".as_slice(),
-            false,
-            b"{\"answer\":\"Loaded\",\"rows\":18}".as_slice(),
-            b"HTTP/1.1 200 OK\r\nContent-Type: application/json\r\nContent-Length: 29\r\n\r\n{\"answer\":\"Loaded\",\"rows\":18}".as_slice(),
-        ),
-        (
-            200,
-            ReplyKind::Csv,
-            b"",
-            true,
-            b"A\nb\n",
-            b"HTTP/1.1 200 OK\r\nContent-Type: text/csv; charset=utf-8\r\nContent-Length: 4\r\nConnection: close\r\n\r\nA\nb\n",
-        ),
-        (
-            405,
-            ReplyKind::Json,
-            b"GET, POST",
-            true,
-            b"",
-            b"HTTP/1.1 405 Method Not Allowed\r\nContent-Type: application/json\r\nContent-Length: 0\r\nAllow: GET, POST\r\nConnection: close\r\n\r\n",
-        ),
-        (
-            413,
-            ReplyKind::Json,
-            b"",
-            true,
-            b"{}",
-            b"HTTP/1.1 413 Payload Too Large\r\nContent-Type: application/json\r\nContent-Length: 2\r\nConnection: close\r\n\r\n{}",
-        ),
-        (
-            799,
-            ReplyKind::Json,
-            b"",
-            false,
-            b"",
-            b"HTTP/1.1 799 \r\nContent-Type: application/json\r\nContent-Length: 0\r\n\r\n",
-        ),
-    ] {
+    for (status, kind, allow, last, body, expected) in REPLIES.iter().copied() {
         let allow = if allow.is_empty() {
             None
         } else {

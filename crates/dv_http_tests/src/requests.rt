@@ -15,103 +15,105 @@ const POST_TOLD: &[u8] = b"POST /windows {\"load\":12}|";
 
 const GET_TOLD: &[u8] = b"GET /marts/feed:customers at=2024-03-01T02:00:00 |";
 
+const REQUESTS: &[(&[u8], &[u8])] = &[
+    (b"", b"end"),
+    (b"GET / HTTP/1.1\r\n\r\n", b"GET / |end"),
+    (b"GET / HTTP/1.0\r\n\r\n", b"GET /  last|end"),
+    (b"\r\nGET / HTTP/1.1\n\n", b"GET / |end"),
+    (b"get / HTTP/1.1\r\n\r\n", b"get / |end"),
+    (b"GET * HTTP/1.1\r\n\r\n", b"GET * |end"),
+    (
+        b"GET http://h/p?at=1 HTTP/1.1\r\n\r\n",
+        b"GET http://h/p at=1 |end",
+    ),
+    (
+        b"GET /p?x&at=a%20b+c%2&at=2 HTTP/1.1\r\n\r\n",
+        b"GET /p at=a b c%2 |end",
+    ),
+    (b"GET /p?at HTTP/1.1\r\n\r\n", b"GET /p at= |end"),
+    (b"GET /%7?a%74=1?2 HTTP/1.1\r\n\r\n", b"GET /%7 at=1?2 |end"),
+    (
+        b"GET / HTTP/1.1\r\ncOnnection: \tClOSE \r\n\r\nGET",
+        b"GET /  last|Cut",
+    ),
+    (
+        b"GET / HTTP/1.1\r\nConnection: close, x\r\n\r\n",
+        b"GET / |end",
+    ),
+    (
+        b"GET / HTTP/1.1\r\ncontent-length: 003\r\n\r\nabcGET",
+        b"GET / abc|Cut",
+    ),
+    (
+        b"GET / HTTP/1.1\r\nExpect: 100-continue\r\n\r\n",
+        b"GET / |end",
+    ),
+    (b"POST / HTTP/1.1\r\n\r\n", b"NoLength"),
+    (
+        b"POST / HTTP/1.1\r\nContent-Length: 0\r\n\r\n",
+        b"POST / |end",
+    ),
+    (
+        b"GET / HTTP/1.1\r\nTransfer-Encoding: chunked\r\n\r\n0\r\n\r\n",
+        b"NoLength",
+    ),
+    (
+        b"GET / HTTP/1.1\r\nContent-Length: x\r\ntransfer-encoding:\r\n\r\n",
+        b"NoLength",
+    ),
+    (
+        b"GET / HTTP/1.1\r\nContent-Length: 1\r\nContent-Length: 1\r\n\r\na",
+        b"Head",
+    ),
+    (
+        b"GET / HTTP/1.1\r\nContent-Length: 1\r\nContent-Length: 2\r\n\r\nab",
+        b"Head",
+    ),
+    (b"GET / HTTP/1.1\r\nContent-Length: +1\r\n\r\na", b"Head"),
+    (b"GET / HTTP/1.1\r\nContent-Length: -1\r\n\r\na", b"Head"),
+    (b"GET / HTTP/1.1\r\nContent-Length: 1 1\r\n\r\na", b"Head"),
+    (b"GET / HTTP/1.1\r\nContent-Length:\r\n\r\na", b"Head"),
+    (b"GET / HTTP/1.1\r\nContent-Length: 0x1\r\n\r\na", b"Head"),
+    (
+        b"GET / HTTP/1.1\r\nContent-Length: 68157440\r\n\r\na",
+        b"Cut",
+    ),
+    (
+        b"GET / HTTP/1.1\r\nContent-Length: 68157441\r\n\r\na",
+        b"BodyTooLong",
+    ),
+    (
+        b"GET / HTTP/1.1\r\nContent-Length: 9999999999999999999\r\n\r\n",
+        b"BodyTooLong",
+    ),
+    (
+        b"GET / HTTP/1.1\r\nContent-Length: 18446744073709551617\r\n\r\n",
+        b"Head",
+    ),
+    (
+        b"GET / HTTP/1.1\r\nContent-Length: 0000000000000000001\r\n\r\na",
+        b"GET / a|end",
+    ),
+    (b"GET / HTTP/1.1\r\nA: b\r\n c\r\n\r\n", b"Head"),
+    (b"GET / HTTP/1.1\r\nA : b\r\n\r\n", b"Head"),
+    (b"GET / HTTP/1.1\r\nA: b\rc\r\n\r\n", b"Head"),
+    (b"GET / HTTP/1.1\r\nA: b\0c\r\n\r\n", b"Head"),
+    (b"GET /\n\n", b"Head"),
+    (b"GET / HTTP/0.9\r\n\r\n", b"Head"),
+    (b"GET / HTTP/1.2\r\n\r\n", b"Head"),
+    (b"PRI * HTTP/2.0\r\n\r\nSM\r\n\r\n", b"Head"),
+    (b"\x16\x03\x01\x02\x00\x01\x00\x01", b"Head"),
+    (b"GET / HTTP/1.1\r\n\r\n\r\n", b"GET / |Cut"),
+];
+
 #[test]
 fn requests_are_taken_or_refused_by_name(rt: HostRuntime) -> Result<(), Fail> {
     let alloc = rt.alloc();
-    for (input, expected) in [
-        (b"".as_slice(), b"end".as_slice()),
-        (b"GET / HTTP/1.1\r\n\r\n", b"GET / |end"),
-        (b"GET / HTTP/1.0\r\n\r\n", b"GET /  last|end"),
-        (b"\r\nGET / HTTP/1.1\n\n", b"GET / |end"),
-        (b"get / HTTP/1.1\r\n\r\n", b"get / |end"),
-        (b"GET * HTTP/1.1\r\n\r\n", b"GET * |end"),
-        (
-            b"GET http://h/p?at=1 HTTP/1.1\r\n\r\n",
-            b"GET http://h/p at=1 |end",
-        ),
-        (
-            b"GET /p?x&at=a%20b+c%2&at=2 HTTP/1.1\r\n\r\n",
-            b"GET /p at=a b c%2 |end",
-        ),
-        (b"GET /p?at HTTP/1.1\r\n\r\n", b"GET /p at= |end"),
-        (b"GET /%7?a%74=1?2 HTTP/1.1\r\n\r\n", b"GET /%7 at=1?2 |end"),
-        (
-            b"GET / HTTP/1.1\r\ncOnnection: \tClOSE \r\n\r\nGET",
-            b"GET /  last|Cut",
-        ),
-        (
-            b"GET / HTTP/1.1\r\nConnection: close, x\r\n\r\n",
-            b"GET / |end",
-        ),
-        (
-            b"GET / HTTP/1.1\r\ncontent-length: 003\r\n\r\nabcGET",
-            b"GET / abc|Cut",
-        ),
-        (
-            b"GET / HTTP/1.1\r\nExpect: 100-continue\r\n\r\n",
-            b"GET / |end",
-        ),
-        (b"POST / HTTP/1.1\r\n\r\n", b"NoLength"),
-        (
-            b"POST / HTTP/1.1\r\nContent-Length: 0\r\n\r\n",
-            b"POST / |end",
-        ),
-        (
-            b"GET / HTTP/1.1\r\nTransfer-Encoding: chunked\r\n\r\n0\r\n\r\n",
-            b"NoLength",
-        ),
-        (
-            b"GET / HTTP/1.1\r\nContent-Length: x\r\ntransfer-encoding:\r\n\r\n",
-            b"NoLength",
-        ),
-        (
-            b"GET / HTTP/1.1\r\nContent-Length: 1\r\nContent-Length: 1\r\n\r\na",
-            b"Head",
-        ),
-        (
-            b"GET / HTTP/1.1\r\nContent-Length: 1\r\nContent-Length: 2\r\n\r\nab",
-            b"Head",
-        ),
-        (b"GET / HTTP/1.1\r\nContent-Length: +1\r\n\r\na", b"Head"),
-        (b"GET / HTTP/1.1\r\nContent-Length: -1\r\n\r\na", b"Head"),
-        (b"GET / HTTP/1.1\r\nContent-Length: 1 1\r\n\r\na", b"Head"),
-        (b"GET / HTTP/1.1\r\nContent-Length:\r\n\r\na", b"Head"),
-        (b"GET / HTTP/1.1\r\nContent-Length: 0x1\r\n\r\na", b"Head"),
-        (
-            b"GET / HTTP/1.1\r\nContent-Length: 68157440\r\n\r\na",
-            b"Cut",
-        ),
-        (
-            b"GET / HTTP/1.1\r\nContent-Length: 68157441\r\n\r\na",
-            b"BodyTooLong",
-        ),
-        (
-            b"GET / HTTP/1.1\r\nContent-Length: 9999999999999999999\r\n\r\n",
-            b"BodyTooLong",
-        ),
-        (
-            b"GET / HTTP/1.1\r\nContent-Length: 18446744073709551617\r\n\r\n",
-            b"Head",
-        ),
-        (
-            b"GET / HTTP/1.1\r\nContent-Length: 0000000000000000001\r\n\r\na",
-            b"GET / a|end",
-        ),
-        (b"GET / HTTP/1.1\r\nA: b\r\n c\r\n\r\n", b"Head"),
-        (b"GET / HTTP/1.1\r\nA : b\r\n\r\n", b"Head"),
-        (b"GET / HTTP/1.1\r\nA: b\rc\r\n\r\n", b"Head"),
-        (b"GET / HTTP/1.1\r\nA: b\0c\r\n\r\n", b"Head"),
-        (b"GET /\n\n", b"Head"),
-        (b"GET / HTTP/0.9\r\n\r\n", b"Head"),
-        (b"GET / HTTP/1.2\r\n\r\n", b"Head"),
-        (b"PRI * HTTP/2.0\r\n\r\nSM\r\n\r\n", b"Head"),
-        (b"\x16\x03\x01\x02\x00\x01\x00\x01", b"Head"),
-        (b"GET / HTTP/1.1\r\n\r\n\r\n", b"GET / |Cut"),
-    ] {
+    for (input, expected) in REQUESTS {
         for piece in [1, 2, 3, 7, 1000] {
             let text = told(alloc, input, piece, &[])?;
             assert!(rt;
-                text.as_slice() == expected,
+                text.as_slice() == *expected,
                 "{piece}: {:?} {:?}",
                 text,
                 input

@@ -26,46 +26,47 @@ feeds = ["assignments"]
 via = []
 "#;
 
+const FORMS: &[(&str, &str, &str)] = &[
+    ("", "", ""),
+    ("", CUSTOMERS, ""),
+    (
+        CUSTOMERS,
+        "sub = []\nattrs = []\nignore = []\ndriver = []",
+        "",
+    ),
+    (
+        "[[hub]]\nname = \"customer\"\nparts = 5",
+        "",
+        "2 Shape place=hub 1 parts",
+    ),
+    ("[[hub]]\nname = \"customer\"\nparts = 4", "", ""),
+    (CUSTOMERS, SITES, ""),
+    (CUSTOMERS, ACCOUNTS, ""),
+    (CUSTOMERS, NAMES, ""),
+    (CUSTOMERS, "ignore = [\"CLERK\"]", ""),
+    ("", ORDERS, ""),
+    ("", ASSIGNMENTS, ""),
+    ("", PHONES, "0 NotYet place=feed 1 sub"),
+    (CUSTOMERS, PHONES_TOO, "0 NotYet place=feed 2 sub"),
+    (ASSIGNMENTS, BY_EMPLOYEE, "0 NotYet place=feed 1 driver"),
+    (SOLD, BY_ORDER, "0 NotYet place=path 1 name"),
+    (WORKED, ASSIGNMENTS, "0 NotYet place=path 1 name"),
+    (
+        PHONES,
+        "driver = [\"customer\"]",
+        "10 DriverNotInLink feed=phones",
+    ),
+    (
+        CUSTOMERS,
+        "attrs = [\"CUST_NO\"]",
+        "8 ColumnTwice feed=customers name=CUST_NO",
+    ),
+    (CUSTOMERS, "attrs = [", "1 Text"),
+];
+
 #[test]
 fn the_first_form_that_is_not_built_is_named(rt: HostRuntime) -> Result<(), Fail> {
-    let cases = [
-        ("", "", ""),
-        ("", CUSTOMERS, ""),
-        (
-            CUSTOMERS,
-            "sub = []\nattrs = []\nignore = []\ndriver = []",
-            "",
-        ),
-        (
-            "[[hub]]\nname = \"customer\"\nparts = 5",
-            "",
-            "2 Shape place=hub 1 parts",
-        ),
-        ("[[hub]]\nname = \"customer\"\nparts = 4", "", ""),
-        (CUSTOMERS, SITES, ""),
-        (CUSTOMERS, ACCOUNTS, ""),
-        (CUSTOMERS, NAMES, ""),
-        (CUSTOMERS, "ignore = [\"CLERK\"]", ""),
-        ("", ORDERS, ""),
-        ("", ASSIGNMENTS, ""),
-        ("", PHONES, "0 NotYet place=feed 1 sub"),
-        (CUSTOMERS, PHONES_TOO, "0 NotYet place=feed 2 sub"),
-        (ASSIGNMENTS, BY_EMPLOYEE, "0 NotYet place=feed 1 driver"),
-        (SOLD, BY_ORDER, "0 NotYet place=path 1 name"),
-        (WORKED, ASSIGNMENTS, "0 NotYet place=path 1 name"),
-        (
-            PHONES,
-            "driver = [\"customer\"]",
-            "10 DriverNotInLink feed=phones",
-        ),
-        (
-            CUSTOMERS,
-            "attrs = [\"CUST_NO\"]",
-            "8 ColumnTwice feed=customers name=CUST_NO",
-        ),
-        (CUSTOMERS, "attrs = [", "1 Text"),
-    ];
-    for (first, second, expected) in cases {
+    for (first, second, expected) in FORMS {
         let file = format!(in rt.alloc(); "{first}{second}")?;
         let found = fault(rt.alloc(), read_built_catalog(rt.alloc(), file.as_bytes()))?;
         assert_eq!(rt; found.bytes(), expected.as_bytes(), "at {file}");

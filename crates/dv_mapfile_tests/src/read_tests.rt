@@ -104,56 +104,53 @@ fn described(alloc: Global, catalog: &Catalog) -> Result<Text, Fail> {
     Ok(Text::from_vec(lines))
 }
 
-#[test]
-fn mapping_files_are_read(rt: HostRuntime) -> Result<(), Fail> {
-    let alloc = rt.alloc();
-    let cases = [
-        (
-            CUSTOMERS,
-            "",
-            "",
-            "customer parts 1\ncustomers crm hub 0 key CUST_NO sub attrs ignore driver\n",
-        ),
-        (
-            CUSTOMERS,
-            NAMES,
-            "",
-            "customer parts 1\ncustomers crm hub 0 key CUST_NO sub attrs NAME ignore driver\n",
-        ),
-        (
-            CUSTOMERS,
-            NAMES,
-            ACCOUNTS,
-            "customer parts 1
+const MAPPINGS: &[(&str, &str, &str, &str)] = &[
+    (
+        CUSTOMERS,
+        "",
+        "",
+        "customer parts 1\ncustomers crm hub 0 key CUST_NO sub attrs ignore driver\n",
+    ),
+    (
+        CUSTOMERS,
+        NAMES,
+        "",
+        "customer parts 1\ncustomers crm hub 0 key CUST_NO sub attrs NAME ignore driver\n",
+    ),
+    (
+        CUSTOMERS,
+        NAMES,
+        ACCOUNTS,
+        "customer parts 1
 customers crm hub 0 key CUST_NO sub attrs NAME ignore driver
 accounts shop hub 0 key ACCOUNT sub attrs TIER ignore driver\n",
-        ),
-        (
-            SITES,
-            "",
-            "",
-            "site parts 2\nsites geo hub 0 key REGION SITE sub attrs ignore driver\n",
-        ),
-        (
-            PHONES,
-            "",
-            "",
-            "customer parts 1\nphones crm hub 0 key CUST_NO sub KIND attrs PHONE ignore driver\n",
-        ),
-        (
-            ASSIGNMENTS,
-            BY_EMPLOYEE,
-            "",
-            "employee parts 1
+    ),
+    (
+        SITES,
+        "",
+        "",
+        "site parts 2\nsites geo hub 0 key REGION SITE sub attrs ignore driver\n",
+    ),
+    (
+        PHONES,
+        "",
+        "",
+        "customer parts 1\nphones crm hub 0 key CUST_NO sub KIND attrs PHONE ignore driver\n",
+    ),
+    (
+        ASSIGNMENTS,
+        BY_EMPLOYEE,
+        "",
+        "employee parts 1
 department parts 1
 works hubs 0 1
 assignments hr link 0 key EMP key DEPT sub attrs ignore driver 0\n",
-        ),
-        (
-            SOLD,
-            BY_ORDER,
-            "",
-            "customer parts 1
+    ),
+    (
+        SOLD,
+        BY_ORDER,
+        "",
+        "customer parts 1
 sales_order parts 1
 product parts 1
 placed hubs 0 1
@@ -161,20 +158,24 @@ contains hubs 1 2
 placements shop link 0 key CUST key ORD sub attrs ignore driver
 lines shop link 1 key ORD key PROD sub attrs QTY ignore driver
 sold feeds 0 1 via 1\n",
-        ),
-        (
-            ORDERS,
-            "",
-            "",
-            "customer parts 1
+    ),
+    (
+        ORDERS,
+        "",
+        "",
+        "customer parts 1
 sales_order parts 1
 placed hubs 0 1
 customers crm hub 0 key CUST_NO sub attrs NAME CITY SINCE ignore driver
 orders shop hub 1 key ORDER_NO sub attrs STATE TOTAL_CENTS CURRENCY ignore driver
 placements shop link 0 key CUST_NO key ORDER_NO sub attrs CHANNEL ignore CLERK driver\n",
-        ),
-    ];
-    for (first, second, third, expected) in cases {
+    ),
+];
+
+#[test]
+fn mapping_files_are_read(rt: HostRuntime) -> Result<(), Fail> {
+    let alloc = rt.alloc();
+    for (first, second, third, expected) in MAPPINGS {
         let file = format!(in alloc; "{first}{second}{third}")?;
         let catalog = read_catalog(alloc, file.as_bytes()).ok().ok_or("refused")?;
         let found = described(alloc, &catalog)?;
@@ -211,64 +212,63 @@ const COLUMNS: &str =
     r#"attrs = ["A", "B", "C", "D", "E", "F", "G", "H", "I", "J", "K", "L", "M", "N", "O",
 "P", "Q", "R", "S", "T", "U", "V", "W", "X", "Y", "Z", "AA", "AB", "AC", "AD", "AE"]"#;
 
+const FAULTS: &[(&str, &str, &str)] = &[
+    (CUSTOMERS, "attrs = [", "1 Text"),
+    (CUSTOMERS, "name = \"again\"", "1 Text"),
+    (CUSTOMERS, "colour = 1\nbig = 2", "2 Shape place=feed 1 big"),
+    (CUSTOMERS, CUSTOMERS, "3 NameTwice name=customer"),
+    (
+        CUSTOMERS,
+        "[[link]]\nname = \"a\"\nhubs = [\"customer\", \"client\"]",
+        "4 UnknownHub name=client",
+    ),
+    (
+        CUSTOMERS,
+        "[[feed]]\nname = \"a\"\nsource = \"b\"\nlink = \"placed\"\nkeys = []",
+        "5 UnknownLink name=placed",
+    ),
+    (
+        WORKS,
+        "[[feed]]\nname = \"f\"\nsource = \"s\"\nlink = \"works\"\nkeys = [[\"K\"]]",
+        "6 KeyCount feed=f",
+    ),
+    (
+        CUSTOMERS,
+        "[[link]]\nname = \"only\"\nhubs = [\"customer\"]",
+        "7 NoKey name=only",
+    ),
+    (
+        ASSIGNMENTS,
+        "attrs = [\"A\"]\nignore = [\"DEPT\"]",
+        "8 ColumnTwice feed=assignments name=DEPT",
+    ),
+    (
+        ASSIGNMENTS,
+        "sub = [\"A\"]",
+        "9 SubWithoutAttrs feed=assignments",
+    ),
+    (
+        ASSIGNMENTS,
+        "driver = [\"employee\", \"department\"]",
+        "10 DriverNotInLink feed=assignments",
+    ),
+    (
+        ASSIGNMENTS,
+        "driver = [\"employee\"]\nsub = [\"A\"]\nattrs = [\"B\"]",
+        "11 DriverWithSub feed=assignments",
+    ),
+    (SOLD, "via = [\"customer\"]", "12 PathBroken path=sold"),
+    (ASSIGNMENTS, COLUMNS, "13 TooMany kind=columns"),
+    (
+        CUSTOMERS,
+        "[[hub]]\nname = \"Site\"\nparts = 1",
+        "14 NameForm name=Site",
+    ),
+];
+
 #[test]
 fn each_fault_is_answered_by_its_number(rt: HostRuntime) -> Result<(), Fail> {
-    refuses(
-        &rt,
-        &[
-            (CUSTOMERS, "attrs = [", "1 Text"),
-            (CUSTOMERS, "name = \"again\"", "1 Text"),
-            (CUSTOMERS, "colour = 1\nbig = 2", "2 Shape place=feed 1 big"),
-            (CUSTOMERS, CUSTOMERS, "3 NameTwice name=customer"),
-            (
-                CUSTOMERS,
-                "[[link]]\nname = \"a\"\nhubs = [\"customer\", \"client\"]",
-                "4 UnknownHub name=client",
-            ),
-            (
-                CUSTOMERS,
-                "[[feed]]\nname = \"a\"\nsource = \"b\"\nlink = \"placed\"\nkeys = []",
-                "5 UnknownLink name=placed",
-            ),
-            (
-                WORKS,
-                "[[feed]]\nname = \"f\"\nsource = \"s\"\nlink = \"works\"\nkeys = [[\"K\"]]",
-                "6 KeyCount feed=f",
-            ),
-            (
-                CUSTOMERS,
-                "[[link]]\nname = \"only\"\nhubs = [\"customer\"]",
-                "7 NoKey name=only",
-            ),
-            (
-                ASSIGNMENTS,
-                "attrs = [\"A\"]\nignore = [\"DEPT\"]",
-                "8 ColumnTwice feed=assignments name=DEPT",
-            ),
-            (
-                ASSIGNMENTS,
-                "sub = [\"A\"]",
-                "9 SubWithoutAttrs feed=assignments",
-            ),
-            (
-                ASSIGNMENTS,
-                "driver = [\"employee\", \"department\"]",
-                "10 DriverNotInLink feed=assignments",
-            ),
-            (
-                ASSIGNMENTS,
-                "driver = [\"employee\"]\nsub = [\"A\"]\nattrs = [\"B\"]",
-                "11 DriverWithSub feed=assignments",
-            ),
-            (SOLD, "via = [\"customer\"]", "12 PathBroken path=sold"),
-            (ASSIGNMENTS, COLUMNS, "13 TooMany kind=columns"),
-            (
-                CUSTOMERS,
-                "[[hub]]\nname = \"Site\"\nparts = 1",
-                "14 NameForm name=Site",
-            ),
-        ],
-    )
+    refuses(&rt, FAULTS)
 }
 
 // A link of one hub.
@@ -281,80 +281,81 @@ const OF_CUSTOMER: &str = "[[feed]]\nname = \"a\"\nsource = \"s\"\nhub = \"custo
 const OF_WORKS: &str =
     "[[feed]]\nname = \"b\"\nsource = \"s\"\nlink = \"works\"\nkeys = [[\"E\"], [\"D\"]]\n";
 
+const TWO_FAULTS: &[(&str, &str, &str, &str)] = &[
+    (CUSTOMERS, "colour = 1\n", "attrs = [", "1 Text"),
+    (
+        CUSTOMERS,
+        CUSTOMERS,
+        "colour = 1",
+        "2 Shape place=feed 2 colour",
+    ),
+    (
+        CUSTOMERS,
+        "[[feed]]\nname = \"customers\"\nsource = \"s\"\n",
+        "hub = \"client\"\nkeys = []",
+        "3 NameTwice name=customers",
+    ),
+    (
+        "[[feed]]\nname = \"b\"\nsource = \"s\"\nlink = \"works\"\nkeys = []\n",
+        OF_CUSTOMER,
+        "keys = []",
+        "4 UnknownHub name=customer",
+    ),
+    (CUSTOMERS, OF_WORKS, "", "5 UnknownLink name=works"),
+    (CUSTOMERS, ONLY, OF_CUSTOMER, "2 Shape place=feed 2 keys"),
+    (
+        CUSTOMERS,
+        "[[feed]]\nname = \"b\"\nsource = \"s\"\nlink = \"only\"\nkeys = []\n",
+        ONLY,
+        "6 KeyCount feed=b",
+    ),
+    (
+        CUSTOMERS,
+        "attrs = [\"CUST_NO\"]\n",
+        ONLY,
+        "7 NoKey name=only",
+    ),
+    (
+        ASSIGNMENTS,
+        "sub = [\"A\"]\n",
+        "[[feed]]\nname = \"b\"\nsource = \"s\"\nhub = \"employee\"\nkeys = [[\"E\"]]\nattrs = [\"E\"]",
+        "8 ColumnTwice feed=b name=E",
+    ),
+    (
+        ASSIGNMENTS,
+        "driver = [\"customer\"]\nsub = [\"A\"]\n",
+        "",
+        "9 SubWithoutAttrs feed=assignments",
+    ),
+    (
+        ASSIGNMENTS,
+        "driver = [\"employee\"]\nsub = [\"A\"]\nattrs = [\"B\"]\n",
+        "[[feed]]\nname = \"b\"\nsource = \"s\"\nlink = \"works\"\nkeys = [[\"E\"], [\"D\"]]\ndriver = [\"customer\"]",
+        "10 DriverNotInLink feed=b",
+    ),
+    (
+        ASSIGNMENTS,
+        "[[path]]\nname = \"p\"\nfeeds = []\nvia = []\n",
+        "[[feed]]\nname = \"b\"\nsource = \"s\"\nlink = \"works\"\nkeys = [[\"E\"], [\"D\"]]\ndriver = [\"employee\"]\nsub = [\"A\"]\nattrs = [\"B\"]",
+        "11 DriverWithSub feed=b",
+    ),
+    (
+        ASSIGNMENTS,
+        COLUMNS,
+        "\n[[path]]\nname = \"p\"\nfeeds = []\nvia = []",
+        "12 PathBroken path=p",
+    ),
+    (
+        ASSIGNMENTS,
+        COLUMNS,
+        "\n[[hub]]\nname = \"Site\"\nparts = 1",
+        "13 TooMany kind=columns",
+    ),
+];
+
 #[test]
 fn of_two_faults_the_lower_number_is_answered(rt: HostRuntime) -> Result<(), Fail> {
-    let cases = [
-        (CUSTOMERS, "colour = 1\n", "attrs = [", "1 Text"),
-        (
-            CUSTOMERS,
-            CUSTOMERS,
-            "colour = 1",
-            "2 Shape place=feed 2 colour",
-        ),
-        (
-            CUSTOMERS,
-            "[[feed]]\nname = \"customers\"\nsource = \"s\"\n",
-            "hub = \"client\"\nkeys = []",
-            "3 NameTwice name=customers",
-        ),
-        (
-            "[[feed]]\nname = \"b\"\nsource = \"s\"\nlink = \"works\"\nkeys = []\n",
-            OF_CUSTOMER,
-            "keys = []",
-            "4 UnknownHub name=customer",
-        ),
-        (CUSTOMERS, OF_WORKS, "", "5 UnknownLink name=works"),
-        (CUSTOMERS, ONLY, OF_CUSTOMER, "2 Shape place=feed 2 keys"),
-        (
-            CUSTOMERS,
-            "[[feed]]\nname = \"b\"\nsource = \"s\"\nlink = \"only\"\nkeys = []\n",
-            ONLY,
-            "6 KeyCount feed=b",
-        ),
-        (
-            CUSTOMERS,
-            "attrs = [\"CUST_NO\"]\n",
-            ONLY,
-            "7 NoKey name=only",
-        ),
-        (
-            ASSIGNMENTS,
-            "sub = [\"A\"]\n",
-            "[[feed]]\nname = \"b\"\nsource = \"s\"\nhub = \"employee\"\nkeys = [[\"E\"]]\nattrs = [\"E\"]",
-            "8 ColumnTwice feed=b name=E",
-        ),
-        (
-            ASSIGNMENTS,
-            "driver = [\"customer\"]\nsub = [\"A\"]\n",
-            "",
-            "9 SubWithoutAttrs feed=assignments",
-        ),
-        (
-            ASSIGNMENTS,
-            "driver = [\"employee\"]\nsub = [\"A\"]\nattrs = [\"B\"]\n",
-            "[[feed]]\nname = \"b\"\nsource = \"s\"\nlink = \"works\"\nkeys = [[\"E\"], [\"D\"]]\ndriver = [\"customer\"]",
-            "10 DriverNotInLink feed=b",
-        ),
-        (
-            ASSIGNMENTS,
-            "[[path]]\nname = \"p\"\nfeeds = []\nvia = []\n",
-            "[[feed]]\nname = \"b\"\nsource = \"s\"\nlink = \"works\"\nkeys = [[\"E\"], [\"D\"]]\ndriver = [\"employee\"]\nsub = [\"A\"]\nattrs = [\"B\"]",
-            "11 DriverWithSub feed=b",
-        ),
-        (
-            ASSIGNMENTS,
-            COLUMNS,
-            "\n[[path]]\nname = \"p\"\nfeeds = []\nvia = []",
-            "12 PathBroken path=p",
-        ),
-        (
-            ASSIGNMENTS,
-            COLUMNS,
-            "\n[[hub]]\nname = \"Site\"\nparts = 1",
-            "13 TooMany kind=columns",
-        ),
-    ];
-    for (first, second, third, expected) in cases {
+    for (first, second, third, expected) in TWO_FAULTS {
         let file = format!(in rt.alloc(); "{first}{second}{third}")?;
         let found = fault(rt.alloc(), read_catalog(rt.alloc(), file.as_bytes()))?;
         assert_eq!(rt; found.bytes(), expected.as_bytes(), "at {file}");
@@ -362,68 +363,67 @@ fn of_two_faults_the_lower_number_is_answered(rt: HostRuntime) -> Result<(), Fai
     Ok(())
 }
 
+const FIRST_PLACES: &[(&str, &str, &str)] = &[
+    (
+        "path = 3\nzone = 1\n[link]\n",
+        CUSTOMERS,
+        "2 Shape place=link",
+    ),
+    ("zone = 1", CUSTOMERS, "2 Shape place=zone"),
+    (
+        CUSTOMERS,
+        "colour = 1\n[[hub]]\nname = \"a\"",
+        "2 Shape place=hub 2 parts",
+    ),
+    (
+        CUSTOMERS,
+        "link = \"placed\"\nkind = 1",
+        "2 Shape place=feed 1 hub",
+    ),
+    (
+        CUSTOMERS,
+        "driver = 3\nattrs = [\" NAME\"]",
+        "2 Shape place=feed 1 attrs",
+    ),
+    (
+        OF_CUSTOMER,
+        "keys = []\n[[link]]\nname = \"a\"",
+        "2 Shape place=link 1 hubs",
+    ),
+    (SOLD, "[[path]]\nname = \"a\"", "2 Shape place=path 1 via"),
+    (
+        ACCOUNTS,
+        "[[feed]]\nname = \"accounts\"\nsource = \"s\"\nhub = \"h\"\nkeys = []
+[[link]]\nname = \"a\"\nhubs = [\"h\", \"k\", \"k\", \"h\"]",
+        "3 NameTwice name=k",
+    ),
+    (
+        CUSTOMERS,
+        "[[feed]]\nname = \"a\"\nsource = \"s\"\nhub = \"client\"\nkeys = []
+[[link]]\nname = \"a\"\nhubs = [\"customer\", \"site\"]",
+        "4 UnknownHub name=site",
+    ),
+    (
+        CUSTOMERS,
+        "ignore = [\"Y\", \"X\"]\nattrs = [\"X\", \"Y\"]",
+        "8 ColumnTwice feed=customers name=Y",
+    ),
+    (
+        CUSTOMERS,
+        "[[feed]]\nname = \"Ab\"\nsource = \"Cd\"\nhub = \"customer\"\nkeys = [[\"K\"]]",
+        "14 NameForm name=Ab",
+    ),
+    (
+        CUSTOMERS,
+        "[[feed]]\nname = \"Ab\"\nsource = \"Cd\"\nhub = \"customer\"\nkeys = [[\"K\"]]
+[[hub]]\nname = \"\"\nparts = 1",
+        "14 NameForm name=",
+    ),
+];
+
 #[test]
 fn of_one_number_the_first_place_is_answered(rt: HostRuntime) -> Result<(), Fail> {
-    refuses(
-        &rt,
-        &[
-            (
-                "path = 3\nzone = 1\n[link]\n",
-                CUSTOMERS,
-                "2 Shape place=link",
-            ),
-            ("zone = 1", CUSTOMERS, "2 Shape place=zone"),
-            (
-                CUSTOMERS,
-                "colour = 1\n[[hub]]\nname = \"a\"",
-                "2 Shape place=hub 2 parts",
-            ),
-            (
-                CUSTOMERS,
-                "link = \"placed\"\nkind = 1",
-                "2 Shape place=feed 1 hub",
-            ),
-            (
-                CUSTOMERS,
-                "driver = 3\nattrs = [\" NAME\"]",
-                "2 Shape place=feed 1 attrs",
-            ),
-            (
-                OF_CUSTOMER,
-                "keys = []\n[[link]]\nname = \"a\"",
-                "2 Shape place=link 1 hubs",
-            ),
-            (SOLD, "[[path]]\nname = \"a\"", "2 Shape place=path 1 via"),
-            (
-                ACCOUNTS,
-                "[[feed]]\nname = \"accounts\"\nsource = \"s\"\nhub = \"h\"\nkeys = []
-[[link]]\nname = \"a\"\nhubs = [\"h\", \"k\", \"k\", \"h\"]",
-                "3 NameTwice name=k",
-            ),
-            (
-                CUSTOMERS,
-                "[[feed]]\nname = \"a\"\nsource = \"s\"\nhub = \"client\"\nkeys = []
-[[link]]\nname = \"a\"\nhubs = [\"customer\", \"site\"]",
-                "4 UnknownHub name=site",
-            ),
-            (
-                CUSTOMERS,
-                "ignore = [\"Y\", \"X\"]\nattrs = [\"X\", \"Y\"]",
-                "8 ColumnTwice feed=customers name=Y",
-            ),
-            (
-                CUSTOMERS,
-                "[[feed]]\nname = \"Ab\"\nsource = \"Cd\"\nhub = \"customer\"\nkeys = [[\"K\"]]",
-                "14 NameForm name=Ab",
-            ),
-            (
-                CUSTOMERS,
-                "[[feed]]\nname = \"Ab\"\nsource = \"Cd\"\nhub = \"customer\"\nkeys = [[\"K\"]]
-[[hub]]\nname = \"\"\nparts = 1",
-                "14 NameForm name=",
-            ),
-        ],
-    )
+    refuses(&rt, FIRST_PLACES)
 }
 
 // The mapping of a file.
@@ -440,7 +440,7 @@ fn has_tables(
 ) -> Result<(), Fail> {
     for (table, expected) in tables {
         let name = Text::of(rt.alloc(), table.as_bytes())?;
-        let found = catalog.find_table(rt.alloc(), &name)?;
+        let found = catalog.find_table(&name)?;
         assert!(rt; found == *expected, "at {table}");
     }
     Ok(())
@@ -464,7 +464,7 @@ fn tables_are_found(rt: HostRuntime) -> Result<(), Fail> {
             ("sold", None),
         ],
     )?;
-    assert_eq!(rt; catalog.tables(rt.alloc())?.items().len(), 8);
+    assert_eq!(rt; catalog.tables()?.items().len(), 8);
     Ok(())
 }
 

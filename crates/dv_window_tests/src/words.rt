@@ -2,19 +2,26 @@ use dv_catalog::TableId;
 use dv_mapfile::read_catalog;
 use dv_mart::{QueryRule, What};
 use dv_text::{Stamp, Text};
+use std::process::Abort;
 use std::test::Fail;
 
 const MAPPING: &[u8] =
     b"[[hub]]\nname = \"customer\"\nparts = 1\n\n[[feed]]\nname = \"customers\"\nsource = \"crm\"\nhub = \"customer\"\nkeys = [[\"CUST_NO\"]]\n\n[[feed]]\nname = \"accounts\"\nsource = \"shop\"\nhub = \"customer\"\nkeys = [[\"ACCOUNT\"]]\n";
 
+fn prints(rt: &(impl Abort + AllocGlobal), rule: &QueryRule, expected: &str) -> Result<(), Fail> {
+    let printed = rule.printed(rt.alloc())?;
+    assert_eq!(rt; printed.bytes(), expected.as_bytes(), "for {expected}");
+    Ok(())
+}
+
 #[test]
-fn rules_are_printed_with_their_fields(rt: HostRuntime) -> Result<(), Fail> {
+fn rules_are_printed_with_their_names_and_numbers(rt: HostRuntime) -> Result<(), Fail> {
     let alloc = rt.alloc();
-    let date = Stamp::read(b"2024-03-01T02:00:00").ok_or("no stamp")?;
     let name = Text::of(alloc, b"hub:client\n")?;
     let text = Text::of(alloc, b"2024-02-30T00:00:00")?;
     let path = Text::of(alloc, b"sold")?;
     let table = Text::of(alloc, b"hub_client")?;
+    let weight = 268_435_457;
     for (rule, expected) in [
         (
             QueryRule::UnknownMart { name },
@@ -26,30 +33,32 @@ fn rules_are_printed_with_their_fields(rt: HostRuntime) -> Result<(), Fail> {
         ),
         (QueryRule::TooLarge { path }, "Q3 TooLarge path=sold"),
         (
-            QueryRule::Future { last: Some(date) },
-            "Q4 Future last=2024-03-01T02:00:00",
-        ),
-        (QueryRule::Future { last: None }, "Q4 Future last=none"),
-        (
-            QueryRule::NoSnapshot { date },
-            "Q5 NoSnapshot date=2024-03-01T02:00:00",
-        ),
-        (
             QueryRule::UnknownTable { name: table },
             "Q6 UnknownTable name=hub_client",
         ),
         (
-            QueryRule::SnapshotsFull {
-                weight: 268_435_457,
-            },
+            QueryRule::SnapshotsFull { weight },
             "Q7 SnapshotsFull weight=268435457",
         ),
         (QueryRule::NothingOpen, "Q8 NothingOpen"),
     ] {
-        let printed = rule.printed(alloc)?;
-        assert_eq!(rt; printed.bytes(), expected.as_bytes(), "for {expected}");
+        prints(&rt, &rule, expected)?;
     }
     Ok(())
+}
+
+#[test]
+fn rules_are_printed_with_their_dates(rt: HostRuntime) -> Result<(), Fail> {
+    let date = Stamp::read(b"2024-03-01T02:00:00").ok_or("no stamp")?;
+    let future = QueryRule::Future { last: Some(date) };
+    prints(&rt, &future, "Q4 Future last=2024-03-01T02:00:00")?;
+    prints(
+        &rt,
+        &QueryRule::Future { last: None },
+        "Q4 Future last=none",
+    )?;
+    let absent = QueryRule::NoSnapshot { date };
+    prints(&rt, &absent, "Q5 NoSnapshot date=2024-03-01T02:00:00")
 }
 
 #[test]
