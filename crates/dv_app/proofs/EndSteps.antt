@@ -66,16 +66,6 @@ module _ (words : List (List ℕ)) (f : Faults) (said says : Option (List ℕ)) 
   stop_caused le (Ended ending) cause ends = ending_caused ending cause.0 cause.1 ends
   stop_caused le Unwritten rose ends = subst IsSo (sym ends.0) (⊎_elim (λ r. inl r) (λ r. inr (omega (arith, le, r))) rose)
 
--- a line alone
-module _ (words : List (List ℕ)) (f : Faults) (said says : Option (List ℕ)) (result : Status) where
-  pub memory_caused : Ends statuses.Memory memory_line said says f.err_before f.err result → IsCaused words f said says result
-  memory_caused ends =
-      by_line words f said says said f.err_before (omega arith) result statuses.Memory memory_line ([], sym (after-nil said)) (λ text last is. (text, last, is)) ends
-
-  pub usage_caused : (line : List ℕ) → asked words ≡ NoCommand → Ends statuses.Usage line said says f.err_before f.err result → IsCaused words f said says result
-  usage_caused line none ends =
-      by_line words f said says said f.err_before (omega arith) result statuses.Usage line ([], sym (after-nil said)) (λ text last is. none) ends
-
 -- where all was written
 module _ (words : List (List ℕ)) (f : Faults) (said says : Option (List ℕ)) where
   caused_at_end : (refused : Bool) → WroteLines refused said says → IsCaused words f said says (status_for refused)

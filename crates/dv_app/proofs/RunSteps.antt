@@ -90,8 +90,7 @@ module _ (mapping : Mapping) (hashes : Hashes) (files : List NamedFile) where
     leads_by (Absent file) absent = rest_is ∙ ap (λ a. step_on (step_by mapping hashes name a p) (λ q. run q (drop (i + 1) names))) absent
     leads_by (Unread file) read = (name, named, read)
     leads_by Memory memory = memory
-    leads_by (BadMapping e) none = absurd none
-    leads_by (BadQuery rule) none = absurd none
+    leads_by ending none = absurd none
 
     pub leads : (before now : ℕ) (W : Type 0) (says : Option (List ℕ)) (stop : Stop) → IsStopCause before now W (says ≡ mid) stop → ManifestStops mapping hashes files name p mid says stop
         → LoadStops mapping hashes files names said says stop

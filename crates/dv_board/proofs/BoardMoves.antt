@@ -1,14 +1,8 @@
 -- Each step keeps the rule.
-use Rattle.dv_board.proofs.Vocabulary.{◌≡◌, ◌≢◌, ℕ, ◌+◌, ◌-◌, ◌%◌, ◌^◌, ◌<◌, ◌≤◌, min, List, [], ◌∷◌, ◌++◌, length, set, Bool, true, false, cond, nat_lt, nat_eq, true≢false, refl, sym, ap, ◌∙◌, subst, ⊎_elim, arith, slice_index, ◌||◌, some, some-ne-none, some-injective, get_elem?, mod-eq_of_lt}
-use Rattle.dv_board.proofs.Vocabulary.{cases_Bool, State, Me, Allows, Splits, Joins, keeps, at_set, at_snoc, total, times, once_below, Sizes, BoardView, nobody, noted, drawn, less, portion, both_of}
-use Rattle.dv_board.proofs.Sums.{total_set, total_snoc, total_at, times-append, sole}
+use Rattle.dv_board.proofs.Vocabulary.{◌≡◌, ◌≢◌, ℕ, ◌+◌, ◌-◌, ◌%◌, ◌^◌, ◌<◌, ◌≤◌, min, List, [], ◌∷◌, ◌++◌, length, set, Bool, true, false, cond, nat_lt, true≢false, false≢true, refl, sym, ap, ◌∙◌, subst, ⊎_elim, arith, slice_index, ◌||◌, some, some-ne-none, some-injective, get_elem?, mod-eq_of_lt}
+use Rattle.dv_board.proofs.Vocabulary.{cases_Bool, or_cases, State, Me, Allows, Splits, Joins, keeps, at_set, total, times, once_below, Sizes, BoardView, nobody, noted, drawn, less, portion, both_of}
+use Rattle.dv_board.proofs.Sums.{total_set, total_snoc, all_set, all_snoc, total_at, times-append, sole}
 use Rattle.dv_board.specs.BoardRule.{Fits, Holds}
-
-off : false ≡ true → ⊥
-off e = true≢false (sym e)
-
-pub once_step : (x n : ℕ) → once_below x (n + 1) ≡ once_below x n + cond (nat_eq n x) 1 0
-once_step x n = grind arith
 
 noted_le : (v : BoardView) → noted v ≤ v.share
 noted_le v = elim v.had_none as (λ b. cond b v.share 0 ≤ v.share) [ true ↦ omega arith | false ↦ omega arith ]
@@ -17,12 +11,9 @@ total_noted : (views : List BoardView) → total noted views ≤ total (λ v. v.
 total_noted [] = omega arith
 total_noted (x ∷ xs) = let t = total_noted xs in let u = noted_le x in omega (arith, t, u)
 
-fits_set : (k : Sizes) (n m : ℕ) (views : List BoardView) (id : ℕ) (w : BoardView) → n ≤ m → ((j : ℕ) (u : BoardView) → get_elem? views j ≡ some u → Fits k n u) → Fits k m w → (j : ℕ) (u : BoardView) → get_elem? (set views id w) j ≡ some u → Fits k m u
-fits_set k n m views id w le others mine j u e =
-    ⊎_elim
-    (λ (x : (j ≡ id) × (w ≡ u)). subst (Fits k m) x.1 mine)
-    (λ (x : (j ≢ id) × (get_elem? views j ≡ some u)). let o = others j u x.1 in record { spent = o.spent; sizes = o.sizes; some_share = o.some_share; past = λ h. let t = o.past h in omega (arith, t) })
-    (at_set views id j w u e)
+-- one view, where the word has risen
+fits_on : (k : Sizes) (n m : ℕ) (v : BoardView) → n ≤ m → Fits k n v → Fits k m v
+fits_on k n m v le fit = record { spent = fit.spent; sizes = fit.sizes; some_share = fit.some_share; past = λ h. let t = fit.past h in omega (arith, t) }
 
 set_first : (ws : List ℕ) (m : ℕ) → length ws ≡ 1 → (slice_index (set ws 0 m) 0 ≡ m) × (length (set ws 0 m) ≡ 1)
 set_first [] m e = absurd (omega (arith, e))
@@ -37,7 +28,7 @@ module _ (k : Sizes) (s : State ℕ BoardView) (id : ℕ) (v w : BoardView) (m :
       → Holds k record { words = set s.words 0 m; homes = s.homes; views = set s.views id w }
   holds_after h at le fits share claims high more =
       let first = set_first s.words m h.one_word in record {
-        each = λ j u e. subst (λ n. Fits k n u) (sym first.0) (fits_set k (slice_index s.words 0) m s.views id w le h.each fits j u e);
+        each = λ j u e. subst (λ n. Fits k n u) (sym first.0) (all_set (Fits k m) s.views id w (λ j u e. fits_on k (slice_index s.words 0) m u le (h.each j u e)) fits j u e);
         shares = (let t = total_set (λ u. u.share) s.views id v w at in let p = h.shares in omega (arith, t, p, share));
         claimed = λ x. subst (λ n. total (λ u. times x u.claims) (set s.views id w) ≡ once_below x (min n k.tasks)) (sym first.0)
             (let t = total_set (λ u. times x u.claims) s.views id v w at in let p = h.claimed x in let q = claims x in omega (arith, t, p, q));
@@ -57,13 +48,9 @@ claimed_by true k s id v lt fresh live tasks h at =
     let w : BoardView = record v { claims = v.claims ++ n ∷ [] } in
     let none_v : noted v ≡ 0 = ap (λ b. cond b v.share 0) fresh in
     holds_after k s id v w (n + 1) h at (omega arith)
-    record { spent = λ e. absurd (off (sym live ∙ e)); sizes = fit.sizes; some_share = fit.some_share; past = λ e. absurd (off (sym fresh ∙ e)) }
+    record { spent = λ e. absurd (false≢true (sym live ∙ e)); sizes = fit.sizes; some_share = fit.some_share; past = λ e. absurd (false≢true (sym fresh ∙ e)) }
     refl
-    (λ x. let t = times-append x v.claims (n ∷ []) in let o = once_step x n in
-    let a : min n k.tasks ≡ n = omega (arith, below) in
-    let c : min (n + 1) k.tasks ≡ n + 1 = omega (arith, below) in
-    let a' = ap (once_below x) a in let c' = ap (once_below x) c in
-    omega (arith, t, o, a', c'))
+    (λ x. let t = times-append x v.claims (n ∷ []) in grind (arith, t, below))
     (omega (arith, below))
     (omega arith)
 claimed_by false k s id v lt fresh live tasks h at =
@@ -75,24 +62,17 @@ claimed_by false k s id v lt fresh live tasks h at =
     let one = fit.some_share live in
     let high = h.high in
     holds_after k s id v w (n + 1) h at (omega arith)
-    record { spent = λ e. absurd (off (sym live ∙ e)); sizes = fit.sizes; some_share = fit.some_share; past = λ e. omega (arith, above) }
+    record { spent = λ e. absurd (false≢true (sym live ∙ e)); sizes = fit.sizes; some_share = fit.some_share; past = λ e. omega (arith, above) }
     refl
-    (λ x. let a : min n k.tasks ≡ k.tasks = omega (arith, above) in
-    let c : min (n + 1) k.tasks ≡ k.tasks = omega (arith, above) in
-    let a' = ap (once_below x) a in let c' = ap (once_below x) c in
-    omega (arith, a', c'))
+    (λ x. grind (arith, above))
     (omega (arith, none_v, one, high))
     (omega (arith, none_v))
-
-pub once_lt : (x n : ℕ) → 1 ≤ once_below x n → x < n
-once_lt x n h = grind arith
 
 below_word : (k : Sizes) (s : State ℕ BoardView) (id : ℕ) (v : BoardView) → Holds k s → get_elem? s.views id ≡ some v → (x : ℕ) → 1 ≤ times x v.claims → x < slice_index s.words 0
 below_word k s id v h at x one =
     let t = total_at (λ u. times x u.claims) s.views id v at in
     let p = h.claimed x in
-    let lt = once_lt x (min (slice_index s.words 0) k.tasks) (omega (arith, t, p, one)) in
-    omega (arith, lt)
+    grind (arith, t, p, one)
 
 pub claims : (k : Sizes) (slots id : ℕ) (me : Me ℕ BoardView) → me.0.had_none ≡ false → me.0.is_spent ≡ false → me.0.tasks ≡ k.tasks → k.tasks + k.workers < 2 ^ 63
     → Allows (Holds k) slots id me 0 (λ n. (n + 1) % 2 ^ 64) (λ n after. (after ≡ (drawn me.0 n, me.1)) × ((x : ℕ) → 1 ≤ times x me.0.claims → x < n))
@@ -106,8 +86,7 @@ claims k slots id me fresh live tasks small s h len at below =
     (drawn me.0 n, keeps, tt, subst (λ m. Holds k record { words = set s.words 0 m; homes = s.homes; views = set s.views id (drawn me.0 n) }) (sym fits) (claimed_by b k s id me.0 refl fresh live tasks h at), (refl, λ x one. below_word k s id me.0 h at x one))
 
 noted_cut : (b : Bool) (share part : ℕ) → part < share → cond b (share - part) 0 + cond b part 0 ≡ cond b share 0
-noted_cut true share part lt = omega (arith, lt)
-noted_cut false share part lt = omega arith
+noted_cut b share part lt = grind (arith, lt)
 
 pub splits : (k : Sizes) (id part : ℕ) (v : BoardView) → v.is_spent ≡ false → 1 ≤ part → part < v.share → Splits (Holds k) id v (less part v) (portion part v)
 splits k id part v live one lt s h at =
@@ -115,12 +94,9 @@ splits k id part v live one lt s h at =
     let fit = h.each id v at in
     let l = less part v in
     let r = portion part v in
-    let fits_l : Fits k n l = record { spent = λ e. absurd (off (sym live ∙ e)); sizes = fit.sizes; some_share = λ _. omega (arith, lt); past = fit.past } in
-    let fits_r : Fits k n r = record { spent = λ e. absurd (off (sym live ∙ e)); sizes = fit.sizes; some_share = λ _. one; past = fit.past } in record {
-      each = λ j u e. ⊎_elim
-          (λ was. fits_set k n n s.views id l (omega arith) h.each fits_l j u was)
-          (λ (same : r ≡ u). subst (Fits k n) same fits_r)
-          (at_snoc (set s.views id l) r u j e);
+    let fits_l : Fits k n l = record { spent = λ e. absurd (false≢true (sym live ∙ e)); sizes = fit.sizes; some_share = λ _. omega (arith, lt); past = fit.past } in
+    let fits_r : Fits k n r = record { spent = λ e. absurd (false≢true (sym live ∙ e)); sizes = fit.sizes; some_share = λ _. one; past = fit.past } in record {
+      each = all_snoc (Fits k n) (set s.views id l) r (all_set (Fits k n) s.views id l h.each fits_l) fits_r;
       shares = (let t = total_set (λ u. u.share) s.views id v l at in let q = total_snoc (λ u. u.share) (set s.views id l) r in let p = h.shares in omega (arith, t, q, p, lt));
       claimed = λ x. (let t = total_set (λ u. times x u.claims) s.views id v l at in let q = total_snoc (λ u. times x u.claims) (set s.views id l) r in let p = h.claimed x in omega (arith, t, q, p));
       one_word = h.one_word;
@@ -128,17 +104,10 @@ splits k id part v live one lt s h at =
     }
 
 noted_glued : (b c : Bool) (m n : ℕ) → cond b m 0 + cond c n 0 ≤ cond (b || c) (m + n) 0
-noted_glued true true m n = omega arith
-noted_glued true false m n = omega arith
-noted_glued false true m n = omega arith
-noted_glued false false m n = omega arith
-
-or_true : (b c : Bool) (P : Type 0) → (b ≡ true → P) → (c ≡ true → P) → (b || c) ≡ true → P
-or_true true c P f g e = f refl
-or_true false c P f g e = g e
+noted_glued b c m n = grind arith
 
 nobody_fits : (k : Sizes) (n : ℕ) → Fits k n nobody
-nobody_fits k n = record { spent = λ _. refl; sizes = λ e. absurd (true≢false e); some_share = λ e. absurd (true≢false e); past = λ e. absurd (off e) }
+nobody_fits k n = record { spent = λ _. refl; sizes = λ e. absurd (true≢false e); some_share = λ e. absurd (true≢false e); past = λ e. absurd (false≢true e) }
 
 pub joins : (k : Sizes) (id other : ℕ) (v w : BoardView) → v.is_spent ≡ false → w.is_spent ≡ false → Joins (Holds k) id v other w (both_of v w) nobody
 joins k id other v w live live_w s h at apart there =
@@ -148,8 +117,8 @@ joins k id other v w live live_w s h at apart there =
     let at_other = ⊎_elim (λ (t : (other ≡ id) × (b ≡ w)). absurd (apart t.0)) (λ (t : (other ≢ id) × (get_elem? s.views other ≡ some w)). t.1) (at_set s.views id other b w there) in
     let fit_w = h.each other w at_other in
     let one = fit.some_share live in
-    let fits_b : Fits k n b = record { spent = λ e. absurd (off (sym live ∙ e)); sizes = fit.sizes; some_share = λ _. omega (arith, one); past = or_true v.had_none w.had_none (k.tasks < n) fit.past fit_w.past } in record {
-      each = fits_set k n n (set s.views id b) other nobody (omega arith) (fits_set k n n s.views id b (omega arith) h.each fits_b) (nobody_fits k n);
+    let fits_b : Fits k n b = record { spent = λ e. absurd (false≢true (sym live ∙ e)); sizes = fit.sizes; some_share = λ _. omega (arith, one); past = λ e. ⊎_elim fit.past fit_w.past (or_cases v.had_none w.had_none e) } in record {
+      each = all_set (Fits k n) (set s.views id b) other nobody (all_set (Fits k n) s.views id b h.each fits_b) (nobody_fits k n);
       shares = (let t = total_set (λ u. u.share) s.views id v b at in let q = total_set (λ u. u.share) (set s.views id b) other w nobody there in let p = h.shares in omega (arith, t, q, p));
       claimed = λ x. (let t = total_set (λ u. times x u.claims) s.views id v b at in let q = total_set (λ u. times x u.claims) (set s.views id b) other w nobody there in let p = h.claimed x in let a = times-append x v.claims w.claims in omega (arith, t, q, p, a));
       one_word = h.one_word;

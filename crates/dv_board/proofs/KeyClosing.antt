@@ -1,28 +1,22 @@
 -- A key table at its beginning and at its end.
-use Rattle.dv_board.proofs.Vocabulary.{◌≡◌, ◌≢◌, ℕ, zero, suc, ◌+◌, ◌-◌, ◌*◌, ◌<◌, ◌≤◌, Bool, true, List, [], ◌∷◌, length, set, replicate, refl, sym, ap, ◌∙◌, subst, ⊎_elim, inr, arith, Option, some, some-ne-none, some-injective, get_elem?, cases_Bool, cases_eq, cases_lt, get_or_past}
+use Rattle.dv_board.proofs.Vocabulary.{◌≡◌, ◌≢◌, ℕ, ◌+◌, ◌-◌, ◌*◌, ◌<◌, ◌≤◌, Bool, false≢true, List, [], ◌∷◌, length, set, replicate, refl, sym, ap, ◌∙◌, subst, ⊎_elim, inr, arith, Option, some, get_elem?, cases_Bool, cases_eq, cases_lt, get_or_past}
 use Rattle.dv_board.proofs.Vocabulary.{length-replicate, set-get_or, State, Me, Allows, keeps, times, class_of, AreLawful, IsLeastOffered, AreLeastOffered, AreMarked, marked, Keys, KeyView, word_at, IsOffered, Fits, Holds, IsKept, fresh_view, first_view, whole_share}
-use Rattle.dv_board.proofs.Sums.{total_at, sole}
-use Rattle.dv_board.proofs.KeyMoves.{off}
+use Rattle.dv_board.proofs.Sums.{total_at, sole, at_only}
+use Rattle.dv_board.proofs.KeyMoves.{Stands}
 use Rattle.dv_board.proofs.KeyRoom.{slots_apart}
-use Rattle.dv_board.proofs.Listed.{zero_there, marked_ascends, is_marked, marked_has}
-
-first_only : (views : List KeyView) (P : KeyView → Type 0) (v : KeyView) → views ≡ v ∷ [] → P v → (id : ℕ) (u : KeyView) → get_elem? views id ≡ some u → P u
-first_only views P v is p id u at = only id (subst (λ l. get_elem? l id ≡ some u) is at)
-  where
-    only : (id : ℕ) → get_elem? (v ∷ []) id ≡ some u → P u
-    only zero e = subst P (some-injective v u e) p
-    only (suc i) e = absurd (some-ne-none u (sym e))
+use Rattle.dv_board.proofs.Listed.{all_default, marked_ascends, is_marked, marked_has}
 
 -- all slots are empty
 begins_with : (k : Keys) (words : List ℕ) (homes : List (Option ℕ)) → words ≡ replicate (2 * length k.classes + 1) 0 → Holds k record { words = words; homes = homes; views = first_view k ∷ [] }
 begins_with k words homes is =
     let v = first_view k in
-    let empty : (slot : ℕ) → word_at words slot ≡ 0 = λ slot. ap (λ l. word_at l slot) is ∙ zero_there (2 * length k.classes + 1) slot in record {
+    let fits : Fits k v = record { spent = λ e. absurd (false≢true e); keys = λ _. (refl, refl); some_share = λ _. omega arith } in
+    let all : (j : ℕ) (u : KeyView) → get_elem? (v ∷ []) j ≡ some u → Stands k words u = λ j u e. subst (Stands k words) (at_only v u j e).1 (fits, (λ a none. absurd (omega (arith, none))), (λ on. absurd (false≢true on))) in record {
       sized = ap length is ∙ length-replicate (2 * length k.classes + 1) 0;
-      each = first_only (v ∷ []) (Fits k) v refl record { spent = λ e. absurd (off e); keys = λ _. (refl, refl); some_share = λ _. omega arith };
-      taken = λ slot full. absurd (full (empty slot));
-      finished = first_only (v ∷ []) (λ u. (a : ℕ) → 1 ≤ times a u.offers → _) v refl (λ a one. absurd (omega (arith, one)));
-      probing = first_only (v ∷ []) (λ u. u.is_probing ≡ true → _) v refl (λ on. absurd (off on));
+      each = λ j u e. (all j u e).0;
+      taken = λ slot full. absurd (full (ap (λ l. word_at l slot) is ∙ all_default 0 (2 * length k.classes + 1) slot));
+      finished = λ j u e. (all j u e).1;
+      probing = λ j u e. (all j u e).2;
       shares = refl;
     }
 
@@ -32,17 +26,14 @@ begins_table size k slots id me is fits s kept len at _ =
     ⊎_elim
     (λ (new : (s.words ≡ replicate size 0) × (s.views ≡ fresh_view ∷ [])).
     let words : set s.words 0 (word_at s.words 0) ≡ replicate (2 * length k.classes + 1) 0 = set-get_or s.words 0 0 ∙ (new.0 ∙ ap (λ n. replicate n 0) fits) in
-    let views : set s.views id (first_view k) ≡ first_view k ∷ [] = ap (λ l. set l id (first_view k)) new.1 ∙ alone id (subst (λ l. get_elem? l id ≡ some me.0) new.1 at) in
+    let only = at_only fresh_view me.0 id (subst (λ l. get_elem? l id ≡ some me.0) new.1 at) in
+    let views : set s.views id (first_view k) ≡ first_view k ∷ [] = λ i. set (new.1 i) (only.0 i) (first_view k) in
     (first_view k, keeps, tt, inr (k, subst (λ l. Holds k record { words = set s.words 0 (word_at s.words 0); homes = s.homes; views = l }) (sym views) (begins_with k (set s.words 0 (word_at s.words 0)) s.homes words)), refl))
     (λ (held : (j : Keys) × Holds j s).
     let one = (held.1.each id me.0 at).some_share (ap (λ (m : Me ℕ KeyView). m.0.is_spent) is) in
     let none = ap (λ (m : Me ℕ KeyView). m.0.share) is in
     absurd (omega (arith, one, none)))
     kept
-  where
-    alone : (id : ℕ) → get_elem? (fresh_view ∷ []) id ≡ some me.0 → set (fresh_view ∷ []) id (first_view k) ≡ first_view k ∷ []
-    alone zero e = refl
-    alone (suc i) e = absurd (some-ne-none me.0 (sym e))
 
 -- the seat with every share has offered all that was offered
 offered_all : (k : Keys) (s : State ℕ KeyView) (id : ℕ) (v : KeyView) → Holds k s → get_elem? s.views id ≡ some v → v.share ≡ whole_share → (a : ℕ) → IsOffered s.views a → 1 ≤ times a v.offers

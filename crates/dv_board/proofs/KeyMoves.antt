@@ -1,10 +1,7 @@
 -- The two steps of an offer keep the rule: it takes an empty slot, or lowers the slot that it met.
-use Rattle.dv_board.proofs.Vocabulary.{◌≡◌, ◌≢◌, ◌⊎◌, ℕ, zero, suc, ◌+◌, ◌-◌, ◌%◌, ◌<◌, ◌≤◌, List, [], ◌∷◌, length, length-set, set, true, false, true≢false, refl, sym, ap, ◌∙◌, subst, ⊎_elim, arith, some, some-ne-none, some-injective, get_elem?, get_or-set_same, get_or-set_other, cases_eq}
-use Rattle.dv_board.proofs.Vocabulary.{cases_lt, State, at_set, set_here, set_else, times, class_of, home_of, AreLawful, Keys, KeyView, word_at, AreOthers, IsOffered, HasSlot, Fits, IsTaken, IsUnderWay, Holds, offered}
-use Rattle.dv_board.proofs.Sums.{total_set, times-append, times_one}
-
-pub off : false ≡ true → ⊥
-off e = true≢false (sym e)
+use Rattle.dv_board.proofs.Vocabulary.{◌≡◌, ◌≢◌, ◌⊎◌, ℕ, zero, suc, ◌+◌, ◌-◌, ◌%◌, ◌<◌, ◌≤◌, List, [], ◌∷◌, length, length-set, set, true, false, false≢true, refl, sym, ap, ◌∙◌, subst, ⊎_elim, arith, some, some-ne-none, some-injective, get_elem?, get_or-set_same, get_or-set_other, cases_eq}
+use Rattle.dv_board.proofs.Vocabulary.{cases_lt, State, set_here, set_else, total, times, class_of, home_of, AreLawful, Keys, KeyView, word_at, AreOthers, IsOffered, HasSlot, Fits, IsTaken, IsUnderWay, Holds, offered}
+use Rattle.dv_board.proofs.Sums.{total_set, all_set, times-append, times_last}
 
 pub times_miss : (x y : ℕ) → 1 ≤ times x (y ∷ []) → y ≡ x
 times_miss x y h = grind arith
@@ -21,16 +18,9 @@ pub class_below : (k : Keys) → AreLawful k → (a : ℕ) → a < length k.clas
 class_below k law a below = let t = law.least a below in omega (arith, t, below)
 
 -- a view that is not spent, in place of another with the same lists and share
-pub fits_set : (k : Keys) (views : List KeyView) (id : ℕ) (w : KeyView) → ((j : ℕ) (u : KeyView) → get_elem? views j ≡ some u → Fits k u) → Fits k w → (j : ℕ) (u : KeyView) → get_elem? (set views id w) j ≡ some u → Fits k u
-fits_set k views id w others mine j u e =
-    ⊎_elim
-    (λ (x : (j ≡ id) × (w ≡ u)). subst (Fits k) x.1 mine)
-    (λ (x : (j ≢ id) × (get_elem? views j ≡ some u)). others j u x.1)
-    (at_set views id j w u e)
-
 pub fits_live : (k : Keys) (v w : KeyView) → Fits k v → v.is_spent ≡ false → w.is_spent ≡ v.is_spent → w.classes ≡ v.classes → w.homes ≡ v.homes → w.share ≡ v.share → Fits k w
 fits_live k v w fit live spent classes homes share = let keys = fit.keys live in let one = fit.some_share live in record {
-  spent = λ e. absurd (off (sym (spent ∙ live) ∙ e));
+  spent = λ e. absurd (false≢true (sym (spent ∙ live) ∙ e));
   keys = λ _. (classes ∙ keys.0, homes ∙ keys.1);
   some_share = λ _. omega (arith, one, share);
 }
@@ -45,189 +35,152 @@ offered_set views id v w at more a o =
     (λ (apart : o.0 ≡ id → ⊥). (o.0, o.1, set_else views id o.0 w apart ∙ o.2, o.3))
     (cases_eq o.0 id)
 
--- an empty slot that becomes taken
-module _ (k : Keys) (ws : List ℕ) (p new : ℕ) (room : p < length ws) (empty : word_at ws p ≡ 0) where
-  here : word_at (set ws p new) p ≡ new
-  here = get_or-set_same ws p new 0 room
+offered_keeps : (views : List KeyView) (id : ℕ) (v : KeyView) → get_elem? views id ≡ some v → (a : ℕ) → IsOffered views a → IsOffered (set views id (offered v)) a
+offered_keeps views id v at = offered_set views id v (offered v) at (λ a one. let t = times-append a v.offers (v.item ∷ []) in omega (arith, t, one))
 
-  there : (j : ℕ) → word_at ws j ≢ 0 → word_at (set ws p new) j ≡ word_at ws j
-  there j full = get_or-set_other ws p j new 0 (λ e. full (ap (word_at ws) e ∙ empty))
+-- the offer that it finishes
+offered_now : (views : List KeyView) (id : ℕ) (v : KeyView) → get_elem? views id ≡ some v → IsOffered (set views id (offered v)) v.item
+offered_now views id v at = (id, offered v, set_here views id (offered v) (in_range views id v at), times_last v.offers v.item)
 
-  others_after : (from to c : ℕ) → AreOthers k ws from to c → AreOthers k (set ws p new) from to c
-  others_after from to c others j lo hi = let t = there j (others j lo hi).0 in
-      subst (λ n. (n ≢ 0) × (class_of k (n - 1) ≢ c)) (sym t) (others j lo hi)
+-- what the rule says of each view
+abbrev pub Stands : Keys → List ℕ → KeyView → Type 0
+Stands k ws u = Fits k u × ((a : ℕ) → 1 ≤ times a u.offers → HasSlot k ws a) × (u.is_probing ≡ true → IsUnderWay k ws u)
 
-  slot_after : (a : ℕ) → HasSlot k ws a → HasSlot k (set ws p new) a
-  slot_after a h = let t = there h.0 h.1 in
-      let kept = subst (λ n. (n ≢ 0) × (class_of k (n - 1) ≡ class_of k a) × (n - 1 ≤ a)) (sym t) (h.1, h.2, h.3) in
-      (h.0, kept.0, kept.1, kept.2)
+pub stands : (k : Keys) (s : State ℕ KeyView) → Holds k s → (j : ℕ) (u : KeyView) → get_elem? s.views j ≡ some u → Stands k s.words u
+stands k s h j u e = (h.each j u e, h.finished j u e, h.probing j u e)
 
-  under_way_after : (v : KeyView) → IsUnderWay k ws v → IsUnderWay k (set ws p new) v
-  under_way_after v h = record {
+-- the rule, where the views alone change
+pub views_change : (k : Keys) (s : State ℕ KeyView) (views : List KeyView) → Holds k s → ((j : ℕ) (u : KeyView) → get_elem? views j ≡ some u → Stands k s.words u) → ((a : ℕ) → IsOffered s.views a → IsOffered views a)
+    → total (λ u. u.share) views ≡ total (λ u. u.share) s.views → Holds k record { words = s.words; homes = s.homes; views = views }
+views_change k s views h each offers shares = record {
+  sized = h.sized;
+  each = λ j u e. (each j u e).0;
+  taken = λ i full. let t = h.taken i full in record { item = t.item; offered = offers _ t.offered; past_home = t.past_home; passed = t.passed };
+  finished = λ j u e. (each j u e).1;
+  probing = λ j u e. (each j u e).2;
+  shares = shares ∙ h.shares;
+}
+
+-- each taken slot stays taken, by an item of its class that is not greater
+abbrev Stay : Keys → List ℕ → List ℕ → Type 0
+Stay k ws xs = (j : ℕ) → word_at ws j ≢ 0 → (word_at xs j ≢ 0) × (class_of k (word_at xs j - 1) ≡ class_of k (word_at ws j - 1)) × (word_at xs j ≤ word_at ws j)
+
+-- a slot that becomes taken, or is lowered within its class
+stay_set : (k : Keys) (ws : List ℕ) (q new : ℕ) → q < length ws → new ≢ 0 → (word_at ws q ≢ 0 → (class_of k (new - 1) ≡ class_of k (word_at ws q - 1)) × (new ≤ word_at ws q)) → Stay k ws (set ws q new)
+stay_set k ws q new room kept low j full = ⊎_elim
+    (λ (e : j ≡ q).
+    let here : word_at (set ws q new) j ≡ new = ap (word_at (set ws q new)) e ∙ get_or-set_same ws q new 0 room in
+    let was : word_at ws j ≡ word_at ws q = ap (word_at ws) e in
+    let t = low (λ z. full (was ∙ z)) in
+    let le = t.1 in
+    ((λ z. kept (sym here ∙ z)), ap (λ n. class_of k (n - 1)) here ∙ (t.0 ∙ ap (λ n. class_of k (n - 1)) (sym was)), omega (arith, here, was, le)))
+    (λ (apart : j ≡ q → ⊥).
+    let same : word_at (set ws q new) j ≡ word_at ws j = get_or-set_other ws q j new 0 apart in
+    ((λ z. full (sym same ∙ z)), ap (λ n. class_of k (n - 1)) same, omega (arith, same)))
+    (cases_eq j q)
+
+module _ (k : Keys) (ws xs : List ℕ) (stay : Stay k ws xs) where
+  others_stay : (from to c : ℕ) → AreOthers k ws from to c → AreOthers k xs from to c
+  others_stay from to c others j lo hi = let was = others j lo hi in let t = stay j was.0 in (t.0, λ e. was.1 (sym t.1 ∙ e))
+
+  slot_stays : (a : ℕ) → HasSlot k ws a → HasSlot k xs a
+  slot_stays a h = let t = stay h.0 h.1 in let le = h.3 in let lo = t.2 in (h.0, t.0, t.1 ∙ h.2, omega (arith, le, lo))
+
+  under_way_stays : (v : KeyView) → IsUnderWay k ws v → IsUnderWay k xs v
+  under_way_stays v h = record {
     item = h.item;
-    passed = others_after _ _ _ h.passed;
-    met = λ met. let m = h.met met in subst (λ n. (n ≢ 0) × (class_of k (n - 1) ≡ class_of k v.item)) (sym (there _ m.0)) m;
+    passed = others_stay _ _ _ h.passed;
+    met = λ met. let m = h.met met in let t = stay _ m.0 in (t.0, t.1 ∙ m.1);
   }
+
+-- an offer is finished: its item, or one that is the same and not greater, is put into a slot
+puts : (k : Keys) (s : State ℕ KeyView) (id : ℕ) (v : KeyView) (q new : ℕ) → Holds k s → get_elem? s.views id ≡ some v → v.is_spent ≡ false → q < length s.words → new ≢ 0 → Stay k s.words (set s.words q new)
+    → class_of k (new - 1) ≡ class_of k v.item → new ≤ v.item + 1 → IsTaken k record { words = set s.words q new; homes = s.homes; views = set s.views id (offered v) } q (new - 1)
+    → Holds k record { words = set s.words q new; homes = s.homes; views = set s.views id (offered v) }
+puts k s id v q new h at live room kept stay class small taken =
+    let w = offered v in
+    let ws = set s.words q new in
+    let t : State ℕ KeyView = record { words = ws; homes = s.homes; views = set s.views id w } in
+    let spot : word_at ws q ≡ new = get_or-set_same s.words q new 0 room in
+    let has : (a : ℕ) → 1 ≤ times a w.offers → HasSlot k ws a = λ a one. ⊎_elim
+    (λ (old : 0 < times a v.offers). slot_stays k s.words ws stay a (h.finished id v at a (omega (arith, old))))
+    (λ (none : times a v.offers ≤ 0).
+    let n = times-append a v.offers (v.item ∷ []) in
+    subst (HasSlot k ws) (times_miss a v.item (omega (arith, n, none, one))) (q, (λ e. kept (sym spot ∙ e)), ap (λ n. class_of k (n - 1)) spot ∙ class, omega (arith, spot, small)))
+    (cases_lt 0 (times a v.offers)) in
+    let others : (j : ℕ) (u : KeyView) → get_elem? s.views j ≡ some u → Stands k ws u =
+    λ j u e. (h.each j u e, (λ a one. slot_stays k s.words ws stay a (h.finished j u e a one)), (λ on. under_way_stays k s.words ws stay u (h.probing j u e on))) in
+    let each = all_set (Stands k ws) s.views id w others (fits_live k v w (h.each id v at) live refl refl refl refl, has, λ on. absurd (false≢true on)) in record {
+      sized = length-set s.words q new ∙ h.sized;
+      each = λ j u e. (each j u e).0;
+      taken = λ i full. ⊎_elim
+          (λ (e : i ≡ q). subst (λ j. IsTaken k t j (word_at ws j - 1)) (sym e) (subst (λ n. IsTaken k t q (n - 1)) (sym spot) taken))
+          (λ (apart : i ≡ q → ⊥).
+          let same : word_at ws i ≡ word_at s.words i = get_or-set_other s.words q i new 0 apart in
+          let was = h.taken i (λ e. full (same ∙ e)) in
+          subst (λ n. IsTaken k t i (n - 1)) (sym same)
+          record { item = was.item; offered = offered_keeps s.views id v at _ was.offered; past_home = was.past_home; passed = others_stay k s.words ws stay _ _ _ was.passed })
+          (cases_eq i q);
+      finished = λ j u e. (each j u e).1;
+      probing = λ j u e. (each j u e).2;
+      shares = (let t = total_set (λ u. u.share) s.views id v w at in let q = h.shares in omega (arith, t, q));
+    }
 
 -- the exchange finds the slot empty: the offer is finished
 pub wins : (k : Keys) (s : State ℕ KeyView) (id : ℕ) (v : KeyView) (p : ℕ) → Holds k s → get_elem? s.views id ≡ some v → v.is_spent ≡ false → v.is_probing ≡ true
     → p ≡ home_of k v.item + v.passed → p < length s.words → word_at s.words p ≡ 0
     → Holds k record { words = set s.words p (v.item + 1); homes = s.homes; views = set s.views id (offered v) }
 wins k s id v p h at live probing is room empty =
-    let w = offered v in
     let ws = set s.words p (v.item + 1) in
-    let t : State ℕ KeyView = record { words = ws; homes = s.homes; views = set s.views id w } in
     let probe = h.probing id v at probing in
-    let more : (a : ℕ) → 1 ≤ times a v.offers → 1 ≤ times a w.offers = λ a one. let t = times-append a v.offers (v.item ∷ []) in omega (arith, t, one) in
-    let mine : word_at ws p ≡ v.item + 1 = here k s.words p (v.item + 1) room empty in
-    let last : v.item + 1 - 1 ≡ v.item = omega arith in record {
-      sized = length-set s.words p (v.item + 1) ∙ h.sized;
-      each = fits_set k s.views id w h.each (fits_live k v w (h.each id v at) live refl refl refl refl);
-      taken = λ i full. ⊎_elim
-          (λ (e : i ≡ p).
-          let item : word_at ws i - 1 ≡ v.item = ap (λ n. n - 1) (ap (word_at ws) e ∙ mine) ∙ last in
-          subst (IsTaken k t i) (sym item) record {
-            item = probe.item;
-            offered = (id, w, set_here s.views id w (in_range s.views id v at), (let t = times-append v.item v.offers (v.item ∷ []) in let o = times_one v.item in omega (arith, t, o)));
-            past_home = omega (arith, e, is);
-            passed = subst (λ to. AreOthers k ws (home_of k v.item) to (class_of k v.item)) (sym (e ∙ is)) (others_after k s.words p (v.item + 1) room empty _ _ _ probe.passed);
-          })
-          (λ (apart : i ≡ p → ⊥).
-          let same : word_at ws i ≡ word_at s.words i = get_or-set_other s.words p i (v.item + 1) 0 apart in
-          let was = h.taken i (λ e. full (same ∙ e)) in
-          subst (λ n. IsTaken k t i (n - 1)) (sym same)
-          record { item = was.item; offered = offered_set s.views id v w at more _ was.offered; past_home = was.past_home; passed = others_after k s.words p (v.item + 1) room empty _ _ _ was.passed })
-          (cases_eq i p);
-      finished = λ j u e a one. ⊎_elim
-          (λ (x : (j ≡ id) × (w ≡ u)).
-          let one' : 1 ≤ times a w.offers = subst (λ (y : KeyView). 1 ≤ times a y.offers) (sym x.1) one in
-          ⊎_elim
-          (λ (old : 0 < times a v.offers). slot_after k s.words p (v.item + 1) room empty a (h.finished id v at a (omega (arith, old))))
-          (λ (none : times a v.offers ≤ 0).
-          let t = times-append a v.offers (v.item ∷ []) in
-          let is_a : v.item ≡ a = times_miss a v.item (omega (arith, t, none, one')) in
-          subst (HasSlot k ws) is_a (p, (λ e. let m = sym mine ∙ e in omega (arith, m)), ap (class_of k) (ap (λ n. n - 1) mine ∙ last), (let m = mine in omega (arith, m))))
-          (cases_lt 0 (times a v.offers)))
-          (λ (x : (j ≢ id) × (get_elem? s.views j ≡ some u)). slot_after k s.words p (v.item + 1) room empty a (h.finished j u x.1 a one))
-          (at_set s.views id j w u e);
-      probing = λ j u e on. ⊎_elim
-          (λ (x : (j ≡ id) × (w ≡ u)). absurd (off (ap (λ (y : KeyView). y.is_probing) x.1 ∙ on)))
-          (λ (x : (j ≢ id) × (get_elem? s.views j ≡ some u)). under_way_after k s.words p (v.item + 1) room empty u (h.probing j u x.1 on))
-          (at_set s.views id j w u e);
-      shares = (let t = total_set (λ u. u.share) s.views id v w at in let q = h.shares in omega (arith, t, q));
-    }
-
--- a taken slot that is lowered within its class
-module _ (k : Keys) (ws : List ℕ) (q new : ℕ) (room : q < length ws) (full : word_at ws q ≢ 0) (kept : new ≢ 0) (low : new ≤ word_at ws q) (class : class_of k (new - 1) ≡ class_of k (word_at ws q - 1)) where
-  low_here : word_at (set ws q new) q ≡ new
-  low_here = get_or-set_same ws q new 0 room
-
-  -- each slot stays taken or empty, with an item of the same class that is not greater
-  Stays : ℕ → ℕ → Type 0
-  Stays n m = (n ≢ 0 → m ≢ 0) × (m ≢ 0 → n ≢ 0) × (class_of k (m - 1) ≡ class_of k (n - 1)) × (m ≤ n)
-
-  stays : (j : ℕ) → Stays (word_at ws j) (word_at (set ws q new) j)
-  unfolding Stays
-  stays j = ⊎_elim
-      (λ (e : j ≡ q). subst (λ i. Stays (word_at ws i) (word_at (set ws q new) i)) (sym e)
-      (subst (Stays (word_at ws q)) (sym low_here) ((λ _. kept), (λ _. full), class, low)))
-      (λ (apart : j ≡ q → ⊥). subst (Stays (word_at ws j)) (sym (get_or-set_other ws q j new 0 apart)) ((λ h. h), (λ h. h), refl, omega arith))
-      (cases_eq j q)
-
-  others_low : (from to c : ℕ) → AreOthers k ws from to c → AreOthers k (set ws q new) from to c
-  unfolding Stays
-  others_low from to c others j lo hi = let t = stays j in let was = others j lo hi in (t.0 was.0, λ e. was.1 (sym t.2 ∙ e))
-
-  slot_low : (a : ℕ) → HasSlot k ws a → HasSlot k (set ws q new) a
-  unfolding Stays
-  slot_low a h = let t = stays h.0 in let le = h.3 in let lo = t.3 in (h.0, t.0 h.1, t.2 ∙ h.2, omega (arith, le, lo))
-
-  under_way_low : (v : KeyView) → IsUnderWay k ws v → IsUnderWay k (set ws q new) v
-  unfolding Stays
-  under_way_low v h = record {
-    item = h.item;
-    passed = others_low _ _ _ h.passed;
-    met = λ met. let m = h.met met in let t = stays (home_of k v.item + v.passed) in (t.0 m.0, t.2 ∙ m.1);
-  }
+    let kept : v.item + 1 ≢ 0 = λ e. absurd (omega (arith, e)) in
+    let stay = stay_set k s.words p (v.item + 1) room kept (λ full. absurd (full empty)) in
+    let last : v.item ≡ v.item + 1 - 1 = omega arith in
+    puts k s id v p (v.item + 1) h at live room kept stay (ap (class_of k) (sym last)) (omega arith)
+    (subst (IsTaken k record { words = ws; homes = s.homes; views = set s.views id (offered v) } p) last record {
+      item = probe.item;
+      offered = offered_now s.views id v at;
+      past_home = omega (arith, is);
+      passed = subst (λ to. AreOthers k ws (home_of k v.item) to (class_of k v.item)) (sym is) (others_stay k s.words ws stay _ _ _ probe.passed);
+    })
 
 -- the met slot's item becomes the lesser of itself and the one that is offered: the offer is finished
 pub lowers : (k : Keys) → AreLawful k → (s : State ℕ KeyView) (id : ℕ) (v : KeyView) (q new : ℕ) → Holds k s → get_elem? s.views id ≡ some v → v.is_spent ≡ false → v.is_probing ≡ true → v.has_met ≡ true
     → q ≡ home_of k v.item + v.passed → q < length s.words → new ≢ 0 → new ≤ word_at s.words q → new ≤ v.item + 1 → (new ≡ word_at s.words q) ⊎ (new ≡ v.item + 1)
     → Holds k record { words = set s.words q new; homes = s.homes; views = set s.views id (offered v) }
 lowers k law s id v q new h at live probing met is room kept low small which =
-    let w = offered v in
-    let ws = set s.words q new in
-    let t : State ℕ KeyView = record { words = ws; homes = s.homes; views = set s.views id w } in
+    let views = set s.views id (offered v) in
     let probe = h.probing id v at probing in
     let m = subst (λ i. (word_at s.words i ≢ 0) × (class_of k (word_at s.words i - 1) ≡ class_of k v.item)) (sym is) (probe.met met) in
-    let more : (a : ℕ) → 1 ≤ times a v.offers → 1 ≤ times a w.offers = λ a one. let t = times-append a v.offers (v.item ∷ []) in omega (arith, t, one) in
     let was = h.taken q m.0 in
-    let mine : IsOffered (set s.views id w) v.item = (id, w, set_here s.views id w (in_range s.views id v at), (let t = times-append v.item v.offers (v.item ∷ []) in let o = times_one v.item in omega (arith, t, o))) in
-    let facts : (new - 1 < length k.classes) × IsOffered (set s.views id w) (new - 1) × (class_of k (new - 1) ≡ class_of k v.item) =
+    let facts : (new - 1 < length k.classes) × IsOffered views (new - 1) × (class_of k (new - 1) ≡ class_of k v.item) =
     ⊎_elim
-    (λ (e : new ≡ word_at s.words q). subst (λ n. (n - 1 < length k.classes) × IsOffered (set s.views id w) (n - 1) × (class_of k (n - 1) ≡ class_of k v.item)) (sym e)
-    (was.item, offered_set s.views id v w at more _ was.offered, m.1))
-    (λ (e : new ≡ v.item + 1). let last : v.item ≡ new - 1 = omega (arith, e) in subst (λ a. (a < length k.classes) × IsOffered (set s.views id w) a × (class_of k a ≡ class_of k v.item)) last (probe.item, mine, refl))
+    (λ (e : new ≡ word_at s.words q). subst (λ n. (n - 1 < length k.classes) × IsOffered views (n - 1) × (class_of k (n - 1) ≡ class_of k v.item)) (sym e)
+    (was.item, offered_keeps s.views id v at _ was.offered, m.1))
+    (λ (e : new ≡ v.item + 1). let last : v.item ≡ new - 1 = omega (arith, e) in subst (λ a. (a < length k.classes) × IsOffered views a × (class_of k a ≡ class_of k v.item)) last (probe.item, offered_now s.views id v at, refl))
     which in
     let class : class_of k (new - 1) ≡ class_of k (word_at s.words q - 1) = facts.2 ∙ sym m.1 in
     let home : home_of k (new - 1) ≡ home_of k (word_at s.words q - 1) = one_home k law _ _ facts.0 was.item class in
-    let spot : word_at ws q ≡ new = get_or-set_same s.words q new 0 room in record {
-      sized = length-set s.words q new ∙ h.sized;
-      each = fits_set k s.views id w h.each (fits_live k v w (h.each id v at) live refl refl refl refl);
-      taken = λ i full. ⊎_elim
-          (λ (e : i ≡ q).
-          let item : word_at ws i - 1 ≡ new - 1 = ap (λ n. n - 1) (ap (word_at ws) e ∙ spot) in
-          subst (IsTaken k t i) (sym item) record {
-            item = facts.0;
-            offered = facts.1;
-            past_home = (let le = was.past_home in omega (arith, le, home, e));
-            passed = others_low k s.words q new room m.0 kept low class (home_of k (new - 1)) i (class_of k (new - 1))
-                (λ j lo hi. let c = was.passed j (omega (arith, lo, home)) (omega (arith, hi, e)) in (c.0, λ x. c.1 (x ∙ class)));
-          })
-          (λ (apart : i ≡ q → ⊥).
-          let same : word_at ws i ≡ word_at s.words i = get_or-set_other s.words q i new 0 apart in
-          let old = h.taken i (λ e. full (same ∙ e)) in
-          subst (λ n. IsTaken k t i (n - 1)) (sym same)
-          record { item = old.item; offered = offered_set s.views id v w at more _ old.offered; past_home = old.past_home; passed = others_low k s.words q new room m.0 kept low class _ _ _ old.passed })
-          (cases_eq i q);
-      finished = λ j u e a one. ⊎_elim
-          (λ (x : (j ≡ id) × (w ≡ u)).
-          let one' : 1 ≤ times a w.offers = subst (λ (y : KeyView). 1 ≤ times a y.offers) (sym x.1) one in
-          ⊎_elim
-          (λ (old : 0 < times a v.offers). slot_low k s.words q new room m.0 kept low class a (h.finished id v at a (omega (arith, old))))
-          (λ (none : times a v.offers ≤ 0).
-          let t = times-append a v.offers (v.item ∷ []) in
-          let is_a : v.item ≡ a = times_miss a v.item (omega (arith, t, none, one')) in
-          subst (HasSlot k ws) is_a (q, (λ e. kept (sym spot ∙ e)), ap (class_of k) (ap (λ n. n - 1) spot) ∙ facts.2, (let n = spot in omega (arith, n, small))))
-          (cases_lt 0 (times a v.offers)))
-          (λ (x : (j ≢ id) × (get_elem? s.views j ≡ some u)). slot_low k s.words q new room m.0 kept low class a (h.finished j u x.1 a one))
-          (at_set s.views id j w u e);
-      probing = λ j u e on. ⊎_elim
-          (λ (x : (j ≡ id) × (w ≡ u)). absurd (off (ap (λ (y : KeyView). y.is_probing) x.1 ∙ on)))
-          (λ (x : (j ≢ id) × (get_elem? s.views j ≡ some u)). under_way_low k s.words q new room m.0 kept low class u (h.probing j u x.1 on))
-          (at_set s.views id j w u e);
-      shares = (let t = total_set (λ u. u.share) s.views id v w at in let p = h.shares in omega (arith, t, p));
+    let stay = stay_set k s.words q new room kept (λ _. (class, low)) in
+    puts k s id v q new h at live room kept stay facts.2 small record {
+      item = facts.0;
+      offered = facts.1;
+      past_home = (let le = was.past_home in omega (arith, le, home));
+      passed = others_stay k s.words (set s.words q new) stay (home_of k (new - 1)) q (class_of k (new - 1))
+          (λ j lo hi. let c = was.passed j (omega (arith, lo, home)) hi in (c.0, λ x. c.1 (x ∙ class)));
     }
 
+-- what a probe's start leaves as it was
+abbrev pub SameBut : KeyView → KeyView → Type 0
+SameBut v w = (w.offers ≡ v.offers) × (w.share ≡ v.share) × (w.classes ≡ v.classes) × (w.homes ≡ v.homes) × (w.is_spent ≡ v.is_spent)
+
 -- a view alone changes: it has the same offers, and a probe that is true
-pub begins : (k : Keys) (s : State ℕ KeyView) (id : ℕ) (v w : KeyView) → Holds k s → get_elem? s.views id ≡ some v → v.is_spent ≡ false → w.offers ≡ v.offers → w.share ≡ v.share → w.classes ≡ v.classes → w.homes ≡ v.homes → w.is_spent ≡ v.is_spent
-    → IsUnderWay k s.words w → Holds k record { words = s.words; homes = s.homes; views = set s.views id w }
-begins k s id v w h at live offers share classes homes spent probe = record {
-  sized = h.sized;
-  each = fits_set k s.views id w h.each (fits_live k v w (h.each id v at) live spent classes homes share);
-  taken = λ i full. let t = h.taken i full in record {
-    item = t.item;
-    offered = offered_set s.views id v w at (λ a one. subst (λ l. 1 ≤ times a l) (sym offers) one) _ t.offered;
-    past_home = t.past_home;
-    passed = t.passed;
-  };
-  finished = λ j u e a one. ⊎_elim
-      (λ (x : (j ≡ id) × (w ≡ u)). h.finished id v at a (subst (λ l. 1 ≤ times a l) (ap (λ (y : KeyView). y.offers) (sym x.1) ∙ offers) one))
-      (λ (x : (j ≢ id) × (get_elem? s.views j ≡ some u)). h.finished j u x.1 a one)
-      (at_set s.views id j w u e);
-  probing = λ j u e on. ⊎_elim
-      (λ (x : (j ≡ id) × (w ≡ u)). subst (IsUnderWay k s.words) x.1 probe)
-      (λ (x : (j ≢ id) × (get_elem? s.views j ≡ some u)). h.probing j u x.1 on)
-      (at_set s.views id j w u e);
-  shares = (let t = total_set (λ u. u.share) s.views id v w at in let q = h.shares in omega (arith, t, q, share));
-}
+pub begins : (k : Keys) (s : State ℕ KeyView) (id : ℕ) (v w : KeyView) → Holds k s → get_elem? s.views id ≡ some v → v.is_spent ≡ false → SameBut v w → IsUnderWay k s.words w
+    → Holds k record { words = s.words; homes = s.homes; views = set s.views id w }
+begins k s id v w h at live same probe =
+    let share = same.1 in
+    let fits = fits_live k v w (h.each id v at) live same.4 same.2 same.3 share in
+    views_change k s (set s.views id w) h
+    (all_set (Stands k s.words) s.views id w (stands k s h) (fits, (λ a one. h.finished id v at a (subst (λ l. 1 ≤ times a l) same.0 one)), (λ _. probe)))
+    (offered_set s.views id v w at (λ a one. subst (λ l. 1 ≤ times a l) (sym same.0) one))
+    (let t = total_set (λ u. u.share) s.views id v w at in omega (arith, t, share))

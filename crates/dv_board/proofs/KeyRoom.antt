@@ -1,7 +1,7 @@
 -- A probe has passed fewer slots than there are items, since the slots that it passed are of different classes.
-use Rattle.dv_board.proofs.Vocabulary.{◌≡◌, ◌≢◌, ℕ, zero, suc, ◌+◌, ◌-◌, ◌<◌, ◌≤◌, List, [], ◌∷◌, length, true, false, refl, sym, subst, ⊎_elim, arith, eqb, ne_eqb, cases_eq, list_any, IsDistinct, AllByRecursion, ◌||◌, length-le_from_distinct_below, State, class_of, home_of, AreLawful, Keys}
+use Rattle.dv_board.proofs.Vocabulary.{◌≡◌, ◌≢◌, ℕ, zero, suc, ◌+◌, ◌-◌, ◌<◌, ◌≤◌, List, [], ◌∷◌, length, true, false, false≢true, refl, sym, subst, ⊎_elim, arith, eqb, ne_eqb, cases_eq, list_any, IsDistinct, AllByRecursion, ◌||◌, length-le_from_distinct_below, State, class_of, home_of, AreLawful, Keys}
 use Rattle.dv_board.proofs.Vocabulary.{KeyView, word_at, AreOthers, Holds}
-use Rattle.dv_board.proofs.KeyMoves.{off, one_home, class_below}
+use Rattle.dv_board.proofs.KeyMoves.{one_home, class_below}
 
 -- the classes of m slots from one on
 seq : Keys → List ℕ → ℕ → ℕ → List ℕ
@@ -27,7 +27,7 @@ distinct_seq k ws from (suc m) h = (
 )
 
 any_below : (n q : ℕ) (xs : List ℕ) → AllByRecursion (λ y. y < n) xs → list_any (eqb q) xs ≡ true → q < n
-any_below n q [] h e = absurd (off e)
+any_below n q [] h e = absurd (false≢true e)
 any_below n q (x ∷ xs) h e = ⊎_elim
     (λ (same : q ≡ x). let lt = h.0 in omega (arith, same, lt))
     (λ (apart : q ≡ x → ⊥). any_below n q xs h.1 (subst (λ b. (b || list_any (eqb q) xs) ≡ true) (ne_eqb q x apart) e))

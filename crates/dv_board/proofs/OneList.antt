@@ -1,5 +1,5 @@
 -- Two ascending lists with the same numbers are one list.
-use Rattle.dv_board.proofs.Vocabulary.{◌≡◌, ◌⊎◌, ℕ, zero, suc, ◌<◌, List, [], ◌∷◌, Contains, refl, sym, subst, ⊎_elim, inl, inr, arith, Less, AllByRecursion, IsStrictlySortedBy, nat_cmp, AreLeastOffered, HasEach, LeastIsOneList, Keys}
+use Rattle.dv_board.proofs.Vocabulary.{◌≡◌, ◌⊎◌, ℕ, zero, suc, ◌<◌, List, [], ◌∷◌, Contains, Contains-append_right, refl, sym, subst, ⊎_elim, inl, inr, arith, Less, AllByRecursion, IsStrictlySortedBy, nat_cmp, AreLeastOffered, HasEach, LeastIsOneList, Keys}
 
 less_below : (x y : ℕ) → nat_cmp x y ≡ Less → x < y
 less_below x y e = grind (arith, e)
@@ -12,9 +12,6 @@ above_head x a (y ∷ ys) h (suc k, under, there) = above_head x a ys h.1 (k, om
 head_or_tail : (x a : ℕ) (xs : List ℕ) → Contains (x ∷ xs) a → (x ≡ a) ⊎ Contains xs a
 head_or_tail x a xs (zero, under, there) = inl there
 head_or_tail x a xs (suc k, under, there) = inr (k, omega (arith, under), there)
-
-in_tail : (x a : ℕ) (xs : List ℕ) → Contains xs a → Contains (x ∷ xs) a
-in_tail x a xs (k, under, there) = (suc k, omega (arith, under), there)
 
 one_list : (xs ys : List ℕ) → IsStrictlySortedBy nat_cmp xs → IsStrictlySortedBy nat_cmp ys → ((a : ℕ) → Contains xs a → Contains ys a) → ((a : ℕ) → Contains ys a → Contains xs a) → xs ≡ ys
 unfolding IsStrictlySortedBy
@@ -33,11 +30,11 @@ one_list (x ∷ xs) (y ∷ ys) p q f g =
     (λ a has. ⊎_elim
     (λ (e : y ≡ a). let lt = above_head x a xs p.0 has in absurd (omega (arith, lt, e, same)))
     (λ (there : Contains ys a). there)
-    (head_or_tail y a ys (f a (in_tail x a xs has))))
+    (head_or_tail y a ys (f a (Contains-append_right (x ∷ []) xs a has))))
     (λ a has. ⊎_elim
     (λ (e : x ≡ a). let lt = above_head y a ys q.0 has in absurd (omega (arith, lt, e, same)))
     (λ (there : Contains xs a). there)
-    (head_or_tail x a xs (g a (in_tail y a ys has)))) in
+    (head_or_tail x a xs (g a (Contains-append_right (y ∷ []) ys a has)))) in
     λ i. same i ∷ rest i
 
 -- a least item of the one is in the other

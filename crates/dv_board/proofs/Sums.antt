@@ -1,5 +1,5 @@
 -- Sums over the views of seats, and counts of a number in a list.
-use Rattle.dv_board.proofs.Vocabulary.{◌≡◌, ℕ, zero, suc, ◌+◌, ◌≤◌, List, [], ◌∷◌, ◌++◌, set, refl, sym, ap, arith, some, some-ne-none, some-injective, get_elem?, total, times}
+use Rattle.dv_board.proofs.Vocabulary.{◌≡◌, ◌≢◌, ℕ, zero, suc, ◌+◌, ◌≤◌, List, [], ◌∷◌, ◌++◌, set, refl, sym, ap, subst, ⊎_elim, at_set, at_snoc, arith, some, some-ne-none, some-injective, get_elem?, total, times}
 
 module _ {V : Type 0} where
   pub total_set : (f : V → ℕ) (views : List V) (i : ℕ) (v w : V) → get_elem? views i ≡ some v → total f (set views i w) + f v ≡ total f views + f w
@@ -32,6 +32,19 @@ module _ {V : Type 0} where
       let t = total_at share xs i v e in
       let a = z 0 x refl (omega (arith, all, t)) in
       let b = sole share f xs i v e (omega (arith, all, t)) (λ j u. z (suc j) u) in omega (arith, a, b)
+
+  -- what holds of each view, after one took the place of another
+  pub all_set : (P : V → Type 0) (views : List V) (i : ℕ) (w : V) → ((j : ℕ) (u : V) → get_elem? views j ≡ some u → P u) → P w → (j : ℕ) (u : V) → get_elem? (set views i w) j ≡ some u → P u
+  all_set P views i w all mine j u e = ⊎_elim (λ (x : (j ≡ i) × (w ≡ u)). subst P x.1 mine) (λ (x : (j ≢ i) × (get_elem? views j ≡ some u)). all j u x.1) (at_set views i j w u e)
+
+  -- and after one came last
+  pub all_snoc : (P : V → Type 0) (views : List V) (w : V) → ((j : ℕ) (u : V) → get_elem? views j ≡ some u → P u) → P w → (j : ℕ) (u : V) → get_elem? (views ++ w ∷ []) j ≡ some u → P u
+  all_snoc P views w all mine j u e = ⊎_elim (λ was. all j u was) (λ (same : w ≡ u). subst P same mine) (at_snoc views w u j e)
+
+  -- the views of one seat
+  pub at_only : (v u : V) (i : ℕ) → get_elem? (v ∷ []) i ≡ some u → (i ≡ 0) × (v ≡ u)
+  at_only v u zero e = (refl, some-injective v u e)
+  at_only v u (suc i) e = absurd (some-ne-none u (sym e))
 
 pub times-append : (x : ℕ) (xs ys : List ℕ) → times x (xs ++ ys) ≡ times x xs + times x ys
 times-append x [] ys = omega arith

@@ -9,11 +9,6 @@ front_twice a b (Some left) = ap Some (append_assoc a b left)
 pub came_same : (old new : List ℕ) (left rest : Option (List ℕ)) → Came old new left rest → in_front new rest ≡ in_front old left
 came_same old new left rest came = ap (λ l. in_front l rest) came.is ∙ front_twice old came.piece rest ∙ ap (in_front old) (sym came.read)
 
--- nothing came
-pub came_nothing : (bytes : List ℕ) (left : Option (List ℕ)) → Came bytes bytes left left
-came_nothing bytes None = record { piece = []; is = sym (append-nil bytes); read = refl }
-came_nothing bytes (Some left) = record { piece = []; is = sym (append-nil bytes); read = refl }
-
 pub came_twice : (a b c : List ℕ) (left mid rest : Option (List ℕ)) → Came a b left mid → Came b c mid rest → Came a c left rest
 came_twice a b c left mid rest first second = record {
   piece = first.piece ++ second.piece;

@@ -48,11 +48,6 @@ cut_held held (Some more) ended none may short some =
     let all : held ≡ held ++ more = sym (append-nil held) ∙ ap (λ l. held ++ l) (sym ended) in
     subst EndsInHead all (record { some = some; short = less; none = subst HasNoRequest whole none; may = subst MayBecomeRequest whole may })
 
-pub nothing_held : (held : List ℕ) (left : Option (List ℕ)) → HasEnded left → length held ≡ 0 → IfSome (in_front held left) (λ bytes. bytes ≡ [])
-nothing_held held None ended none = tt
-nothing_held [] (Some more) ended none = ended
-nothing_held (byte ∷ held) (Some more) ended none = absurd (omega (arith, none))
-
 -- the fields of a head are at most as many as there are spans
 pub fields_fit : (bytes : List ℕ) (spans : List HeaderSpan) (found : RequestSpans) (head : RequestHead) → IsRequestAt bytes spans found head → length head.fields ≤ length spans
 fields_fit bytes spans found head is =

@@ -6,36 +6,20 @@ use Rattle.dv_http.proofs.Vocabulary.{BodyWaits, HasNoRequest, HasNoWhole, Reads
 use Rattle.dv_http.proofs.Bodies.{front_twice}
 use Rattle.dv_http.proofs.Fronts.{head_held}
 
--- no head was found
-pub refuses_found : (all : Option (List ℕ)) (held : List ℕ) (spans : List HeaderSpan) (error : WireError) → FindsHead all held spans (Err error) → IfSome all (λ bytes. Refuses bytes error)
-refuses_found None held spans error found = tt
-refuses_found (Some bytes) held spans Head found = inl found
-refuses_found (Some bytes) held spans Cut found = inl found
-refuses_found (Some bytes) held spans ReadFault found = tt
-refuses_found (Some bytes) held spans NoLength found = absurd found
-refuses_found (Some bytes) held spans BodyTooLong found = absurd found
-refuses_found (Some bytes) held spans Spent found = absurd found
-refuses_found (Some bytes) held spans Memory found = absurd found
-
 -- a head has no proper length
 refuses_head : (bytes : List ℕ) (head : RequestHead) (rest : List ℕ) (error : WireError) → HasHead bytes head rest → IsHeadOf head (Err error) → Refuses bytes error
 refuses_head bytes head rest Head has is = inr (record { head = head; rest = rest; has = has; is = is })
 refuses_head bytes head rest NoLength has is = record { head = head; rest = rest; has = has; is = is }
 refuses_head bytes head rest BodyTooLong has is = record { head = head; rest = rest; has = has; is = is }
 refuses_head bytes head rest Memory has is = tt
-refuses_head bytes head rest Cut has is = absurd is
-refuses_head bytes head rest Spent has is = absurd is
-refuses_head bytes head rest ReadFault has is = absurd is
+refuses_head bytes head rest error has is = absurd is
 
 -- a body did not come whole
 refuses_body : (bytes : List ℕ) (head : RequestHead) (rest : List ℕ) (count : ℕ) (others : Option (List ℕ)) (error : WireError) → HasHead bytes head rest → length_of head ≡ Ok count → GivesBody count (Some rest) others (Err error) → Refuses bytes error
 refuses_body bytes head rest count others Cut has is gives = inr (record { head = head; rest = rest; has = has; count = count; is = is; short = gives })
 refuses_body bytes head rest count others ReadFault has is gives = tt
 refuses_body bytes head rest count others Memory has is gives = tt
-refuses_body bytes head rest count others Head has is gives = absurd gives
-refuses_body bytes head rest count others NoLength has is gives = absurd gives
-refuses_body bytes head rest count others BodyTooLong has is gives = absurd gives
-refuses_body bytes head rest count others Spent has is gives = absurd gives
+refuses_body bytes head rest count others error has is gives = absurd gives
 
 -- a body came whole
 begins : (bytes : List ℕ) (head : RequestHead) (rest body : List ℕ) (others : Option (List ℕ)) → HasHead bytes head rest → length_of head ≡ Ok (length body) → Some rest ≡ in_front body others → IsSomeAnd others (λ left. BeginsWith bytes (request_of head body) left)
@@ -57,11 +41,7 @@ abbrev number : Result ℕ WireError → ℕ
 number (Ok n) = n
 number (Err e) = 0
 
--- what is no head is no request
-pub no_whole_head : (held : List ℕ) → HasNoRequest held → HasNoWhole held
-no_whole_head held none request others begins = none begins.head (begins.body ++ others) begins.has.reads
-
--- nor is a head and less than its body
+-- a head and less than its body is no request
 no_whole_body : (bytes : List ℕ) (head : RequestHead) (got : List ℕ) (count : ℕ) → ReadsRequest bytes head got → length_of head ≡ Ok count → length got < count → HasNoWhole bytes
 no_whole_body bytes head got count reads is short request others begins =
     let same = request_unique bytes head begins.head got (begins.body ++ others) reads begins.has.reads in

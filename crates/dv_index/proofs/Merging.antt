@@ -1,6 +1,6 @@
 -- Merging from the back: what was moved so far, and that it stands in order.
 use Rattle.dv_index.proofs.Vocabulary.{◌≡◌, ℕ, ◌+◌, ◌<◌, ◌≤◌, inl, inr, Bool, true, false, List, [], ◌∷◌, ◌++◌, length, get_or, take, drop, refl, sym, ◌∙◌, ap, subst, arith, append_assoc, append-nil, length-append, Contains, not, IsStrictWeakOrder, AllPairs, IsPartitionPoint, IsPartitionedBy}
-use Rattle.dv_index.proofs.Vocabulary.{IsPermutation, IsSortedBy, not_from_false, not-false, not-true, drop_all, drop_at, drop_more, get_or-append-add, get_or_append_left, get_or_default, length-take-le, take-append-drop, take-take, take_all, take_at, take_more, Contains-append_cases}
+use Rattle.dv_index.proofs.Vocabulary.{IsPermutation, IsSortedBy, not_from_false, not-false, not-true, drop_all, drop-append-le, drop_more, get_or-append-add, get_or_append_left, get_or-take, get_or-drop, length-drop, get_or_default, length-take-le, take-append-drop, take-take, take_all, take_at, take_more, Contains-append_cases}
 use Rattle.dv_index.proofs.Vocabulary.{Contains-append_left, Contains-append_right, Contains-get_or, AllPairs-cons, IsPermutation-append_right, IsPermutation-cons, IsPermutation-middle, IsPermutation-refl, IsPermutation-trans, sorted_far, Contains-cons_cases, Contains-cons_here}
 use Rattle.dv_index.proofs.Vocabulary.{Contains-cons_there}
 
@@ -48,27 +48,19 @@ module _ {X : Type 0} (lt : X → X → Bool) where
     put_between : (a b c f : List X) (x : X) → Rising lt ((a ++ b) ++ f) → Rising lt ((c ++ x ∷ []) ++ f) → ((y : X) → Contains a y → lt x y ≡ false) → ((y : X) → Contains b y → lt x y ≡ true)
         → Rising lt (a ++ x ∷ (b ++ f)) × Rising lt (c ++ x ∷ (b ++ f))
     put_between a b c f x olds news first second = (
-      rising_append a (x ∷ (b ++ f)) (rising_left a b (rising_left (a ++ b) f olds)) rest (λ y z y_in z_in.
-          elim (Contains-cons_cases x (b ++ f) z z_in) [
-            | inl same ↦ subst (λ w. lt w y ≡ false) same (first y y_in)
-            | inr more ↦
-                elim (Contains-append_cases b f z more) [
-                  | inl in_b ↦ rising_cross a b (rising_left (a ++ b) f olds) y z y_in in_b
-                  | inr in_f ↦ rising_cross (a ++ b) f olds y z (Contains-append_left a b y y_in) in_f
-                ]
-          ]),
-      rising_append c (x ∷ (b ++ f)) (rising_left c (x ∷ []) (rising_left (c ++ x ∷ []) f news)) rest (λ y z y_in z_in.
-          let to_x : lt x y ≡ false = rising_cross c (x ∷ []) (rising_left (c ++ x ∷ []) f news) y x y_in (Contains-cons_here x []) in
-          elim (Contains-cons_cases x (b ++ f) z z_in) [
-            | inl same ↦ subst (λ w. lt w y ≡ false) same to_x
-            | inr more ↦
-                elim (Contains-append_cases b f z more) [
-                  | inl in_b ↦ o.chain z x y (o.one_way x z (second z in_b)) to_x
-                  | inr in_f ↦ rising_cross (c ++ x ∷ []) f news y z (Contains-append_left c (x ∷ []) y y_in) in_f
-                ]
-          ]),
+      ahead a (rising_left a b ab) first (rising_cross a b ab) (λ y z y_in. rising_cross (a ++ b) f olds y z (Contains-append_left a b y y_in)),
+      ahead c (rising_left c (x ∷ []) cx) to_x (λ y z y_in z_in. o.chain z x y (o.one_way x z (second z z_in)) (to_x y y_in)) (λ y z y_in. rising_cross (c ++ x ∷ []) f news y z (Contains-append_left c (x ∷ []) y y_in)),
     )
       where
+        ab : Rising lt (a ++ b)
+        ab = rising_left (a ++ b) f olds
+
+        cx : Rising lt (c ++ x ∷ [])
+        cx = rising_left (c ++ x ∷ []) f news
+
+        to_x : (y : X) → Contains c y → lt x y ≡ false
+        to_x y y_in = rising_cross c (x ∷ []) cx y x y_in (Contains-cons_here x [])
+
         rest : Rising lt (x ∷ (b ++ f))
         rest =
             rising_cons x (b ++ f) (λ y has.
@@ -76,7 +68,18 @@ module _ {X : Type 0} (lt : X → X → Bool) where
               | inl in_b ↦ o.one_way x y (second y in_b)
               | inr in_f ↦ rising_cross (c ++ x ∷ []) f news x y (Contains-append_right c (x ∷ []) x (Contains-cons_here x [])) in_f
             ])
-            (rising_append b f (rising_right a b (rising_left (a ++ b) f olds)) (rising_right (a ++ b) f olds) (λ y z y_in z_in. rising_cross (a ++ b) f olds y z (Contains-append_right a b y y_in) z_in))
+            (rising_append b f (rising_right a b ab) (rising_right (a ++ b) f olds) (λ y z y_in. rising_cross (a ++ b) f olds y z (Contains-append_right a b y y_in)))
+
+        ahead : (p : List X) → Rising lt p → ((y : X) → Contains p y → lt x y ≡ false) → ((y z : X) → Contains p y → Contains b z → lt z y ≡ false) → ((y z : X) → Contains p y → Contains f z → lt z y ≡ false) → Rising lt (p ++ x ∷ (b ++ f))
+        ahead p up before to_b to_f = rising_append p (x ∷ (b ++ f)) up rest (λ y z y_in z_in.
+            elim (Contains-cons_cases x (b ++ f) z z_in) [
+              | inl same ↦ subst (λ w. lt w y ≡ false) same (before y y_in)
+              | inr more ↦
+                  elim (Contains-append_cases b f z more) [
+                    | inl in_b ↦ to_b y z y_in in_b
+                    | inr in_f ↦ to_f y z y_in in_f
+                  ]
+            ])
 
 -- it is moved to what is done
 moved_more : {X : Type 0} (b d n f : List X) (x : X) → IsPermutation (d ++ n) f → IsPermutation ((b ++ d) ++ x ∷ n) (x ∷ (b ++ f))
@@ -108,10 +111,6 @@ module _ (lt : ℕ → ℕ → Bool) (o : IsStrictWeakOrder lt) (old new : List 
         olds = rw (none, take_all (length old) old (omega arith), append-nil) (rising_from_sorted lt o old up);
         news = rw (none, take_all (length new) new (omega arith), append-nil) (rising_from_sorted lt o new vp);
       }
-
-  -- the old numbers that are not moved yet stand in order
-  pub front_sorted : (index : List ℕ) (end left : ℕ) → IsMerging index end left → IsSortedBy lt (take end index)
-  front_sorted index end left m = rw m.front (sorted_from_rising lt (take end old) (rising_left lt (take end old) (drop (end + left) index) m.olds))
 
   -- the last of the new ones that are left goes in
   pub goes_on : (index next : List ℕ) (end left l place x : ℕ) → IsMerging index end left → left ≡ l + 1 → x ≡ get_or new l 0 → place ≤ end
@@ -154,38 +153,21 @@ module _ (lt : ℕ → ℕ → Bool) (o : IsStrictWeakOrder lt) (old new : List 
       rest_new = rw one (drop_more new l 0 inside ∙ rw number refl)
 
       rest_old : drop place old ≡ b ++ drop end old
-      rest_old = first_rest
-        where
-          whole : old ≡ (take place old ++ b) ++ drop end old
-          whole = sym (take-append-drop end old) ∙ ap (λ l. l ++ drop end old) split
+      rest_old = ap (drop place) (sym (take-append-drop end old)) ∙ drop-append-le place (take end old) (drop end old) (omega (arith, before, length-take-le end old m.end_in))
 
-          short : length (take place old) ≡ place
-          short = length-take-le place old (omega (arith, m.end_in))
-
-          first_rest : drop place old ≡ b ++ drop end old
-          first_rest = ap (drop place) (whole ∙ append_assoc (take place old) b (drop end old)) ∙ drop_at (take place old) (b ++ drop end old) place short
-
-      count : length (take end index) ≡ end
-      count = length-take-le end index (omega (arith, m.long, m.end_in))
+      parted : IsPartitionPoint (λ y. not (lt x y) ≡ true) (λ y. not (lt x y) ≡ false) (take end old) place
+      parted = rw m.front at point
 
       first : (y : ℕ) → Contains (take place old) y → lt x y ≡ false
       first y (k, under, there) =
-          let small : k < place = (let short = length-take-le place old (omega (arith, m.end_in)) in omega arith) in
-          let passes = point.0 k y (omega arith) small in
-          let is : get_or (take end index) k y ≡ y = rw (m.front, split) (get_or_append_left (take place old) b y k under ∙ there) in
-          not-true (lt x y) (rw is at passes)
+          let small : k < place = omega (arith, under, length-take-le place old (omega (arith, m.end_in))) in
+          let is : get_or (take end old) k y ≡ y = sym (get_or-take place (take end old) k y small) ∙ rw (take-take place end old before) there in
+          not-true (lt x y) (rw is at (parted.0 k y (omega arith) small))
 
       second : (y : ℕ) → Contains b y → lt x y ≡ true
       second y (k, under, there) =
-          let short : length (take place old) ≡ place = length-take-le place old (omega (arith, m.end_in)) in
-          let all : length (take end old) ≡ place + length b = ap length split ∙ length-append (take place old) b ∙ rw short refl in
-          let long_end : length (take end old) ≡ end = length-take-le end old m.end_in in
-          let is : get_or (take end index) (place + k) y ≡ y = rw (m.front, split) (get_or_behind (take place old) b place k y short ∙ there) in
-          let fails = point.1 (place + k) y (omega arith) (omega (arith, count, all, long_end, under)) in
-          not-false (lt x y) (rw is at fails)
-        where
-          get_or_behind : (xs ys : List ℕ) (n k d : ℕ) → length xs ≡ n → get_or (xs ++ ys) (n + k) d ≡ get_or ys k d
-          get_or_behind xs ys n k d e = rw (← e) (get_or-append-add xs ys k d)
+          let fails = parted.1 (place + k) y (omega arith) (omega (arith, length-drop place (take end old), under)) in
+          not-false (lt x y) (rw (sym (get_or-drop place (take end old) k y) ∙ there) at fails)
 
       both : Rising lt (take place old ++ x ∷ (b ++ f)) × Rising lt (take l new ++ x ∷ (b ++ f))
       both = put_between lt o (take place old) b (take l new) f x (rw (← split) m.olds) (rw (← last) m.news) first second

@@ -14,7 +14,7 @@ pub use Rattle.std.proofs.Math.Seq.{paste}
 pub use Rattle.std.proofs.lemmas.Bool.{cases_lt, le-leb, leb-true, not-true, not_from_false}
 pub use Rattle.std.proofs.lemmas.Cmp.{nat_cmp_total, nat_list_cmp_total, tied_itself}
 pub use Rattle.std.proofs.lemmas.Fn.{always_returns_same}
-pub use Rattle.std.proofs.lemmas.List.{drop-set, drop-take, drop_all, drop_at, get_or-append-add, get_or-take, get_or_append_left, length-drop, length-take-le, map-append, map_push, reverse-append, take-append-drop, take-take, take_all, take_at}
+pub use Rattle.std.proofs.lemmas.List.{drop-append-le, drop-set, drop-take, drop_all, drop_at, get_or-append-add, get_or-drop, get_or-take, get_or_append_left, length-drop, length-take-le, map-append, map_push, reverse-append, take-append-drop, take-take, take_all, take_at}
 pub use Rattle.std.proofs.lemmas.List.Edits.{length-paste}
 pub use Rattle.std.proofs.lemmas.List.Elements.{All-from_get_or, All-get_or}
 pub use Rattle.std.proofs.lemmas.List.Folds.{find-append, list_all-map}

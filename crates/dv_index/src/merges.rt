@@ -27,6 +27,7 @@ fn count_up_to<R: Placed>(rows: &[R], index: &[usize], number: usize) -> usize
 }
 
 // Moves the numbers from a place to an end behind so many free places and one more, in which a number goes.
+#[tactic(auto, using(crate::proofs::Moves::put_back))]
 fn put_before(index: &mut [usize], place: usize, end: usize, free: usize, number: usize)
     requires range { place ≤ end }
     requires room { end + free < length index.old }

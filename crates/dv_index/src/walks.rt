@@ -51,6 +51,7 @@ fn last_rows<'a, R: Placed>(
 }
 
 // The last row of each parent that is not later than the date, by parent.
+#[tactic(auto, using(crate::proofs::Walk::walk_is))]
 pub(crate) fn latest_of_each<'a, R: Placed>(
     alloc: Global,
     rows: &'a [R],

@@ -1,6 +1,6 @@
 -- Names that stood earlier, the last of them first.
-use Rattle.dv_judge.proofs.Vocabulary.{◌≡◌, ℕ, ◌+◌, ◌<◌, Bool, true, false, cond, List, [], ◌∷◌, Some, length, get_or, take, drop, map, refl, sym, ◌∙◌, ap, is_some, position, reverse, list_any, bytes_eq, drop_more, take_more, map-append, reverse-append, IsPermutation-reverse}
-use Rattle.dv_judge.proofs.Vocabulary.{list_any-IsPermutation, FeedDef, ExtractIn, Mapping, is_feed, repeated_name, is_placed, list_any-map}
+use Rattle.dv_judge.proofs.Vocabulary.{◌≡◌, ℕ, ◌+◌, ◌<◌, Bool, true, false, cond, List, [], Some, length, get_or, take, drop, map, sym, ◌∙◌, ap, is_some, position, reverse, list_any, bytes_eq, drop_more, take_more, map-append}
+use Rattle.dv_judge.proofs.Vocabulary.{reverse-append, IsPermutation-reverse, list_any-IsPermutation, FeedDef, ExtractIn, Mapping, is_feed, repeated_name, is_placed, list_any-map, rules}
 
 -- the feeds of extracts, the last first
 abbrev pub feeds_back : List ExtractIn → List (List ℕ)
@@ -16,13 +16,7 @@ turn : (xs : List ExtractIn) (i : ℕ) (d : ExtractIn) → i < length xs
     → repeated_name (feeds_back (take i xs)) (map (λ extract. extract.feed) (drop i xs))
     ≡ cond (list_any (λ extract. bytes_eq (get_or xs i d).feed extract.feed) (take i xs)) (Some (get_or xs i d).feed)
     (repeated_name (feeds_back (take (i + 1) xs)) (map (λ extract. extract.feed) (drop (i + 1) xs)))
-turn xs i d at =
-    let back : feeds_back (take (i + 1) xs) ≡ (get_or xs i d).feed ∷ feeds_back (take i xs) =
-    ap feeds_back (take_more xs i d at)
-    ∙ ap reverse (map-append (λ (extract : ExtractIn). extract.feed) (take i xs) (get_or xs i d ∷ []))
-    ∙ reverse-append (map (λ (extract : ExtractIn). extract.feed) (take i xs)) ((get_or xs i d).feed ∷ [])
-    in
-    rw (drop_more xs i d at, back, ← seen (get_or xs i d).feed (take i xs)) refl
+turn xs i d at = search (rules, take_more, map-append, reverse-append, drop_more, seen, take_more xs i d at, drop_more xs i d at)
 
 -- a feed that stands among those before is the answer
 pub name_found : (xs : List ExtractIn) (i : ℕ) (x : ExtractIn) (r : Bool) → i < length xs → x ≡ get_or xs i x

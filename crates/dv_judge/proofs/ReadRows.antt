@@ -1,22 +1,15 @@
 -- The rows that an extract reads as, where it breaks no rule, have the form of the feed.
-use Rattle.dv_judge.proofs.Vocabulary.{◌≡◌, ℕ, suc, ◌+◌, ◌≤◌, inl, inr, Bool, true, false, not, ◌||◌, List, [], ◌∷◌, ◌++◌, Option, Some, None, length, map, filter, nat_lt, refl, sym, ◌∙◌, ap, subst, arith, append_assoc, eq-eqb, le-leb, ltb-false, ◌==◌, Contains, if◌then◌else◌, is_some, position}
-use Rattle.dv_judge.proofs.Vocabulary.{slice_get, slice_cmp-IsAntisymmetric, filter_map, flat_map, list_all, list_any, zip, option_and_then, bytes_eq, and_parts, eqb-true, or_parts, or_right, append-nil, length-map, nil_from_length, Contains-append_left, Contains-append_right, Key, NRow}
-use Rattle.dv_judge.proofs.Vocabulary.{key_cmp-IsAntisymmetric, is_missing, norm_field, norm_key, refs_cmp, row_cmp, sorted_by, Contains-cons_cases, Contains-cons_here, Contains-cons_there, filter_map_member, filtered_members, Contains-map, map_member, Contains-flat_map, Contains-nil}
-use Rattle.dv_judge.proofs.Vocabulary.{ascending-sorted_by, member_after_sort, member_before_sort, length-sorted_by, FeedDef, Rule, Mapping, parent_hubs, parts_of, first_of, column_twice, header_names, header_not_utf8, header_rule, mapped_columns, missing_column, unmapped_column, is_among}
-use Rattle.dv_judge.proofs.Vocabulary.{part_ways, records_read, rule_or_rows, shared_drivers, two_drivers, Taken, are_rivals, empty_key, field_long, fields_under, key_under, not_utf8, place_of, ragged, record_rule, records_rule, row_of, too_many_rows, two_rows, driver_keys, ValidFeed}
-use Rattle.dv_judge.proofs.Vocabulary.{HasNoRivals, apart_more, are_rows_of, fit_hubs, fits_hub, holds_of_each_two, is_field, is_key_part, is_one_partner, texts_eq-Decides, row_total, some_passes_at, all_pass, none_passes, passes_where_none_fails, HasForm, rows_hold, of_each_two, got_from}
-use Rattle.dv_judge.proofs.Vocabulary.{got_member, none_before_map, none_behind, or_none, is_placed, placed_within, most_field_bytes, most_records}
+use Rattle.dv_judge.proofs.Vocabulary.{◌≡◌, ℕ, suc, ◌+◌, ◌≤◌, inl, inr, Bool, true, false, not, ◌||◌, List, [], ◌∷◌, ◌++◌, Option, Some, None, length, map, filter, nat_lt, refl, sym, ◌∙◌, ap, subst, arith, append_assoc, eq-eqb, le-leb}
+use Rattle.dv_judge.proofs.Vocabulary.{ltb-false, ◌==◌, Contains, is_some, position, slice_get, slice_cmp-IsAntisymmetric, filter_map, list_all, list_any, zip, option_and_then, bytes_eq, and_parts, eqb-true, or_right, append-nil}
+use Rattle.dv_judge.proofs.Vocabulary.{length-map, nil_from_length, Contains-append_left, Contains-append_right, Key, NRow, key_cmp-IsAntisymmetric, is_missing, norm_field, norm_key, refs_cmp, row_cmp, sorted_by, Contains-cons_cases}
+use Rattle.dv_judge.proofs.Vocabulary.{Contains-cons_here, Contains-cons_there, filter_map_member, filtered_members, Contains-map, map_member, Contains-flat_map, Contains-nil, ascending-sorted_by, member_after_sort, member_before_sort}
+use Rattle.dv_judge.proofs.Vocabulary.{length-sorted_by, FeedDef, Rule, Mapping, parts_of, first_of, header_names, header_rule, mapped_columns, missing_column, is_among, part_ways, records_read, rule_or_rows, shared_drivers, two_drivers}
+use Rattle.dv_judge.proofs.Vocabulary.{Taken, are_rivals, fields_under, key_under, place_of, record_rule, records_rule, row_of, driver_keys, ValidFeed, HasNoRivals, apart_more, are_rows_of, fit_hubs, fits_hub, holds_of_each_two, is_field}
+use Rattle.dv_judge.proofs.Vocabulary.{is_key_part, is_one_partner, texts_eq-Decides, row_total, some_passes_at, all_pass, none_passes, passes_where_none_fails, HasForm, rows_hold, of_each_two, got_from, got_member, none_before_map}
+use Rattle.dv_judge.proofs.Vocabulary.{none_behind, or_none, is_placed, placed_within, most_field_bytes, most_records, rules, common_steps, nat_tests}
 use Rattle.dv_judge.proofs.NormalForms.{norm_field-itself, norm_field-short, norm_key-itself, norm_key-short}
 
 -- ---- no refusal
-
-not_refused : {R : Type 0} (b : Bool) (x : R) → (if b then Some x else None) ≡ None → b ≡ false
-not_refused false x e = refl
-not_refused true x e = cc
-
-must_pass : {R : Type 0} (b : Bool) (x : R) → (if b then None else Some x) ≡ None → b ≡ true
-must_pass true x e = refl
-must_pass false x e = cc
 
 -- ---- lists
 
@@ -30,14 +23,10 @@ length-filter_map f (x ∷ xs) each =
 -- ---- texts
 
 short_key_part : (t : List ℕ) → length t ≤ most_field_bytes → is_key_part (norm_key t) ≡ true
-short_key_part t short =
-    let same : norm_key (norm_key t) ∷ [] ≡ norm_key t ∷ [] = ap (λ part. part ∷ []) (norm_key-itself t) in
-    rw ((texts_eq-Decides (norm_key (norm_key t) ∷ []) (norm_key t ∷ [])).1 same, le-leb (length (norm_key t)) most_field_bytes (omega (arith, norm_key-short t, short))) refl
+short_key_part t short = search (rules, norm_key-itself, texts_eq-Decides, le-leb, norm_key-short)
 
 short_field : (t : List ℕ) → length t ≤ most_field_bytes → is_field (norm_field t) ≡ true
-short_field t short =
-    let same : norm_field (norm_field t) ∷ [] ≡ norm_field t ∷ [] = ap (λ part. part ∷ []) (norm_field-itself t) in
-    rw ((texts_eq-Decides (norm_field (norm_field t) ∷ []) (norm_field t ∷ [])).1 same, le-leb (length (norm_field t)) most_field_bytes (omega (arith, norm_field-short t, short))) refl
+short_field t short = search (rules, norm_field-itself, texts_eq-Decides, le-leb, norm_field-short)
 
 -- ---- the fields of a record
 
@@ -57,11 +46,7 @@ module _ (names fields : List (List ℕ)) (as_many : length fields ≡ length na
           (field, ap (option_and_then (slice_get fields)) e ∙ got)
 
   under_member : (column field : List ℕ) → under column ≡ Some field → Contains fields field
-  under_member column field e = by (place_of names column) e
-    where
-      by : (place : Option ℕ) → option_and_then (slice_get fields) place ≡ Some field → Contains fields field
-      by None e = let no : None ≡ Some field = e in cc
-      by (Some n) e = got_member fields n field e
+  under_member column field e = search (rules, got_member)
 
   short_at : (field : List ℕ) → Contains fields field → length field ≤ most_field_bytes
   short_at field has = ltb-false most_field_bytes (length field) (none_passes (λ field. nat_lt most_field_bytes (length field)) fields field short has)
@@ -92,9 +77,7 @@ module _ (names fields : List (List ℕ)) (as_many : length fields ≡ length na
   -- a key fits the hub that has as many parts as there are columns
   made_key : (mapping : Mapping) (hub : ℕ) (columns : List (List ℕ)) → ((column : List ℕ) → Contains columns column → is_among names column ≡ true)
       → length columns ≡ parts_of (slice_get mapping.hubs hub) → fits_hub mapping hub (key_under names fields columns) ≡ true
-  made_key mapping hub columns among as_many_parts =
-      let parts : length (map norm_key (fields_under names fields columns)) ≡ parts_of (slice_get mapping.hubs hub) = rw length-map (length-fields columns among ∙ as_many_parts) in
-      rw (eq-eqb (length (map norm_key (fields_under names fields columns))) (parts_of (slice_get mapping.hubs hub)) parts, made_parts columns) refl
+  made_key mapping hub columns among as_many_parts = search (rules, length-map, length-fields, eq-eqb, made_parts)
 
   made_refs : (mapping : Mapping) (keys : List (List (List ℕ))) (hubs : List ℕ)
       → ((columns : List (List ℕ)) → Contains keys columns → (column : List ℕ) → Contains columns column → is_among names column ≡ true)
@@ -119,11 +102,8 @@ HasColumns feed names = (column : List ℕ) → Contains (mapped_columns feed) c
 
 has_columns : (feed : FeedDef) (header : List (List ℕ)) → header_rule feed header ≡ None → HasColumns feed (header_names header)
 has_columns feed header e column has =
-    let a = or_none (header_not_utf8 feed header) _ e in
-    let b = or_none (column_twice feed (header_names header)) _ a.1 in
-    let c = or_none (unmapped_column feed (header_names header)) _ b.1 in
-    let d = or_none (missing_column feed (header_names header)) _ c.1 in
-    passes_where_none_fails (is_among (header_names header)) (mapped_columns feed) column (none_before_map _ _ d.0) has
+    let there : missing_column feed (header_names header) ≡ None = grind (arith, common_steps) in
+    passes_where_none_fails (is_among (header_names header)) (mapped_columns feed) column (none_before_map _ _ there) has
 
 -- what the rules of a record say where it breaks none
 record BreaksNone (feed : FeedDef) (names : List (List ℕ)) (room number : ℕ) (earlier : List NRow) (fields : List (List ℕ)) : Type 0 where
@@ -135,45 +115,13 @@ record BreaksNone (feed : FeedDef) (names : List (List ℕ)) (room number : ℕ)
   within : nat_lt room number ≡ false
 
 breaks_none : (feed : FeedDef) (names : List (List ℕ)) (room number : ℕ) (earlier : List NRow) (fields : List (List ℕ)) → record_rule feed names room number earlier fields ≡ None → BreaksNone feed names room number earlier fields
-breaks_none feed names room number earlier fields e =
-    let row = row_of feed names fields in
-    let a = or_none (ragged feed names number fields) _ e in
-    let b = or_none (not_utf8 feed number fields) _ a.1 in
-    let c = or_none (field_long feed number fields) _ b.1 in
-    let d = or_none (empty_key feed number row) _ c.1 in
-    let f = or_none (two_rows feed number earlier row) _ d.1 in
-    let g = or_none (too_many_rows feed room number) _ f.1 in
-    let empty = or_parts (list_all is_missing row.refs) (list_any is_missing (driver_keys feed row)) (not_refused _ _ d.0) in
-    record {
-      as_many = eqb-true _ _ (must_pass (length fields == length names) _ a.0);
-      short = not_refused (list_any (λ field. nat_lt most_field_bytes (length field)) fields) _ c.0;
-      keyed = empty.0;
-      driven = empty.1;
-      apart = none_before_map _ _ f.0;
-      within = not_refused (nat_lt room number) _ g.0;
-    }
+breaks_none feed names room number earlier fields e = grind (arith, common_steps, nat_tests)
 
 module _ (mapping : Mapping) (feed : FeedDef) (valid : ValidFeed mapping feed) where
   -- the row has the feed's form
   row_formed : (names : List (List ℕ)) (room number : ℕ) (earlier : List NRow) (fields : List (List ℕ)) → HasColumns feed names → BreaksNone feed names room number earlier fields
       → HasForm mapping feed (row_of feed names fields)
-  row_formed names room number earlier fields columns none =
-      let keys = flat_map (λ cs. cs) feed.keys in
-      let of_keys : (cs : List (List ℕ)) → Contains feed.keys cs → (column : List ℕ) → Contains cs column → is_among names column ≡ true = λ cs cs_in column column_in.
-      let key_in = Contains-flat_map (λ (cs : List (List ℕ)). cs) feed.keys cs column cs_in column_in in
-      columns column (Contains-append_left (keys ++ feed.sub) feed.attrs column (Contains-append_left keys feed.sub column key_in)) in
-      let of_sub : (column : List ℕ) → Contains feed.sub column → is_among names column ≡ true = λ column column_in.
-      columns column (Contains-append_left (keys ++ feed.sub) feed.attrs column (Contains-append_right keys feed.sub column column_in)) in
-      let of_attrs : (column : List ℕ) → Contains feed.attrs column → is_among names column ≡ true = λ column column_in.
-      columns column (Contains-append_right (keys ++ feed.sub) feed.attrs column column_in) in
-      record {
-        fits = made_refs names fields none.as_many none.short mapping feed.keys (parent_hubs mapping feed.parent) of_keys valid.as_many_keys valid.parts;
-        keyed = rw (none.keyed, none.driven) refl;
-        subs = rw length-map (length-fields names fields none.as_many none.short feed.sub of_sub);
-        sub_fields = made_fields names fields none.as_many none.short feed.sub;
-        attributes = rw length-map (length-fields names fields none.as_many none.short feed.attrs of_attrs);
-        attr_fields = made_fields names fields none.as_many none.short feed.attrs;
-      }
+  row_formed names room number earlier fields columns none = search (rules, arith, Contains-flat_map, Contains-append_left, Contains-append_right, made_refs, length-map, length-fields, made_fields) depth 8 fits 3000
 
   -- ---- all records
 
@@ -233,8 +181,7 @@ driver_rule feed (place ∷ places) rows made is members e =
 -- ---- what is taken
 
 taken_rows : (rule : Option Rule) (rows : List NRow) (count : ℕ) (taken : List NRow) (number : ℕ) → rule_or_rows rule rows count ≡ Taken taken number → (rule ≡ None) × (taken ≡ sorted_by row_cmp rows) × (number ≡ count)
-taken_rows None rows count taken number e = (refl, cc, cc)
-taken_rows (Some rule) rows count taken number e = cc
+taken_rows rule rows count taken number h1 = grind (arith, common_steps, nat_tests)
 
 -- what a feed's extract reads as: rows of the feed, no more than its records, of which there are no more than there is room for
 pub record AreTaken (mapping : Mapping) (feed : FeedDef) (room : ℕ) (rows : List NRow) (count : ℕ) : Type 0 where

@@ -1,9 +1,10 @@
 -- The window that extracts read as, where they break no rule, is a window of the mapping.
-use Rattle.dv_judge.proofs.Vocabulary.{◌≡◌, ℕ, zero, suc, ◌+◌, ◌-◌, ◌<◌, ◌≤◌, Bool, true, not, List, [], ◌∷◌, Option, Some, None, find, length, map, nat_le, nat_lt, refl, sym, ◌∙◌, ap, subst, arith, le-leb, ◌==◌, Contains, if◌then◌else◌, is_some, min, slice_get, sum_by, option_map, position}
-use Rattle.dv_judge.proofs.Vocabulary.{cons_option, filter_map, list_all, range_with_len, option_and_then, bytes_eq, nat_tests, length-map, sum_by-cons, NRow, Staged, Contains-cons_here, Contains-cons_there, filter_map_member, member_of_filter_map, Contains-range, FeedDef, NoExtracts}
-use Rattle.dv_judge.proofs.Vocabulary.{UnknownFeed, ExtractIn, WindowIn, Mapping, extract_records, first_of, is_valid, Read, broken_rule, read_by, reads, records_read, taken_count, Broken, Taken, PlacedExtract, extract_at, given_for, placed_extracts, reads_after, room_after, staged_from}
-use Rattle.dv_judge.proofs.Vocabulary.{window_of, window_rule, valid_feed, found_at, is_placed, placed_within, feed_twice, is_feed, no_extracts, unknown_feed, ascends, is_staged, is_window, finds, all_pass_weaker, passes_where_none_fails, bytes_eq-Decides, most_records, most_window_records}
-use Rattle.dv_judge.proofs.Vocabulary.{none_before_map, or_none, window_holds}
+use Rattle.dv_judge.proofs.Vocabulary.{◌≡◌, ℕ, zero, suc, ◌+◌, ◌-◌, ◌<◌, ◌≤◌, Bool, true, not, List, [], ◌∷◌, Option, Some, None, find, length, map, nat_le, nat_lt, refl, sym, ◌∙◌, ap, subst, arith, le-leb, ◌==◌, Contains, if◌then◌else◌}
+use Rattle.dv_judge.proofs.Vocabulary.{is_some, min, slice_get, sum_by, option_map, position, cons_option, filter_map, list_all, range_with_len, option_and_then, bytes_eq, nat_tests, length-map, NRow, Staged, Contains-cons_here}
+use Rattle.dv_judge.proofs.Vocabulary.{Contains-cons_there, filter_map_member, member_of_filter_map, Contains-range, FeedDef, NoExtracts, UnknownFeed, ExtractIn, WindowIn, Mapping, extract_records, first_of, is_valid, Read, broken_rule}
+use Rattle.dv_judge.proofs.Vocabulary.{read_by, reads, records_read, taken_count, Broken, Taken, PlacedExtract, extract_at, given_for, placed_extracts, reads_after, room_after, staged_from, window_of, window_rule, valid_feed, found_at}
+use Rattle.dv_judge.proofs.Vocabulary.{is_placed, placed_within, is_feed, no_extracts, unknown_feed, ascends, is_staged, is_window, finds, all_pass_weaker, passes_where_none_fails, bytes_eq-Decides, most_records, most_window_records}
+use Rattle.dv_judge.proofs.Vocabulary.{none_before_map, window_holds, common_steps, rules}
 use Rattle.dv_judge.proofs.FeedSteps.{placed_at}
 use Rattle.dv_judge.proofs.ReadRows.{AreTaken, rows_taken}
 
@@ -28,21 +29,7 @@ record AreRead (mapping : Mapping) (taken : ℕ) (placed : List PlacedExtract) (
 read_more : (mapping : Mapping) (taken : ℕ) (first : PlacedExtract) (placed : List PlacedExtract) (feed : FeedDef) (rows : List NRow) (count : ℕ) (later : List Staged)
     → slice_get mapping.feeds first.feed ≡ Some feed → AreTaken mapping feed (room_after taken) rows count → AreRead mapping (taken + count) placed later
     → AreRead mapping taken (first ∷ placed) (record { feed = first.feed; rows = rows } ∷ later)
-read_more mapping taken first placed feed rows count later got are rest =
-    let here : is_staged mapping (record { feed = first.feed; rows = rows }) ≡ true = rw got are.formed in
-    let total = sum_by-cons (λ (staged : Staged). length staged.rows) (record { feed = first.feed; rows = rows }) later in
-    record {
-      staged = rw (here, rest.staged) refl;
-      few = λ low. subst (λ n. taken + n ≤ most_window_records) (sym total) (within taken count (length rows) (row_count later) low are.few are.within rest.few);
-      feeds = ap (λ feeds. first.feed ∷ feeds) rest.feeds;
-    }
-  where
-    within : (taken count here others : ℕ) → taken ≤ most_window_records → here ≤ count → count ≤ min most_records (most_window_records - taken)
-        → (taken + count ≤ most_window_records → taken + count + others ≤ most_window_records) → taken + (here + others) ≤ most_window_records
-    within taken count here others low fewer room rest =
-        let under : taken + count ≤ most_window_records = omega (arith, low, room) in
-        let more = rest under in
-        omega (arith, more, fewer)
+read_more mapping taken first placed feed rows count later got are rest = grind (arith, common_steps, nat_tests)
 
 module _ (mapping : Mapping) (valid : is_valid mapping ≡ true) where
   are_read : (taken : ℕ) (placed : List PlacedExtract) → ((p : PlacedExtract) → Contains placed p → IsPlaced mapping p)
@@ -97,15 +84,7 @@ module _ (mapping : Mapping) (extracts : List ExtractIn) where
 
   feeds_ascend : (feed count : ℕ) → (ascends (feeds_from feed count) ≡ true) × (list_all (nat_le feed) (feeds_from feed count) ≡ true)
   feeds_ascend feed zero = (refl, refl)
-  feeds_ascend feed (suc count) = by (extract_at mapping extracts feed) (placed_at mapping extracts feed) (feeds_ascend (feed + 1) count)
-    where
-      by : (found : Option PlacedExtract) → ((placed : PlacedExtract) → found ≡ Some placed → placed.feed ≡ feed)
-          → (ascends (feeds_from (feed + 1) count) ≡ true) × (list_all (nat_le (feed + 1)) (feeds_from (feed + 1) count) ≡ true)
-          → (ascends (map (λ extract. extract.feed) (cons_option found (filter_map (extract_at mapping extracts) (range_with_len (feed + 1) count)))) ≡ true)
-          × (list_all (nat_le feed) (map (λ extract. extract.feed) (cons_option found (filter_map (extract_at mapping extracts) (range_with_len (feed + 1) count)))) ≡ true)
-      by None place (up, low) = (up, weaker feed (feeds_from (feed + 1) count) low)
-      by (Some placed) place (up, low) =
-          rw (place placed refl) (rw (above feed (feeds_from (feed + 1) count) low, up) refl, rw (le-leb feed feed (omega arith), weaker feed (feeds_from (feed + 1) count) low) refl)
+  feeds_ascend feed (suc count) = search (rules, placed_at, weaker, above, le-leb, feeds_ascend (feed + 1) count)
 
   -- an extract that is given for a feed of the mapping is among them
   pub some_placed : (extract : ExtractIn) → Contains extracts extract → is_feed mapping extract.feed ≡ true → 0 < length (placed_extracts mapping extracts)
@@ -132,9 +111,7 @@ module _ (mapping : Mapping) (extracts : List ExtractIn) where
 some_given : (mapping : Mapping) (extracts : List ExtractIn) → (if length extracts == 0 then Some NoExtracts else None) ≡ None → find (λ extract. not (is_feed mapping extract.feed)) extracts ≡ None
     → 0 < length (placed_extracts mapping extracts)
 some_given mapping [] some known = let no : Some NoExtracts ≡ None = some in cc
-some_given mapping (extract ∷ extracts) some known =
-    let has = Contains-cons_here extract extracts in
-    some_placed mapping (extract ∷ extracts) extract has (passes_where_none_fails (λ (extract : ExtractIn). is_feed mapping extract.feed) (extract ∷ extracts) extract known has)
+some_given mapping (extract ∷ extracts) some known = search (rules, Contains-cons_here, some_placed, passes_where_none_fails)
 
 -- what is given for feeds of the mapping, and breaks no rule of an extract, is a window of the mapping
 pub window_of-is_window : (mapping : Mapping) → is_valid mapping ≡ true → (given : WindowIn) → no_extracts given ≡ None → unknown_feed mapping given ≡ None → window_rule mapping given ≡ None
@@ -148,11 +125,3 @@ window_of-is_window mapping valid given some known none =
     let one = some_given mapping extracts some (none_before_map (λ (extract : ExtractIn). UnknownFeed extract.feed) (find (λ (extract : ExtractIn). not (is_feed mapping extract.feed)) extracts) known) in
     let few = are.few (omega arith) in
     window_holds mapping (window_of mapping given) (record { some = omega (arith, as_many, one); ascending = ap ascends are.feeds ∙ up; staged = are.staged; few = omega (arith, few) })
-
--- the same of what breaks no rule as it is given
-pub given-is_window : (mapping : Mapping) → is_valid mapping ≡ true → (given : WindowIn) → first_of (no_extracts given ∷ unknown_feed mapping given ∷ feed_twice given ∷ []) ≡ None → window_rule mapping given ≡ None
-    → is_window mapping (window_of mapping given) ≡ true
-given-is_window mapping valid given first none =
-    let (some, behind) = or_none (no_extracts given) (first_of (unknown_feed mapping given ∷ feed_twice given ∷ [])) first in
-    let (known, last) = or_none (unknown_feed mapping given) (first_of (feed_twice given ∷ [])) behind in
-    window_of-is_window mapping valid given some known none

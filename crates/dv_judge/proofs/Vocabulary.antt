@@ -1,15 +1,15 @@
 -- What the proofs of this crate, and of those above it, take from elsewhere.
-pub use Rattle.dv_text.proofs.Vocabulary.{Bool, Contains, Contains-append_left, Contains-append_right, IsPermutation-reverse, List, None, Option, Some, [], and_parts, ap, append_assoc, arith, bytes_eq-Decides, cond, cons_option, drop_more, eqb-true, false, filter, filter_map, find, flat_map}
+pub use Rattle.dv_text.proofs.Vocabulary.{Bool, Contains, Contains-append_left, Contains-append_right, IsPermutation-reverse, List, None, Option, Some, [], and_parts, ap, append_assoc, arith, bytes_eq-Decides, cond, cons_option, drop_more, eqb-true, false, filter, filter_map, find}
 pub use Rattle.dv_text.proofs.Vocabulary.{get_or, inl, inr, is_some, key_cmp-IsAntisymmetric, length, length-map, list_all, list_any, map, nat_le, nat_tests, not, position, range_with_len, refl, refs_cmp, row_cmp, slice_cmp-IsAntisymmetric, slice_get, sorted_by, subst, suc, sym, take, take_more}
 pub use Rattle.dv_text.proofs.Vocabulary.{true, zero, ℕ, ◌*◌, ◌++◌, ◌+◌, ◌-◌, ◌<◌, ◌^◌, ◌||◌, ◌∙◌, ◌∷◌, ◌≡◌, ◌≤◌}
 pub use Rattle.dv_records.proofs.Vocabulary.{Contains-cons_there, Contains-flat_map, Contains-nil, Contains-range, all_pass_weaker, are_rows_of, ascends, eq-eqb, filter_map_member, finds, fit_hubs, fits_hub, got_member, holds_of_each_two, if◌then◌else◌, is_field, is_key_part, is_one_partner}
-pub use Rattle.dv_records.proofs.Vocabulary.{is_placed, is_staged, is_window, member_of_filter_map, most_field_bytes, most_records, most_window_records, none_behind, or_right, reverse-append, row_total, sum_by, sum_by-cons, valid_feed}
-pub use Rattle.dv_catalog.proofs.Vocabulary.{Mapping, all_pass, bytes_eq, drop, first_of, is_valid, list_any-map, map-append, map_member, nat_lt, nil_from_length, none_before_map, or_none, parent_hubs, parts_of, zip}
-pub use Rattle.dv_stage.proofs.Vocabulary.{Contains-cons_cases, Contains-cons_here, Contains-map, HasNoRivals, Taken, append-nil, are_rivals, ascending-sorted_by, driver_keys, empty_key, extract_records, field_long, fields_under, filtered_members, found_at, header_names, header_rule, is_among}
-pub use Rattle.dv_stage.proofs.Vocabulary.{is_missing, key_under, length-drop, mapped_columns, member_after_sort, member_before_sort, norm_field, norm_key, not_utf8, option_map, part_ways, place_of, placed_within, ragged, record_rule, records_rule, row_of, shared_drivers, some_passes_at}
-pub use Rattle.dv_stage.proofs.Vocabulary.{texts_eq-Decides, too_many_rows, two_drivers, two_rows}
+pub use Rattle.dv_records.proofs.Vocabulary.{is_placed, is_staged, is_window, member_of_filter_map, most_field_bytes, most_records, most_window_records, none_behind, or_right, reverse-append, row_total, sum_by, valid_feed}
+pub use Rattle.dv_catalog.proofs.Vocabulary.{Mapping, all_pass, bytes_eq, drop, first_of, is_valid, list_any-map, map-append, map_member, nat_lt, nil_from_length, none_before_map, or_none, parts_of, zip}
+pub use Rattle.dv_stage.proofs.Vocabulary.{Contains-cons_cases, Contains-cons_here, Contains-map, HasNoRivals, Taken, append-nil, are_rivals, ascending-sorted_by, driver_keys, extract_records, fields_under, filtered_members, found_at, header_names, header_rule, is_among}
+pub use Rattle.dv_stage.proofs.Vocabulary.{is_missing, key_under, mapped_columns, member_after_sort, member_before_sort, norm_field, norm_key, option_map, part_ways, place_of, placed_within, record_rule, records_rule, row_of, shared_drivers, some_passes_at}
+pub use Rattle.dv_stage.proofs.Vocabulary.{texts_eq-Decides, two_drivers}
 pub use Rattle.dv_catalog.proofs.ValidReads.{ValidFeed}
-pub use Rattle.dv_catalog.specs.Headers.{column_twice, header_not_utf8, missing_column, unmapped_column}
+pub use Rattle.dv_catalog.specs.Headers.{missing_column}
 pub use Rattle.dv_catalog.specs.Readings.{Read, broken_rule, read_by, reads, records_read, rule_or_rows, taken_count}
 pub use Rattle.dv_catalog.specs.Readings.Read.{Broken}
 pub use Rattle.dv_catalog.specs.Windows.{PlacedExtract, ReadExtract, extract_at, given_for, placed_extracts, reads_after, room_after, staged_from, window_of, window_rule}
@@ -21,7 +21,7 @@ pub use Rattle.dv_catalog.specs.declared.windows.WindowIn.{WindowIn}
 pub use Rattle.dv_judge.specs.Lengths.{first_long}
 pub use Rattle.dv_judge.specs.Staging.{TellsFeed, read_at}
 pub use Rattle.dv_records.proofs.WindowRows.{HasForm, of_each_two, rows_hold, window_holds}
-pub use Rattle.dv_records.specs.Limits.{most_extract_bytes, most_window_bytes}
+pub use Rattle.dv_records.specs.Limits.{most_window_bytes}
 pub use Rattle.dv_records.specs.Outcomes.{feed_twice, is_feed, no_extracts, repeated_name, too_long_behind, unknown_feed}
 pub use Rattle.dv_stage.proofs.RivalFacts.{apart_more}
 pub use Rattle.dv_stage.specs.Faults.{TellsRule}
@@ -29,12 +29,11 @@ pub use Rattle.dv_stage.specs.declared.faults.StageFault.{StageFault}
 pub use Rattle.dv_text.proofs.Options.{got_from}
 pub use Rattle.dv_text.proofs.Passing.{none_passes, passes_where_none_fails}
 pub use Rattle.dv_text.proofs.SortedLists.{length-sorted_by}
-pub use Rattle.dv_text.specs.Normal.{is_blank, without_leading, without_trailing}
+pub use Rattle.dv_text.specs.Normal.{is_blank, without_leading}
 pub use Rattle.dv_text.specs.declared.rows.Key.{Key}
 pub use Rattle.dv_text.specs.declared.rows.NRow.{NRow}
 pub use Rattle.dv_text.specs.declared.rows.Staged.{Staged}
-pub use Rattle.std.proofs.Common.{le-leb, length-take, ltb-false, one-add, rules}
-pub use Rattle.std.proofs.lemmas.Bool.{or_parts}
+pub use Rattle.std.proofs.Common.{le-leb, ltb-false, one-add, rules}
 pub use Rattle.std.proofs.lemmas.List.{drop-map, get_or-reverse, length-reverse, take-map}
 pub use Rattle.std.proofs.lemmas.List.Sorted.{list_any-IsPermutation}
 pub use Rattle.std.proofs.lemmas.List.Sums.{prefix_len_stops, suffix_len-take_no}
@@ -44,3 +43,4 @@ pub use Rattle.std.specs.List.{prefix_len, suffix_len}
 pub use Rattle.std.specs.Option.{option_and_then}
 pub use Rattle.std.specs.Prelude.{min, reverse, ◌==◌}
 pub use mathlib.Core.List.{reverse_aux}
+pub use Rattle.std.proofs.lemmas.Grind.{common_steps}

@@ -1,15 +1,10 @@
 -- Effectivity batches are the lists that meet their records.
-use Rattle.dv_laws.proofs.Vocabulary.{Contains, ◌≡◌, ◌↔◌, ℕ, Bool, true, false, List, [], ◌∷◌, ◌++◌, Option, Some, None, refl, Key, Hashes, EffectRow, IsApart, effect_batch, effect_row, span_between, IsEffectBatch, Extract, all_refs, delivers, newest_rows, run_begin, given, tied_by_digest}
-use Rattle.dv_laws.proofs.Vocabulary.{tied_whole, is_there, was_there}
+use Rattle.dv_laws.proofs.Vocabulary.{Contains, ◌≡◌, ◌↔◌, ℕ, Bool, true, false, List, ◌++◌, Option, Some, None, refl, Key, Hashes, EffectRow, IsApart, effect_batch, effect_row, span_between, IsEffectBatch, Extract, all_refs, delivers}
+use Rattle.dv_laws.proofs.Vocabulary.{newest_rows, run_begin, given, tied_by_digest, tied_whole, is_there, was_there, rules}
 
 -- a run that goes on holds the list
 pub in_run : (older : List Extract) (refs : List Key) (begin : ℕ) → run_begin older refs ≡ Some begin → delivers (newest_rows older) refs ≡ true
-in_run [] refs begin e = cc
-in_run (newest ∷ older) refs begin e = by (delivers newest.rows refs) refl
-  where
-    by : (now : Bool) → delivers newest.rows refs ≡ now → delivers newest.rows refs ≡ true
-    by true t = t
-    by false f = let no : None ≡ Some begin = rw f at e in cc
+in_run older refs begin h1 = search (rules)
 
 module _ (hashes : Hashes) (source : List ℕ) (older : List Extract) (newest : Extract) where
   pub effect_parent : (refs : List Key) (row : EffectRow) → effect_row hashes source older newest refs ≡ Some row → row.parent ≡ hashes.hash refs

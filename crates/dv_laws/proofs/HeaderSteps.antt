@@ -1,7 +1,7 @@
 -- What an extract that is a header alone closes.
-use Rattle.dv_laws.proofs.Vocabulary.{nat_cmp-IsAntisymmetric, slice_cmp-IsAntisymmetric, filter_map, option_map, unwrap_or, All, Contains, ◌≡◌, ℕ, Bool, true, false, List, [], ◌∷◌, ◌++◌, Option, Some, None, refl, sym, ◌∙◌, ap, subst, append-nil, false≢true, All-contains_itself, All-weaker}
-use Rattle.dv_laws.proofs.Vocabulary.{Contains-append_left, Key, Hashes, filter_map_member, member_of_filter_map, member_after_sort, D, EffectRow, StatusRow, IsApart, span_between, effect_batch, effect_cmp, effect_row, Extract, all_refs, delivers, newest_rows, run_begin, code_between}
-use Rattle.dv_laws.proofs.Vocabulary.{status_batch, status_cmp, status_row, batch_made, Contains-all_refs, Closes}
+use Rattle.dv_laws.proofs.Vocabulary.{nat_cmp-IsAntisymmetric, slice_cmp-IsAntisymmetric, filter_map, option_map, unwrap_or, All, Contains, ◌≡◌, ℕ, Bool, true, false, List, [], ◌∷◌, ◌++◌, Option, Some, refl, sym, ◌∙◌, ap, append-nil}
+use Rattle.dv_laws.proofs.Vocabulary.{false≢true, All-contains_itself, All-weaker, Contains-append_left, Key, Hashes, filter_map_member, member_of_filter_map, member_after_sort, D, EffectRow, StatusRow, IsApart, span_between, effect_batch}
+use Rattle.dv_laws.proofs.Vocabulary.{effect_cmp, effect_row, Extract, all_refs, delivers, newest_rows, run_begin, code_between, status_batch, status_cmp, status_row, batch_made, Contains-all_refs, Closes, rules}
 use Rattle.dv_laws.proofs.EffectTies.{effect_tied}
 
 -- a list that is present is in a run
@@ -12,17 +12,11 @@ present_in_run (newest ∷ older) refs e = (unwrap_or (run_begin older refs) new
 -- each row of an extract without rows says that its list is gone, or that its run ends
 gone_row : (parent source : List ℕ) (load : ℕ) (was : Bool) (row : StatusRow) → option_map (λ code. record { parent = parent; load = load; source = source; code = code }) (code_between was false) ≡ Some row
     → record { parent = row.parent; load = load; source = source; code = D } ≡ row
-gone_row parent source load true row is =
-    let same : record { parent = parent; load = load; source = source; code = D } ≡ row = cc in
-    subst (λ (r : StatusRow). record { parent = r.parent; load = load; source = source; code = D } ≡ r) same refl
-gone_row parent source load false row is = let no : None ≡ Some row = is in cc
+gone_row parent source load was row h1 = search (rules)
 
 end_row : (parent source : List ℕ) (load : ℕ) (was : Option ℕ) (row : EffectRow)
     → option_map (λ span. record { parent = parent; load = load; source = source; begin = span.begin; end = span.end }) (span_between load was false) ≡ Some row → row.end ≡ load
-end_row parent source load (Some begin) row is =
-    let same : record { parent = parent; load = load; source = source; begin = begin; end = load } ≡ row = cc in
-    ap (λ (r : EffectRow). r.end) (sym same)
-end_row parent source load None row is = let no : None ≡ Some row = is in cc
+end_row parent source load was row h1 = search (rules)
 
 module _ (hashes : Hashes) (source : List ℕ) (load : ℕ) (older : List Extract) where
   vanished : (refs : List Key) → delivers (newest_rows older) refs ≡ true

@@ -1,8 +1,9 @@
 -- The content of a feed of keys alone is read back from its hub's table and its status table.
-use Rattle.dv_laws.proofs.Vocabulary.{Contains, slice_get, ◌≡◌, Bool, ℕ, true, List, [], ◌∷◌, Some, None, sym, ◌∙◌, ap, subst, map, filter, reverse, Key, NRow, Window, row_cmp-IsAntisymmetric, Hashes, refs_eq, refs_eq-Decides, row_total, filter_map_member, filtered_members, flat_map_member}
-use Rattle.dv_laws.proofs.Vocabulary.{map_member, Contains-map, some_passes_at, some_passes, sorted_by-members, FeedDef, Parent, Hub, Status, Mapping, keys_at, parent_hubs, HubRow, StatusRow, Hubs, Statuses, appended, IsApart, collision_in, hashed_refs, is_known, is_offered, Extract, all_refs}
-use Rattle.dv_laws.proofs.Vocabulary.{content, delivered_refs, delivers, extract_of, history, IsInLoadOrder, hub_batch, hub_rows, HasKeysAlone, key_row, present_at, present_keys, table_after, collision_free, table_has, table_row, key_at_first, key_offered, known_apart, offers_apart}
-use Rattle.dv_laws.proofs.Vocabulary.{content_extract, history_member, status_tells}
+use Rattle.dv_laws.proofs.Vocabulary.{Contains, slice_get, ◌≡◌, Bool, ℕ, true, List, [], ◌∷◌, Some, None, sym, ◌∙◌, ap, subst, map, filter, reverse, Key, NRow, Window, row_cmp-IsAntisymmetric, Hashes, refs_eq, refs_eq-Decides, row_total}
+use Rattle.dv_laws.proofs.Vocabulary.{filter_map_member, filtered_members, flat_map_member, map_member, Contains-map, some_passes_at, some_passes, sorted_by-members, FeedDef, Parent, Hub, Status, Mapping, keys_at, parent_hubs, HubRow}
+use Rattle.dv_laws.proofs.Vocabulary.{StatusRow, Hubs, Statuses, appended, IsApart, collision_in, hashed_refs, is_known, is_offered, Extract, all_refs, content, delivered_refs, delivers, extract_of, history, IsInLoadOrder, hub_batch}
+use Rattle.dv_laws.proofs.Vocabulary.{hub_rows, HasKeysAlone, key_row, present_at, present_keys, table_after, collision_free, table_has, table_row, key_at_first, key_offered, known_apart, offers_apart, content_extract, history_member}
+use Rattle.dv_laws.proofs.Vocabulary.{status_tells}
 use Rattle.dv_catalog.specs.declared.tables.TableId.TheVariants.{Hub as HubTable}
 use Rattle.dv_records.proofs.NewestRows.{content_ascends}
 

@@ -1,8 +1,10 @@
 -- The content of a feed with a sub, and so that of any feed, is read back from the tables of the vault.
-use Rattle.dv_laws.proofs.Vocabulary.{flat_map, option_map_or, Contains, slice_get, ◌≡◌, ◌↔◌, ℕ, ◌==◌, Bool, true, false, List, [], ◌∷◌, Option, Some, None, refl, sym, ◌∙◌, ap, subst, map, length, reverse, eqb-true, nil_from_length, Key, NRow, Window, row_cmp-IsAntisymmetric, Hashes, refs_eq}
-use Rattle.dv_laws.proofs.Vocabulary.{refs_eq-Decides, row_total, Contains-cons_here, filter_map_member, filtered_members, flat_map_member, Contains-flat_map, Contains-nil, reverse_member, some_passes_at, sorted_by-members, FeedDef, Mapping, is_valid, valid_feed, Multis, TableRows, Extract}
-use Rattle.dv_laws.proofs.Vocabulary.{content, delivered_refs, delivers, extract_of, history, newest_rows, up_to, any_content_read, any_content_read_by, multi_content_read, multi_content_read_by, multi_rows_in, present_parents, rows_read, status_rows_in, all_valid_at, described_row}
-use Rattle.dv_laws.proofs.Vocabulary.{HasOneRowPerSub, last_rows, rows_of, are_windows_valid, vault, rows_of_extract, content_ascends, content_delivered, feed_apart, present_has, row_present, row_refs, content_extract, feed_tells, load_order, unknown_unstaged, vault_multi, not-true}
+use Rattle.dv_laws.proofs.Vocabulary.{flat_map, option_map_or, Contains, slice_get, ◌≡◌, ◌↔◌, ℕ, ◌==◌, Bool, true, false, List, [], ◌∷◌, Option, Some, None, refl, sym, ◌∙◌, ap, subst, map, length, reverse, eqb-true, nil_from_length, Key}
+use Rattle.dv_laws.proofs.Vocabulary.{NRow, Window, row_cmp-IsAntisymmetric, Hashes, refs_eq, refs_eq-Decides, row_total, Contains-cons_here, filter_map_member, filtered_members, flat_map_member, Contains-flat_map, Contains-nil}
+use Rattle.dv_laws.proofs.Vocabulary.{reverse_member, some_passes_at, sorted_by-members, FeedDef, Mapping, is_valid, valid_feed, Multis, TableRows, Extract, content, delivered_refs, delivers, extract_of, history, newest_rows, up_to}
+use Rattle.dv_laws.proofs.Vocabulary.{any_content_read, any_content_read_by, multi_content_read, multi_content_read_by, multi_rows_in, present_parents, rows_read, status_rows_in, all_valid_at, described_row, HasOneRowPerSub, last_rows}
+use Rattle.dv_laws.proofs.Vocabulary.{rows_of, are_windows_valid, vault, rows_of_extract, content_ascends, content_delivered, feed_apart, present_has, row_present, row_refs, content_extract, feed_tells, load_order, unknown_unstaged}
+use Rattle.dv_laws.proofs.Vocabulary.{vault_multi, not-true}
 use Rattle.dv_laws.proofs.MultiReconstruct.{multi_tells}
 
 -- ---- the last rows

@@ -1,7 +1,8 @@
 -- The multi-active satellite rows of a feed say at each date which rows a list had when it was last there.
-use Rattle.dv_laws.proofs.Vocabulary.{Contains, nat_le, find, ◌&&◌, bytes_eq, ◌≡◌, ◌↔◌, ℕ, ◌==◌, inl, inr, Bool, List, [], Option, Some, None, refl, sym, ◌∙◌, ap, subst, reverse, map, eq-eqb, eqb-true, ◌⊎◌, and_from, and_parts, bytes_eq-Decides, Key, NRow, Window, Hashes, filtered_members}
-use Rattle.dv_laws.proofs.Vocabulary.{map_member, Contains-map, Contains-nil, Multi, Mapping, source as source_of, MultiRow, Multis, appended, IsApart, Extract, all_refs, delivered_refs, history, up_to, IsInLoadOrder, lists_of, multi_rows, all_valid_at, described_row, loaded_with}
-use Rattle.dv_laws.proofs.Vocabulary.{HasOneRowPerSub, last_rows, multi_batch, multi_cmp, rows_of, IsMultiBatch, IsOnePerSub, table_after, AreValid, of_list, valid_rows, feed_rows, IsOwn, apart-reversed, IsNewestFirst, history-newest_first, history_member, multi_tied}
+use Rattle.dv_laws.proofs.Vocabulary.{Contains, nat_le, find, ◌&&◌, bytes_eq, ◌≡◌, ◌↔◌, ℕ, ◌==◌, inl, inr, Bool, List, [], Option, Some, None, refl, sym, ◌∙◌, ap, subst, reverse, map, eq-eqb, eqb-true, ◌⊎◌, and_from, and_parts}
+use Rattle.dv_laws.proofs.Vocabulary.{bytes_eq-Decides, Key, NRow, Window, Hashes, filtered_members, map_member, Contains-map, Contains-nil, Multi, Mapping, source as source_of, MultiRow, Multis, appended, IsApart, Extract, all_refs}
+use Rattle.dv_laws.proofs.Vocabulary.{delivered_refs, history, up_to, IsInLoadOrder, lists_of, multi_rows, all_valid_at, described_row, loaded_with, HasOneRowPerSub, last_rows, multi_batch, multi_cmp, rows_of, IsMultiBatch, IsOnePerSub}
+use Rattle.dv_laws.proofs.Vocabulary.{table_after, AreValid, of_list, valid_rows, feed_rows, IsOwn, apart-reversed, IsNewestFirst, history-newest_first, history_member, multi_tied}
 
 module _ (hashes : Hashes) (source : List ℕ) (refs : List Key) (date : ℕ) where
   -- the multi-active row of an extract's row

@@ -1,25 +1,14 @@
 -- The rows of a period mart are the periods in which the content delivers a list.
-use Rattle.dv_laws.proofs.Vocabulary.{Equal, IsTotalOrder, nat_cmp_total, on_total, then_total, nat_cmp-IsAntisymmetric, flat_map, IsStrictlySortedBy, Contains, nat_le, ◌≡◌, ◌↔◌, ℕ, ◌≤◌, inl, inr, Bool, true, false, List, [], ◌∷◌, refl, sym, ◌∙◌, ap, subst, filter, reverse, arith, le-leb}
-use Rattle.dv_laws.proofs.Vocabulary.{leb-true, Key, Window, both_tied, refs_exact, refs_total, Contains-cons_here, filtered_members, flat_map_member, Contains-flat_map, map_member, Contains-map, ascending-sorted_by, member_after_sort, member_before_sort, same_ascending, PeriodRow, Extract}
-use Rattle.dv_laws.proofs.Vocabulary.{all_refs, content, delivers, history, newest_rows, up_to, IsInLoadOrder, period_cmp, period_mart, periods_of, Span, runs, Contains-all_refs, IsNewestFirst, history-newest_first, IsPeriod}
-use Rattle.dv_laws.proofs.RunTies.{ends_once, ends_or_not, is_run, never_both, present, runs_there}
+use Rattle.dv_laws.proofs.Vocabulary.{Equal, IsTotalOrder, nat_cmp_total, on_total, then_total, nat_cmp-IsAntisymmetric, flat_map, IsStrictlySortedBy, Contains, nat_le, ◌≡◌, ◌↔◌, ℕ, ◌≤◌, Bool, true, false, List, [], ◌∷◌, refl, sym, ap}
+use Rattle.dv_laws.proofs.Vocabulary.{subst, filter, reverse, arith, leb-true, Key, Window, both_tied, refs_exact, refs_total, Contains-cons_here, filtered_members, flat_map_member, Contains-flat_map, map_member, Contains-map}
+use Rattle.dv_laws.proofs.Vocabulary.{ascending-sorted_by, member_after_sort, member_before_sort, same_ascending, PeriodRow, Extract, all_refs, content, delivers, history, newest_rows, up_to, IsInLoadOrder, period_cmp, period_mart}
+use Rattle.dv_laws.proofs.Vocabulary.{periods_of, Span, runs, Contains-all_refs, IsNewestFirst, history-newest_first, IsPeriod, rules, common_steps, nat_tests}
+use Rattle.dv_laws.proofs.RunTies.{is_run, never_both, present, runs_there}
 
 -- ---- periods of tests that say the same up to a date
 
 period-same : (p q : ℕ → Bool) (date b e : ℕ) → ((t : ℕ) → t ≤ date → p t ≡ q t) → IsPeriod p date b e → IsPeriod q date b e
-period-same p q date b e same (inl x) =
-    let within = x.1.not_later in
-    inl (x.0, record { not_later = within; before = λ t is. sym (same t (omega arith)) ∙ x.1.before t is; during = λ t le up. sym (same t up) ∙ x.1.during t le up })
-period-same p q date b e same (inr x) =
-    let within = x.not_later in
-    let in_order = x.ordered in
-    inr (record {
-      not_later = within;
-      ordered = in_order;
-      before = λ t is. sym (same t (omega arith)) ∙ x.before t is;
-      during = λ t le lt. sym (same t (omega arith)) ∙ x.during t le lt;
-      after = sym (same e within) ∙ x.after;
-    })
+period-same p q date b e h1 h2 = search (rules)
 
 -- ---- the order of periods
 
@@ -38,13 +27,7 @@ newest_first-filter {X} load p (x ∷ xs) order = by (p x) refl (newest_first-fi
 
 up_to_twice : (t date : ℕ) (all : List Extract) → t ≤ date → up_to t (up_to date all) ≡ up_to t all
 up_to_twice t date [] le = refl
-up_to_twice t date (x ∷ all) le = by (nat_le x.load date) refl (nat_le x.load t) refl (up_to_twice t date all le)
-  where
-    by : (b : Bool) → nat_le x.load date ≡ b → (c : Bool) → nat_le x.load t ≡ c → up_to t (up_to date all) ≡ up_to t all → up_to t (up_to date (x ∷ all)) ≡ up_to t (x ∷ all)
-    by true e true f rest = rw (e, f, rest)
-    by true e false f rest = rw (e, f) rest
-    by false e false f rest = rw (e, f) rest
-    by false e true f rest = let le_t = leb-true x.load t f in let yes = le-leb x.load date (omega arith) in absurd (never_both (nat_le x.load date) yes e)
+up_to_twice t date (x ∷ all) le = grind (arith, common_steps, nat_tests, up_to_twice t date all le)
 
 module _ (feed : ℕ) (sealed : List Window) (date : ℕ) (order : IsInLoadOrder sealed) where
   abbrev extracts : List Extract
@@ -70,26 +53,18 @@ module _ (feed : ℕ) (sealed : List Window) (date : ℕ) (order : IsInLoadOrder
       (runs_there refs date extracts in_order reached span there)
 
   pub row_period : (row : PeriodRow) → Contains (period_mart sealed feed date) row → IsPeriod (λ t. delivers (content feed sealed t) row.refs) date row.begin row.end
-  row_period row has =
-      period-same (present extracts row.refs) (λ t. delivers (content feed sealed t) row.refs) date row.begin row.end (as_content row.refs)
-      (run_of row (member_before_sort period_cmp (flat_map (periods_of extracts) (flat_map (λ (x : Extract). all_refs x.rows) extracts)) row has))
+  row_period row has = search (rules, period-same, as_content, run_of, member_before_sort)
 
   -- runs of one list that begin at one date are one
   one_end : (p : ℕ → Bool) (b e f : ℕ) → IsPeriod p date b e → IsPeriod p date b f → e ≡ f
-  one_end p b e f (inl x) (inl y) = x.0 ∙ sym y.0
-  one_end p b e f (inl x) (inr y) = absurd (ends_or_not p date b f x.1 y)
-  one_end p b e f (inr x) (inl y) = absurd (ends_or_not p date b e y.1 x)
-  one_end p b e f (inr x) (inr y) = omega (arith, ends_once p date b e f x y, ends_once p date b f e y x)
+  one_end p b e f h1 h2 = grind (arith, common_steps, nat_tests)
 
   -- a list that is in a run is one of the extracts' lists
   began : (p : ℕ → Bool) (b e : ℕ) → IsPeriod p date b e → p b ≡ true
-  began p b e (inl x) = x.1.during b (omega arith) x.1.not_later
-  began p b e (inr x) = x.during b (omega arith) x.ordered
+  began p b e h1 = search (rules)
 
   listed : (all : List Extract) (refs : List Key) → delivers (newest_rows all) refs ≡ true → Contains (flat_map (λ (x : Extract). all_refs x.rows) all) refs
-  listed [] refs e = absurd (never_both false e refl)
-  listed (newest ∷ older) refs e =
-      Contains-flat_map (λ (x : Extract). all_refs x.rows) (newest ∷ older) newest refs (Contains-cons_here newest older) (Contains-all_refs newest.rows refs e)
+  listed all refs h1 = grind (arith, common_steps, never_both, Contains-flat_map, Contains-cons_here, Contains-all_refs)
 
   fewer : (all : List Extract) (p : Extract → Bool) (refs : List Key) → Contains (flat_map (λ (x : Extract). all_refs x.rows) (filter p all)) refs → Contains (flat_map (λ (x : Extract). all_refs x.rows) all) refs
   fewer all p refs has =

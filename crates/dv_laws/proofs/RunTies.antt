@@ -1,7 +1,7 @@
 -- The runs of a reference list are the longest periods in which it is present, up to a date that all extracts have come to.
-use Rattle.dv_laws.proofs.Vocabulary.{unwrap_or, Contains, nat_le, ◌≡◌, ◌⊎◌, ℕ, ◌+◌, ◌-◌, ◌<◌, ◌≤◌, inl, inr, Bool, true, false, List, [], ◌∷◌, Option, Some, None, refl, sym, ◌∙◌, ap, subst, arith, false≢true, le-leb, lt-leb, leb_tells, Contains-append_cases, Contains-append_left}
-use Rattle.dv_laws.proofs.Vocabulary.{Contains-append_right, Key, open_end, Contains-cons_cases, Contains-cons_here, Contains-cons_there, Contains-nil, Extract, delivers, newest_rows, up_to, Span, ended, ended_runs, open_run, run_begin, runs, AllBefore, IsNewestFirst, IsEndedPeriod, IsOpenPeriod}
-use Rattle.dv_laws.proofs.Vocabulary.{IsPeriod, filter-all}
+use Rattle.dv_laws.proofs.Vocabulary.{Contains, nat_le, ◌≡◌, ◌⊎◌, ℕ, ◌+◌, ◌-◌, ◌<◌, ◌≤◌, inl, inr, Bool, true, false, List, [], ◌∷◌, Option, Some, None, refl, sym, ◌∙◌, ap, subst, arith, false≢true, le-leb, lt-leb, leb_tells}
+use Rattle.dv_laws.proofs.Vocabulary.{Contains-append_cases, Contains-append_left, Contains-append_right, Key, open_end, Contains-cons_cases, Contains-cons_here, Contains-cons_there, Contains-nil, Extract, delivers, newest_rows, up_to}
+use Rattle.dv_laws.proofs.Vocabulary.{Span, ended, ended_runs, open_run, run_begin, runs, AllBefore, IsNewestFirst, IsEndedPeriod, IsOpenPeriod, IsPeriod, filter-all, rules, common_steps}
 
 -- ---- periods of a test of dates
 
@@ -18,13 +18,6 @@ module _ (p : ℕ → Bool) (date : ℕ) where
 
   pub open_once : (b c : ℕ) → IsOpenPeriod p date b → IsOpenPeriod p date c → b ≡ c
   open_once b c first second = omega (arith, not_earlier b c first second, not_earlier c b second first)
-
-  -- a period that begins at a date ends at one date
-  pub ends_once : (b e f : ℕ) → IsEndedPeriod p date b e → IsEndedPeriod p date b f → e < f → ⊥
-  ends_once b e f first second less = let in_order = first.ordered in never_both (p e) (second.during e (omega arith) less) first.after
-
-  pub ends_or_not : (b e : ℕ) → IsOpenPeriod p date b → IsEndedPeriod p date b e → ⊥
-  ends_or_not b e first second = let in_order = second.ordered in never_both (p e) (first.during e (omega arith) second.not_later) second.after
 
 -- ---- the runs of a list
 
@@ -45,12 +38,7 @@ reached-older date newest older reached x has = reached x (Contains-cons_there n
 module _ (refs : List Key) (date : ℕ) where
   -- a list that is in no run isn't there
   no_run : (all : List Extract) → run_begin all refs ≡ None → delivers (newest_rows all) refs ≡ false
-  no_run [] e = refl
-  no_run (newest ∷ older) e = by (delivers newest.rows refs) refl
-    where
-      by : (b : Bool) → delivers newest.rows refs ≡ b → delivers newest.rows refs ≡ false
-      by false f = f
-      by true f = let no : Some (unwrap_or (run_begin older refs) newest.load) ≡ None = rw f at e in cc
+  no_run all h1 = search (rules)
 
   begins_before : (limit : ℕ) (all : List Extract) → AllBefore (λ (x : Extract). x.load) limit all → (b : ℕ) → run_begin all refs ≡ Some b → b < limit
   begins_before limit [] early b e = cc
@@ -227,8 +215,5 @@ module _ (refs : List Key) (date : ℕ) where
           ]
 
   pub is_run : (all : List Extract) → IsNewestFirst (λ (x : Extract). x.load) all → Reached date all → (b e : ℕ) → IsPeriod (present all refs) date b e → Contains (runs all refs) (record { begin = b; end = e })
-  is_run all order reached b e (inl open_one) =
-      Contains-append_left (open_run (run_begin all refs)) (ended_runs all refs) (record { begin = b; end = e })
-      (rw (is_opened all order reached b open_one.1, open_one.0) (Contains-cons_here (record { begin = b; end = open_end }) []))
-  is_run all order reached b e (inr ended_one) =
-      Contains-append_right (open_run (run_begin all refs)) (ended_runs all refs) (record { begin = b; end = e }) (is_ended all order reached b e ended_one)
+  is_run all order reached b e (inl open_one) = grind (arith, common_steps, is_opened all order reached b open_one.1)
+  is_run all order reached b e (inr ended_one) = search (rules, Contains-append_right, is_ended)

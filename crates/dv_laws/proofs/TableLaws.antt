@@ -1,6 +1,7 @@
 -- What the tables hold, and how they grow by a window.
-use Rattle.dv_laws.proofs.Vocabulary.{flat_map, Contains, sum_by, ◌≡◌, ℕ, List, [], ◌∷◌, refl, sym, ◌∙◌, ap, subst, ◌+◌, ◌++◌, arith, length, reverse, append-nil, reverse-append, take_all, drop_all, Window, Hashes, Hub, Link, TableId, Mapping, tables, HubRow, LinkRow, Hubs, Links, IsApart}
-use Rattle.dv_laws.proofs.Vocabulary.{offered_refs, loaded, hub_rows, link_rows, rows_in, rows_then, row_count, table_after, table_batch, vault, table_has as hub_has, table_row as hub_row, vault_holds, table_after-newest, batch_adds, grown, HoldsKeys, HoldsLists, PartialEnds}
+use Rattle.dv_laws.proofs.Vocabulary.{flat_map, Contains, sum_by, ◌≡◌, ℕ, List, [], ◌∷◌, sym, ◌∙◌, ap, subst, ◌+◌, ◌++◌, arith, reverse, reverse-append, Window, Hashes, Hub, Link, TableId, Mapping, tables, HubRow, LinkRow, Hubs, Links}
+use Rattle.dv_laws.proofs.Vocabulary.{IsApart, offered_refs, loaded, hub_rows, link_rows, rows_in, rows_then, row_count, table_after, table_batch, vault, table_has as hub_has, table_row as hub_row, vault_holds, table_after-newest}
+use Rattle.dv_laws.proofs.Vocabulary.{batch_adds, grown, HoldsKeys, HoldsLists, PartialEnds, common_steps, nat_tests}
 use Rattle.dv_catalog.specs.declared.tables.TableId.TheVariants.{Hub as HubTable, Link as LinkTable}
 use Rattle.dv_records.proofs.LinkTables.{table_has as link_has, table_row as link_row}
 
@@ -28,7 +29,4 @@ count-push mapping hashes sealed next =
 
 -- no table has the batch, and all have
 pub partial-ends : (mapping : Mapping) (hashes : Hashes) (sealed : List Window) (next : Window) → PartialEnds mapping hashes sealed next
-partial-ends mapping hashes sealed next = record {
-  none = refl;
-  all = rw (reverse-append sealed (next ∷ []), take_all (length (tables mapping)) (tables mapping) (omega arith), drop_all (length (tables mapping)) (tables mapping) (omega arith), append-nil);
-}
+partial-ends mapping hashes sealed next = grind (arith, common_steps, nat_tests)

@@ -6,9 +6,9 @@ pub use Rattle.dv_records.proofs.Vocabulary.{All, All-weaker, Contains-flat_map,
 pub use Rattle.dv_records.proofs.Vocabulary.{delivers, eq-eqb, extract_of, filter-all, filtered_members, flat_map_member, hashed_refs, history, hub_batch, hub_row, hub_rows, is_known, is_offered, keys_at, last_rows, link_row, link_rows, lists_of, member_before_sort, multi_batch, multi_cmp}
 pub use Rattle.dv_records.proofs.Vocabulary.{multi_row, multi_rows, multi_rows_in, nat_cmp-IsAntisymmetric, newest_rows, offered_refs, on_total, option_map_or, present_at, present_parents, refs_eq-Decides, refs_exact, refs_total, reverse_member, row_cmp-IsAntisymmetric, row_count, row_total}
 pub use Rattle.dv_records.proofs.Vocabulary.{rows_in, rows_of, rows_then, sat_cmp, sat_row, some_passes, some_passes_at, sorted_by-members, source, status_batch, status_cmp, status_row, status_rows_in, sum_by, table_after, table_batch, then_total, up_to, valid_feed, vault, ◌&&◌}
-pub use Rattle.dv_index.proofs.Vocabulary.{Contains-cons_cases, Contains-cons_here, Contains-cons_there, ascending-sorted_by, drop_all, filter_map_member, find, le-leb, leb-true, member_after_sort, member_of_filter_map, not-true, reverse-append, same_ascending}
+pub use Rattle.dv_index.proofs.Vocabulary.{Contains-cons_cases, Contains-cons_here, Contains-cons_there, ascending-sorted_by, filter_map_member, find, le-leb, leb-true, member_after_sort, member_of_filter_map, not-true, reverse-append, same_ascending}
 pub use Rattle.dv_keys.proofs.Vocabulary.{collision_free, collision_tied, eqb-true, table_has, table_row}
-pub use Rattle.dv_digest.proofs.Vocabulary.{append-nil, take_all}
+pub use Rattle.dv_digest.proofs.Vocabulary.{append-nil}
 pub use Rattle.dv_catalog.proofs.Vocabulary.{Mapping, bytes_eq, is_valid, map_member, nil_from_length, parent_hubs, tables}
 pub use Rattle.dv_track.proofs.Vocabulary.{Contains-all_refs, given, status_tied}
 pub use Rattle.dv_catalog.specs.declared.entries.FeedDef.{FeedDef}
@@ -42,11 +42,11 @@ pub use Rattle.dv_records.proofs.VaultSteps.{batch_adds, grown, rows_add_up, tab
 pub use Rattle.dv_records.specs.Effects.{IsEffectBatch, effect_batch, effect_cmp, effect_row, span_between}
 pub use Rattle.dv_records.specs.Hubs.{hub_cmp, link_cmp}
 pub use Rattle.dv_records.specs.Loads.{loaded}
-pub use Rattle.dv_records.specs.Marts.{hub_feeds, path_rows_by, period_cmp, period_mart, periods, periods_of}
+pub use Rattle.dv_records.specs.Marts.{hub_feeds, period_cmp, period_mart, periods_of}
 pub use Rattle.dv_records.specs.ReadBack.{any_content_read, any_content_read_by, multi_content_read, multi_content_read_by, rows_read}
 pub use Rattle.dv_records.specs.Reconstruction.{HasKeysAlone, HasOneRowPerSub, all_valid_at, described_row, key_row, loaded_with, present_keys}
 pub use Rattle.dv_records.specs.Runs.{Span, ended, ended_runs, open_run, run_begin, runs}
-pub use Rattle.dv_records.specs.Snapshots.{bridge, bridge_cmp, bridge_row, pit, pit_cmp, sat_load, snap_head, snap_tables}
+pub use Rattle.dv_records.specs.Snapshots.{bridge, bridge_cmp, bridge_row, pit, pit_cmp, sat_load, snap_tables}
 pub use Rattle.dv_records.specs.declared.mart_rows.PeriodRow.{PeriodRow}
 pub use Rattle.dv_records.specs.declared.raw_rows.Code.TheVariants.{D}
 pub use Rattle.dv_records.specs.declared.raw_rows.EffectRow.{EffectRow}
@@ -64,9 +64,11 @@ pub use Rattle.dv_text.specs.declared.rows.Key.{Key}
 pub use Rattle.dv_text.specs.declared.rows.NRow.{NRow}
 pub use Rattle.dv_text.specs.declared.rows.Window.{Window}
 pub use Rattle.std.proofs.lemmas.Bool.{lt-leb}
-pub use Rattle.std.proofs.lemmas.Bool.Decides.{leb_tells}
+pub use Rattle.std.proofs.lemmas.Bool.Decides.{leb_tells, nat_tests}
 pub use Rattle.std.proofs.lemmas.List.Elements.{filter-append}
 pub use Rattle.std.specs.Cmp.{nat_cmp_total}
 pub use Rattle.std.specs.Option.{unwrap_or}
 pub use Rattle.std.specs.Prelude.{nat_le}
 pub use Rattle.std.specs.declared.cmp.Ordering.TheVariants.{Equal}
+pub use Rattle.std.proofs.lemmas.Grind.{common_steps}
+pub use Rattle.std.proofs.Common.{rules}

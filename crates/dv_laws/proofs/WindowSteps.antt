@@ -1,8 +1,7 @@
 -- What a window more changes of the contents, the marts and the snapshots, and what it leaves.
-use Rattle.dv_laws.proofs.Vocabulary.{flat_map, range_with_len, All, Contains, nat_le, slice_get, length, ◌≡◌, ℕ, ◌<◌, List, [], ◌∷◌, ◌++◌, Option, Some, None, refl, ap, append-nil, reverse, map, filter, lt-leb, reverse-append, All-contains, filter-append, Window, Hashes, sorted_by}
-use Rattle.dv_laws.proofs.Vocabulary.{reverse_member, filter_map_member, Hub, Mapping, Pit, Bridge, Pits, Bridges, offered_refs, Extract, content, delivers, extract_of, history, newest_rows, up_to, hub_feeds, path_rows_by, periods, bridge, bridge_cmp, bridge_row, pit, pit_cmp, sat_load}
-use Rattle.dv_laws.proofs.Vocabulary.{snap_head, snap_tables, extract-load, SameAt, SameMarts, SameOfFeed, filter-none}
-use Rattle.dv_records.specs.Marts.{hub_rows}
+use Rattle.dv_laws.proofs.Vocabulary.{flat_map, range_with_len, All, Contains, nat_le, length, ◌≡◌, ℕ, ◌<◌, List, [], ◌∷◌, ◌++◌, None, ap, append-nil, reverse, map, filter, lt-leb, All-contains, filter-append, Window, Hashes, sorted_by}
+use Rattle.dv_laws.proofs.Vocabulary.{reverse_member, filter_map_member, Hub, Mapping, Pit, Bridge, Pits, Bridges, offered_refs, Extract, content, delivers, extract_of, history, newest_rows, up_to, hub_feeds, bridge, bridge_cmp, bridge_row}
+use Rattle.dv_laws.proofs.Vocabulary.{pit, pit_cmp, sat_load, snap_tables, extract-load, SameAt, SameMarts, SameOfFeed, filter-none, arith, common_steps, nat_tests, rules}
 
 -- ---- before the first window
 
@@ -18,39 +17,19 @@ empty_before feed sealed date later =
 
 -- ---- a window without a feed
 
-history-absent : (feed : ℕ) (sealed : List Window) (next : Window) → extract_of feed next ≡ None → history feed (reverse (sealed ++ next ∷ [])) ≡ history feed (reverse sealed)
-history-absent feed sealed next none = rw (reverse-append sealed (next ∷ []), none)
-
 pub absent_leaves : (mapping : Mapping) (hashes : Hashes) (feed : ℕ) (sealed : List Window) (next : Window) → extract_of feed next ≡ None → SameOfFeed mapping hashes feed sealed (sealed ++ next ∷ [])
-absent_leaves mapping hashes feed sealed next none = record {
-  contents = λ date. ap (λ extracts. newest_rows (up_to date extracts)) (history-absent feed sealed next none);
-  periods = λ date. ap (λ extracts. periods (up_to date extracts)) (history-absent feed sealed next none);
-  sat = rw (reverse-append sealed (next ∷ []), none, append-nil);
-  multi = rw (reverse-append sealed (next ∷ []), none, append-nil);
-  status = rw (reverse-append sealed (next ∷ []), none, append-nil);
-  effect = rw (reverse-append sealed (next ∷ []), none, append-nil);
-}
+absent_leaves mapping hashes feed sealed next none = grind (arith, common_steps, nat_tests)
 
 -- ---- the same contents
 
 -- marts are decided by the contents
 pub contents_decide : (mapping : Mapping) (date : ℕ) (a b : List Window) → ((feed : ℕ) → content feed a date ≡ content feed b date) → SameMarts mapping date a b
-contents_decide mapping date a b same = record {
-  feeds = same;
-  hubs = λ hub i. hub_rows mapping (λ feed. same feed i) hub;
-  paths = λ path i. path_rows_by mapping (λ feed. same feed i) (slice_get mapping.paths path);
-}
+contents_decide mapping date a b same = search (rules)
 
 -- ---- a later window
 
 up_to-later : (feed : ℕ) (sealed : List Window) (next : Window) (date : ℕ) → date < next.load → up_to date (history feed (reverse (sealed ++ next ∷ []))) ≡ up_to date (history feed (reverse sealed))
-up_to-later feed sealed next date later = rw (reverse-append sealed (next ∷ [])) (by (extract_of feed next) refl)
-  where
-    by : (o : Option Extract) → extract_of feed next ≡ o → up_to date (history feed (next ∷ reverse sealed)) ≡ up_to date (history feed (reverse sealed))
-    by None e = rw e
-    by (Some extract) e =
-        let is_later : date < extract.load = rw (extract-load feed next extract e) later in
-        rw (e, lt-leb extract.load date is_later)
+up_to-later feed sealed next date later = grind (arith, common_steps, nat_tests)
 
 windows-later : (sealed : List Window) (next : Window) (date : ℕ) → date < next.load → filter (λ window. nat_le window.load date) (sealed ++ next ∷ []) ≡ filter (λ window. nat_le window.load date) sealed
 windows-later sealed next date later = rw (filter-append, lt-leb next.load date later) (append-nil _)
@@ -81,10 +60,4 @@ module _ (mapping : Mapping) (hashes : Hashes) (sealed : List Window) (next : Wi
       ++ map (λ path. record { id = Bridge path; rows = Bridges (bridges_same path i) }) (range_with_len 0 (length mapping.paths))
 
   pub later_leaves : SameAt mapping hashes date sealed (sealed ++ next ∷ [])
-  later_leaves = record {
-    feeds = marts_same.feeds;
-    hubs = marts_same.hubs;
-    paths = marts_same.paths;
-    periods = λ feed. ap periods (extracts_same feed);
-    snapshots = λ i. record { head = snap_head date (tables_same i); tables = tables_same i };
-  }
+  later_leaves = search (rules, marts_same, extracts_same, tables_same)

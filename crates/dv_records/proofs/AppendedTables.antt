@@ -1,5 +1,6 @@
 -- The tables after rows are put at the end of one, by the place of its entry.
-use Rattle.dv_records.proofs.Vocabulary.{◌≡◌, ℕ, Bool, false, List, [], ◌∷◌, ◌++◌, Some, get_or, slice_set, refl, ap, TableId, Rows, TableRows, appended_to, rows_then, table_eq, Contains, position, Contains-cons_here, Contains-cons_there, by_place}
+use Rattle.dv_records.proofs.Vocabulary.{◌≡◌, ℕ, Bool, false, List, [], ◌∷◌, ◌++◌, Some, get_or, slice_set, refl, ap, TableId, Rows, TableRows, appended_to, rows_then, table_eq, Contains, position, Contains-cons_here, Contains-cons_there}
+use Rattle.dv_records.proofs.Vocabulary.{by_place}
 
 module _ (table : TableId) (rows : Rows) where
   abbrev pub is_its : TableRows → Bool

@@ -1,6 +1,6 @@
 -- A list is a batch's value exactly where it meets the record.
-use Rattle.dv_records.proofs.Vocabulary.{Ordering, Equal, IsTotalOrder, on_total, nat_list_cmp_total, nat_cmp-IsAntisymmetric, slice_cmp-IsAntisymmetric, filter_map, option_map, Contains, ◌≡◌, ◌↔◌, ℕ, List, Option, Some, None, sym, ◌∙◌, ap, subst, filter_map_member, member_of_filter_map}
-use Rattle.dv_records.proofs.Vocabulary.{ascending-sorted_by, member_after_sort, member_before_sort, same_ascending, batch_of, digest_cmp, IsBatchOf, IsWholeBatch}
+use Rattle.dv_records.proofs.Vocabulary.{Ordering, Equal, IsTotalOrder, on_total, nat_list_cmp_total, nat_cmp-IsAntisymmetric, slice_cmp-IsAntisymmetric, filter_map, option_map, Contains, ◌≡◌, ◌↔◌, ℕ, List, Option, Some, sym, ◌∙◌, ap}
+use Rattle.dv_records.proofs.Vocabulary.{subst, filter_map_member, member_of_filter_map, ascending-sorted_by, member_after_sort, member_before_sort, same_ascending, batch_of, digest_cmp, IsBatchOf, IsWholeBatch, rules}
 
 -- each row of a batch is made of one of the things
 pub batch_made : {T R : Type 0} (cmp : R → R → Ordering) (row_of : T → Option R) (things : List T) (row : R) → Contains (batch_of cmp row_of things) row → (thing : T) × Contains things thing × (row_of thing ≡ Some row)
@@ -64,5 +64,4 @@ tied_whole stands rows ties = (
 
 -- a row made of an option's value keeps what each value gives
 pub given : {A R : Type 0} (made : A → R) (digest : R → List ℕ) (d : List ℕ) → ((a : A) → digest (made a) ≡ d) → (o : Option A) (r : R) → option_map made o ≡ Some r → digest r ≡ d
-given made digest d same None r e = cc
-given made digest d same (Some a) r e = let is : Some (made a) ≡ Some r = e in let row : made a ≡ r = cc in ap digest (sym row) ∙ same a
+given made digest d h1 o r h2 = search (rules)

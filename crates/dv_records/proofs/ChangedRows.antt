@@ -1,8 +1,8 @@
 -- The rows of a satellite say at each date which rows a list had when it was last there, for any kind of row that is made
 -- of an extract's row.
-use Rattle.dv_records.proofs.Vocabulary.{Ordering, pointwise, Contains, if◌then◌else◌, find, ◌&&◌, nat_le, not, ◌≡◌, ℕ, Bool, true, false, List, [], ◌∷◌, Some, None, refl, sym, ◌∙◌, ap, subst, reverse, ◌⊎◌, inl, inr, bytes_eq, false≢true, not-false, Contains-append_left, slice_eq-Decides, Key}
-use Rattle.dv_records.proofs.Vocabulary.{NRow, Hashes, refs_eq, row_eq, refs_eq-Decides, row_eq-Decides, Contains-cons_here, Contains-cons_there, filtered_members, Contains-map, Contains-nil, some_passes_at, some_passes, appended, IsBatchOf, IsApart, Extract, all_refs, delivers, lists_of, up_to}
-use Rattle.dv_records.proofs.Vocabulary.{first_attrs, is_changed, last_rows, rows_of, IsOnePerList}
+use Rattle.dv_records.proofs.Vocabulary.{Ordering, pointwise, Contains, if◌then◌else◌, find, ◌&&◌, nat_le, not, ◌≡◌, ℕ, Bool, true, false, List, [], ◌∷◌, Some, None, refl, sym, ◌∙◌, ap, subst, reverse, ◌⊎◌, inl, inr, bytes_eq, false≢true}
+use Rattle.dv_records.proofs.Vocabulary.{not-false, Contains-append_left, slice_eq-Decides, Key, NRow, Hashes, refs_eq, row_eq, refs_eq-Decides, row_eq-Decides, Contains-cons_here, Contains-cons_there, filtered_members, Contains-map}
+use Rattle.dv_records.proofs.Vocabulary.{Contains-nil, some_passes_at, some_passes, appended, IsBatchOf, IsApart, Extract, all_refs, delivers, lists_of, up_to, first_attrs, is_changed, last_rows, rows_of, IsOnePerList}
 use Rattle.dv_records.proofs.LastChange.{AreApart, Changes, IsStep, Tells, apart-older, last_change}
 use Rattle.dv_records.proofs.Reversing.{IsNewestFirst}
 

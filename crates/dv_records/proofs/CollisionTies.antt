@@ -1,8 +1,8 @@
 -- The collision of a hub or a link is the least pair of different lists with one hash key.
-use Rattle.dv_records.proofs.Vocabulary.{Ordering, Less, Equal, Greater, IsTotalOrder, on_total, then_total, AllByRecursion, IsStrictlySortedBy, All, Contains, find, bytes_eq, ◌≡◌, ◌↔◌, inl, inr, ◌⊎◌, Bool, true, false, List, [], ◌∷◌, Option, Some, None, refl, sym, ◌∙◌, ap, subst, false≢true}
-use Rattle.dv_records.proofs.Vocabulary.{All-cons, All-head, All-nil, All-tail, bytes_eq-Decides, Key, Window, both_tied, Hashes, refs_cmp, sorted_by, refs_exact, refs_total, member_of_all, Contains-cons_cases, Contains-cons_here, Contains-cons_there, Contains-nil, none_before_map, or_none}
-use Rattle.dv_records.proofs.Vocabulary.{asymmetric, irreflexive, then_less, turned, finds, found_member, ascending-sorted_by, member_after_sort, member_before_sort, Parent, Mapping, Pair, IsApart, IsLeastPair, IsPairOf, collision, collision_in, first_collision, hashed_refs, least_pair, pair_cmp}
-use Rattle.dv_records.proofs.Vocabulary.{parents}
+use Rattle.dv_records.proofs.Vocabulary.{Ordering, Less, Equal, Greater, IsTotalOrder, on_total, then_total, AllByRecursion, IsStrictlySortedBy, All, Contains, find, bytes_eq, ◌≡◌, ◌↔◌, ◌⊎◌, Bool, List, [], ◌∷◌, Option, Some, None, refl}
+use Rattle.dv_records.proofs.Vocabulary.{sym, ◌∙◌, ap, subst, false≢true, All-cons, All-head, All-nil, All-tail, bytes_eq-Decides, Key, Window, Hashes, refs_cmp, sorted_by, refs_exact, refs_total, member_of_all, Contains-cons_cases}
+use Rattle.dv_records.proofs.Vocabulary.{Contains-cons_here, Contains-cons_there, Contains-nil, none_before_map, or_none, asymmetric, irreflexive, then_less, turned, finds, found_member, ascending-sorted_by, member_after_sort}
+use Rattle.dv_records.proofs.Vocabulary.{member_before_sort, Parent, Mapping, Pair, IsApart, IsLeastPair, IsPairOf, collision, collision_in, first_collision, hashed_refs, least_pair, pair_cmp, parents, rules, arith, common_steps}
 
 greater_than : (x : List Key) (xs : List (List Key)) → AllByRecursion (λ y. refs_cmp x y ≡ Less) xs → (y : List Key) → Contains xs y → refs_cmp x y ≡ Less
 greater_than x xs all y has = member_of_all (λ y. refs_cmp x y ≡ Less) xs y all has
@@ -14,16 +14,7 @@ pair_total = then_total (on_total (λ (pair : Pair). pair.first) refs_total) (on
 
 -- pairs of which neither is less are one
 pairs_same : (a b : Pair) → (pair_cmp a b ≡ Less → ⊥) → (pair_cmp b a ≡ Less → ⊥) → a ≡ b
-pairs_same a b not_ab not_ba = by (pair_cmp a b) refl
-  where
-    by : (o : Ordering) → pair_cmp a b ≡ o → a ≡ b
-    by Less e = absurd (not_ab e)
-    by Equal e =
-        let ties = both_tied _ _ e in
-        let first = refs_exact a.first b.first ties.0 in
-        let second = refs_exact a.second b.second ties.1 in
-        λ i. record { first = first i; second = second i }
-    by Greater e = absurd (not_ba (turned pair_total a b e))
+pairs_same a b not_ab not_ba = search (rules, refs_exact, turned, pair_total)
 
 -- ---- the least pair of a list in order
 
@@ -35,27 +26,10 @@ module _ (hashes : Hashes) where
   pair_cases : (refs : List Key) (greater : List (List Key)) → IsStrictlySortedBy refs_cmp (refs ∷ greater) → (pair : Pair) → IsPairOf hashes (refs ∷ greater) pair
       → ((refs ≡ pair.first) × Contains greater pair.second) ⊎ IsPairOf hashes greater pair
   unfolding IsStrictlySortedBy
-  pair_cases refs greater up pair is =
-      elim (Contains-cons_cases refs greater pair.first is.has_first) [
-        | inl first ↦
-            elim (Contains-cons_cases refs greater pair.second is.has_second) [
-              | inl second ↦ absurd (irreflexive refs_total refs (subst (λ w. refs_cmp w refs ≡ Less) (sym first) (subst (λ w. refs_cmp pair.first w ≡ Less) (sym second) is.ordered)))
-              | inr rest ↦ inl (first, rest)
-            ]
-        | inr rest ↦
-            elim (Contains-cons_cases refs greater pair.second is.has_second) [
-              | inl second ↦ absurd (asymmetric refs_total refs pair.first (greater_than refs greater up.0 pair.first rest) (subst (λ w. refs_cmp pair.first w ≡ Less) (sym second) is.ordered))
-              | inr more ↦ inr (record { has_first = rest; has_second = more; alike = is.alike; ordered = is.ordered })
-            ]
-      ]
+  pair_cases refs greater up pair is = grind (arith, common_steps, Contains-cons_cases, irreflexive, refs_total, asymmetric, greater_than)
 
   more_pair : (refs : List Key) (greater : List (List Key)) (pair : Pair) → IsPairOf hashes greater pair → IsPairOf hashes (refs ∷ greater) pair
-  more_pair refs greater pair is = record {
-    has_first = Contains-cons_there refs greater pair.first is.has_first;
-    has_second = Contains-cons_there refs greater pair.second is.has_second;
-    alike = is.alike;
-    ordered = is.ordered;
-  }
+  more_pair refs greater pair is = search (rules, Contains-cons_there)
 
   -- what the least pair of a list is: none where there is no pair, and else the least one
   abbrev Answers : Option Pair → List (List Key) → Type 0
@@ -67,48 +41,13 @@ module _ (hashes : Hashes) where
       → hashes.hash refs ≡ hashes.hash other → refs_cmp other found ≡ Less → ⊥
   unfolding IsStrictlySortedBy
   first_found refs [] up found e other has same less = Contains-nil other has
-  first_found refs (x ∷ all) up found e other has same less = by (alike refs x) refl (first_found refs all up.1 found)
-    where
-      by : (b : Bool) → alike refs x ≡ b → (find (alike refs) all ≡ Some found → (o : List Key) → Contains all o → hashes.hash refs ≡ hashes.hash o → refs_cmp o found ≡ Less → ⊥) → ⊥
-      by true t later =
-          let here : Some x ≡ Some found = rw t at e in
-          let is : x ≡ found = cc in
-          elim (Contains-cons_cases x all other has) [
-            | inl first ↦ irreflexive refs_total x (subst (λ w. refs_cmp x w ≡ Less) (sym is) (subst (λ w. refs_cmp w found ≡ Less) (sym first) less))
-            | inr rest ↦ asymmetric refs_total x other (greater_than x all up.0 other rest) (subst (λ w. refs_cmp other w ≡ Less) (sym is) less)
-          ]
-      by false f later =
-          elim (Contains-cons_cases x all other has) [
-            | inl first ↦ let yes = (bytes_eq-Decides (hashes.hash refs) (hashes.hash x)).1 (same ∙ ap hashes.hash (sym first)) in absurd (false≢true (sym f ∙ yes))
-            | inr rest ↦ later (rw f at e) other rest same less
-          ]
+  first_found refs (x ∷ all) up found e other has same less = grind (arith, common_steps, Contains-cons_cases, irreflexive, refs_total, asymmetric, greater_than, bytes_eq-Decides, false≢true, first_found refs all up.1 found)
 
   -- a list's first one and one alike after it are a pair, and no pair is less than that with the first one alike
   found_is_least : (refs : List Key) (greater : List (List Key)) → IsStrictlySortedBy refs_cmp (refs ∷ greater) → (found : List Key) → find (alike refs) greater ≡ Some found
       → IsLeastPair hashes (refs ∷ greater) (record { first = refs; second = found })
   unfolding IsStrictlySortedBy
-  found_is_least refs greater up found e =
-      let (member, same) = found_member (alike refs) greater found e in
-      record {
-        is = record {
-          has_first = Contains-cons_here refs greater;
-          has_second = Contains-cons_there refs greater found member;
-          alike = (bytes_eq-Decides (hashes.hash refs) (hashes.hash found)).0 same;
-          ordered = greater_than refs greater up.0 found member;
-        };
-        least = λ other is less. elim (then_less (refs_cmp other.first refs) (refs_cmp other.second found) less) [
-          | inl first ↦
-              elim (Contains-cons_cases refs greater other.first is.has_first) [
-                | inl here ↦ irreflexive refs_total refs (subst (λ w. refs_cmp w refs ≡ Less) (sym here) first)
-                | inr rest ↦ asymmetric refs_total refs other.first (greater_than refs greater up.0 other.first rest) first
-              ]
-          | inr both ↦
-              elim (pair_cases refs greater up other is) [
-                | inl pair ↦ first_found refs greater up.1 found e other.second pair.1 (ap hashes.hash pair.0 ∙ is.alike) both.1
-                | inr rest ↦ irreflexive refs_total refs (subst (λ w. refs_cmp refs w ≡ Less) (refs_exact other.first refs both.0) (greater_than refs greater up.0 other.first rest.has_first))
-              ]
-        ];
-      }
+  found_is_least refs greater up found e = grind (arith, common_steps, found_member, Contains-cons_here, Contains-cons_there, bytes_eq-Decides, greater_than, then_less, Contains-cons_cases, irreflexive, refs_total, asymmetric, pair_cases, first_found, refs_exact)
 
   -- where none after it is alike, a list's first one is in no pair
   not_first : (refs : List Key) (greater : List (List Key)) → find (alike refs) greater ≡ None → (pair : Pair) → IsPairOf hashes (refs ∷ greater) pair → refs ≡ pair.first → Contains greater pair.second → ⊥
@@ -118,26 +57,13 @@ module _ (hashes : Hashes) where
       cc
 
   widened : (refs : List Key) (greater : List (List Key)) → IsStrictlySortedBy refs_cmp (refs ∷ greater) → find (alike refs) greater ≡ None → (o : Option Pair) → Answers o greater → Answers o (refs ∷ greater)
-  widened refs greater up e None none = λ pair is. elim (pair_cases refs greater up pair is) [
-    | inl first ↦ not_first refs greater e pair is first.0 first.1
-    | inr rest ↦ none pair rest
-  ]
-  widened refs greater up e (Some pair) is_least = record {
-    is = more_pair refs greater pair is_least.is;
-    least = λ other is less. elim (pair_cases refs greater up other is) [
-      | inl first ↦ not_first refs greater e other is first.0 first.1
-      | inr rest ↦ is_least.least other rest less
-    ];
-  }
+  widened refs greater up e None none = search (rules, pair_cases, not_first)
+  widened refs greater up e (Some pair) is_least = search (rules, more_pair, pair_cases, not_first, more_pair refs greater pair is_least.is)
 
   answers : (lists : List (List Key)) → IsStrictlySortedBy refs_cmp lists → Answers (least_pair hashes.hash lists) lists
   unfolding IsStrictlySortedBy
   answers [] up = λ pair is. Contains-nil pair.first is.has_first
-  answers (refs ∷ greater) up = by (find (alike refs) greater) refl (answers greater up.1)
-    where
-      by : (o : Option (List Key)) → find (alike refs) greater ≡ o → Answers (least_pair hashes.hash greater) greater → Answers (least_pair hashes.hash (refs ∷ greater)) (refs ∷ greater)
-      by (Some other) e rest = rw e (found_is_least refs greater up other e)
-      by None e rest = rw e (widened refs greater up e (least_pair hashes.hash greater) rest)
+  answers (refs ∷ greater) up = search (rules, found_is_least, widened, answers greater up.1)
 
   -- ---- the same of any list, put in order
 

@@ -1,9 +1,10 @@
 -- Rows in the order of their load dates, and of their batch within one date: what is true of the tables of satellites and of
 -- status tables.
-use Rattle.dv_records.proofs.Vocabulary.{◌≡◌, ℕ, ◌==◌, ◌≤◌, ◌<◌, inl, inr, Bool, true, false, List, [], ◌∷◌, ◌++◌, Option, Some, None, refl, sym, ◌∙◌, subst, arith, append-nil, nat_le, length, ◌-◌, reverse, eq-eqb, slice_get, ◌&&◌, Contains, find, if◌then◌else◌, All, Ordering, Less, ranked}
-use Rattle.dv_records.proofs.Vocabulary.{AllByRecursion, filter_map, list_all, list_any, IsStrictlySortedBy, nat_cmp, ordering_then, and_from, eqb-true, false≢true, le-leb, leb-true, All-contains_itself, All-weaker, Contains-append_cases, Contains-cons_cases, Contains-cons_here}
-use Rattle.dv_records.proofs.Vocabulary.{Contains-cons_there, Contains-nil, filter_map_member, member_of_all, reverse_member, got_member, none_behind, equal_first, le_from_cmp, less_first, all_pass, find_same, passes_at, some_passes, some_passes_at, same_answer, ascending-append, ascending-same}
-use Rattle.dv_records.proofs.Vocabulary.{member_before_sort, appended, batch_of, AreNewestFirst, Extract, Place, are_in_load_order, get_or-map, get_or_from_slice_get, loads_rise}
+use Rattle.dv_records.proofs.Vocabulary.{◌≡◌, ℕ, ◌==◌, ◌≤◌, ◌<◌, inl, inr, Bool, true, false, List, [], ◌∷◌, ◌++◌, Option, Some, refl, sym, ◌∙◌, subst, arith, append-nil, nat_le, length, ◌-◌, reverse, eq-eqb, slice_get, ◌&&◌, Contains}
+use Rattle.dv_records.proofs.Vocabulary.{find, if◌then◌else◌, All, Ordering, Less, AllByRecursion, filter_map, list_all, list_any, IsStrictlySortedBy, nat_cmp, ordering_then, and_from, eqb-true, false≢true, le-leb, leb-true}
+use Rattle.dv_records.proofs.Vocabulary.{All-contains_itself, All-weaker, Contains-append_cases, Contains-cons_here, Contains-cons_there, Contains-nil, filter_map_member, member_of_all, reverse_member, got_member, equal_first, le_from_cmp}
+use Rattle.dv_records.proofs.Vocabulary.{less_first, all_pass, find_same, passes_at, some_passes, some_passes_at, same_answer, ascending-append, ascending-same, member_before_sort, appended, batch_of, AreNewestFirst, Extract, Place}
+use Rattle.dv_records.proofs.Vocabulary.{are_in_load_order, get_or-map, get_or_from_slice_get, loads_rise, rules, common_steps, nat_tests}
 use Rattle.dv_records.proofs.Reversing.{AllBefore, IsNewestFirst}
 
 -- ---- rows whose load dates do not fall
@@ -35,8 +36,7 @@ strictly : (a b : ℕ) → a ≤ b → (a ≡ b → ⊥) → a < b
 strictly a b le differs = omega (arith, differs)
 
 with_true : (a b : Bool) → b ≡ true → (a && b) ≡ a
-with_true true b e = e
-with_true false b e = refl
+with_true a b h1 = search (rules)
 
 module _ {X : Type 0} (load : X → ℕ) (cmp : X → X → Ordering) where
   -- no row is later than a date
@@ -59,11 +59,6 @@ module _ {X : Type 0} (load : X → ℕ) (cmp : X → X → Ordering) where
       let (row, member, same) = some_passes (λ row. load row == date) rows has in
       eq-eqb (load last) date (omega (arith, eqb-true (load row) date same, last_is_latest rows last up e row member, all_up_to rows date last early last_in)))
 
-  -- there is a last one unless there is none
-  pub none_last : (rows : List X) → slice_get rows (length rows - 1) ≡ None → rows ≡ []
-  none_last [] e = refl
-  none_last (first ∷ rows) e = let behind = none_behind (first ∷ rows) (length (first ∷ rows) - 1) e in absurd (omega (arith, behind))
-
   -- a test of rows that are up to the last one's date is a test of rows
   pub found_up_to_last : (p : X → Bool) (rows : List X) (last : X) → IsStrictlySortedBy (dated load cmp) rows → slice_get rows (length rows - 1) ≡ Some last
       → find (λ row. p row && nat_le (load row) (load last)) (reverse rows) ≡ find p (reverse rows)
@@ -75,8 +70,7 @@ module _ {X : Type 0} (load : X → ℕ) (cmp : X → X → Ordering) where
 
   -- rows of one load date in the order of a batch
   pub ascends : (date : ℕ) (rows : List X) → ((row : X) → Contains rows row → load row ≡ date) → IsStrictlySortedBy cmp rows → IsStrictlySortedBy (dated load cmp) rows
-  ascends date rows stamped up =
-      ascending-same cmp (dated load cmp) rows (λ a b a_in b_in. sym (equal_first (load a) (load b) (cmp a b) (stamped a a_in ∙ sym (stamped b b_in)))) up
+  ascends date rows stamped up = search (rules, ascending-same, equal_first)
 
   -- behind rows that are earlier
   pub follows : (date : ℕ) (rows more : List X) → IsStrictlySortedBy (dated load cmp) rows → list_all (λ row. nat_le (load row) date) rows ≡ true → list_any (λ row. load row == date) rows ≡ false
@@ -99,11 +93,7 @@ module _ {X : Type 0} (load : X → ℕ) (cmp : X → X → Ordering) (date : �
   delta = if list_any (λ row. load row == date) rows then [] else made
 
   has_its_load : (row : X) → Contains delta row → load row ≡ date
-  has_its_load row has = by (list_any (λ row. load row == date) rows) refl
-    where
-      by : (b : Bool) → list_any (λ row. load row == date) rows ≡ b → load row ≡ date
-      by true e = Contains-nil row (rw e at has)
-      by false e = stamped row (rw e at has)
+  has_its_load row has = search (rules, Contains-nil)
 
   -- all rows have the load date
   pub delta_stamped : All (λ row. load row ≡ date) delta
@@ -111,27 +101,18 @@ module _ {X : Type 0} (load : X → ℕ) (cmp : X → X → Ordering) (date : �
 
   -- and stand behind those that are there
   pub delta_follows : IsStrictlySortedBy cmp made → IsStrictlySortedBy (dated load cmp) rows → list_all (λ row. nat_le (load row) date) rows ≡ true → IsStrictlySortedBy (dated load cmp) (rows ++ delta)
-  delta_follows ordered up early = by (list_any (λ row. load row == date) rows) refl
-    where
-      by : (b : Bool) → list_any (λ row. load row == date) rows ≡ b → IsStrictlySortedBy (dated load cmp) (rows ++ delta)
-      by true e = rw (e, append-nil) up
-      by false e = rw e (follows load cmp date rows made up early e stamped ordered)
+  delta_follows ordered up early = search (rules, append-nil, follows)
 
 -- the rows of a batch have the load date that each of them is given
 pub batch_stamped : {T X : Type 0} (load : X → ℕ) (cmp : X → X → Ordering) (change : T → Option X) (date : ℕ) → ((t : T) (x : X) → change t ≡ Some x → load x ≡ date) → (things : List T) (row : X)
     → Contains (batch_of cmp change things) row → load row ≡ date
-batch_stamped load cmp change date stamped things row has =
-    let (thing, member, gives) = filter_map_member change things row (member_before_sort cmp (filter_map change things) row has) in stamped thing row gives
+batch_stamped load cmp change date stamped things row has = grind (arith, common_steps, filter_map_member change things row (member_before_sort cmp (filter_map change things) row has), member_before_sort cmp (filter_map change things) row has)
 
 -- ---- tables of extracts
 
 all_before : (date : ℕ) (extracts : List Extract) → AllByRecursion (λ (extract : Extract). nat_cmp extract.load date ≡ Less) extracts → AllBefore (λ (extract : Extract). extract.load) date extracts
 all_before date [] all extract has = Contains-nil extract has
-all_before date (first ∷ rest) all extract has =
-    elim (Contains-cons_cases first rest extract has) [
-      | inl same ↦ subst (λ (e : Extract). e.load < date) same (ranked first.load date Less (sym all.0))
-      | inr member ↦ all_before date rest all.1 extract member
-    ]
+all_before date (first ∷ rest) all extract has = grind (arith, common_steps, nat_tests)
 
 pub newest_first : (extracts : List Extract) → AreNewestFirst extracts → IsNewestFirst (λ (extract : Extract). extract.load) extracts
 unfolding IsStrictlySortedBy

@@ -1,6 +1,7 @@
 -- The deliveries of a window are its offers, each list once, by the first feed.
-use Rattle.dv_records.proofs.Vocabulary.{slice_cmp-IsAntisymmetric, Contains, ◌≡◌, ◌↔◌, true, List, Some, sym, ◌∙◌, ap, Key, Window, key_cmp-IsAntisymmetric, refs_eq, refs_cmp, sorted_by, refs_eq-Decides, any_refs, filter_map_member, member_of_filter_map, map_member, Contains-map, finds}
-use Rattle.dv_records.proofs.Vocabulary.{found_member, member_after_sort, Parent, Mapping, Delivery, deliveries, first_offer, is_offered, offered_refs, offers}
+use Rattle.dv_records.proofs.Vocabulary.{slice_cmp-IsAntisymmetric, Contains, ◌≡◌, ◌↔◌, true, List, Some, ◌∙◌, ap, Key, Window, key_cmp-IsAntisymmetric, refs_eq, refs_cmp, sorted_by, refs_eq-Decides, any_refs, filter_map_member}
+use Rattle.dv_records.proofs.Vocabulary.{member_of_filter_map, map_member, Contains-map, finds, found_member, member_after_sort, Parent, Mapping, Delivery, deliveries, first_offer, is_offered, offered_refs, offers, rules, arith}
+use Rattle.dv_records.proofs.Vocabulary.{common_steps}
 
 module _ (mapping : Mapping) (parent : Parent) (window : Window) where
   -- a list that is offered is among those that are, and the other way round
@@ -12,8 +13,7 @@ module _ (mapping : Mapping) (parent : Parent) (window : Window) where
 
   -- the first offer of a list has the list, and is an offer
   pub first_offer-refs : (refs : List Key) (item : Delivery) → first_offer mapping parent window refs ≡ Some item → item.refs ≡ refs
-  first_offer-refs refs item e =
-      (refs_eq-Decides item.refs refs).0 (found_member (λ (offer : Delivery). refs_eq offer.refs refs) (offers mapping parent window) item e).1
+  first_offer-refs refs item e = search (rules, refs_eq-Decides, found_member)
 
   pub first_offer-member : (refs : List Key) (item : Delivery) → first_offer mapping parent window refs ≡ Some item → Contains (offers mapping parent window) item
   first_offer-member refs item e = (found_member (λ (offer : Delivery). refs_eq offer.refs refs) (offers mapping parent window) item e).0
@@ -40,11 +40,8 @@ module _ (mapping : Mapping) (parent : Parent) (window : Window) where
 
   -- a delivery's list is offered
   pub delivery-offered : (item : Delivery) → Contains (deliveries mapping parent window) item → Contains (offered_refs mapping parent window) item.refs
-  delivery-offered item has =
-      Contains-map (λ (offer : Delivery). offer.refs) (offers mapping parent window) item (first_offer-member item.refs item ((deliveries_member item).0 has))
+  delivery-offered item has = grind (arith, common_steps, first_offer-member item.refs item ((deliveries_member item).0 has), deliveries_member item)
 
   -- no two deliveries have one list
   pub deliveries-apart : (a b : Delivery) → Contains (deliveries mapping parent window) a → Contains (deliveries mapping parent window) b → a.refs ≡ b.refs → a ≡ b
-  deliveries-apart a b a_in b_in e =
-      let both : Some a ≡ Some b = sym ((deliveries_member a).0 a_in) ∙ ap (first_offer mapping parent window) e ∙ (deliveries_member b).0 b_in in
-      cc
+  deliveries-apart a b a_in b_in e = grind (arith, common_steps, deliveries_member a, deliveries_member b)

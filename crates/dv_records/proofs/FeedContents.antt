@@ -1,8 +1,9 @@
 -- The content of a valid feed, its rows' hash keys, and its status table in the vault.
-use Rattle.dv_records.proofs.Vocabulary.{IsStrictlySortedBy, Contains, find, slice_get, ◌&&◌, bytes_eq, ◌≡◌, ℕ, inl, inr, Bool, true, false, List, [], ◌∷◌, ◌++◌, Option, Some, None, refl, sym, ◌∙◌, ap, subst, map, nat_le, reverse, and_parts, Contains-append_cases, Contains-append_right}
-use Rattle.dv_records.proofs.Vocabulary.{bytes_eq-Decides, Key, NRow, Window, text_cmp-IsAntisymmetric, Hashes, refs_eq, row_cmp, sorted_by, refs_eq-Decides, filtered_members, Contains-flat_map, map_member, Contains-map, Contains-nil, reverse_member, made_of, some_passes_at, some_passes}
-use Rattle.dv_records.proofs.Vocabulary.{found_member, member_after_sort, member_before_sort, FeedDef, Mapping, source as source_of, is_valid, StatusRow, Statuses, appended, digest_cmp, IsApart, Extract, all_refs, content, delivered_refs, delivers, history, newest_rows, lists_of, present_parents}
-use Rattle.dv_records.proofs.Vocabulary.{refs_read, status_rows_in, present_at, says_present, are_windows_valid, code_of, status_batch, status_cmp, status_row, vault}
+use Rattle.dv_records.proofs.Vocabulary.{IsStrictlySortedBy, Contains, find, slice_get, ◌&&◌, bytes_eq, ◌≡◌, ℕ, inl, inr, Bool, true, false, List, [], ◌∷◌, ◌++◌, Option, Some, None, refl, sym, ◌∙◌, ap, subst, map, nat_le, reverse}
+use Rattle.dv_records.proofs.Vocabulary.{and_parts, Contains-append_cases, Contains-append_right, bytes_eq-Decides, Key, NRow, Window, text_cmp-IsAntisymmetric, Hashes, refs_eq, row_cmp, sorted_by, refs_eq-Decides, filtered_members}
+use Rattle.dv_records.proofs.Vocabulary.{Contains-flat_map, map_member, Contains-map, Contains-nil, reverse_member, made_of, some_passes_at, some_passes, found_member, member_after_sort, member_before_sort, FeedDef, Mapping}
+use Rattle.dv_records.proofs.Vocabulary.{source as source_of, is_valid, StatusRow, Statuses, appended, digest_cmp, IsApart, Extract, all_refs, content, delivered_refs, delivers, history, newest_rows, lists_of, present_parents, refs_read}
+use Rattle.dv_records.proofs.Vocabulary.{status_rows_in, present_at, says_present, are_windows_valid, code_of, status_batch, status_cmp, status_row, vault}
 use Rattle.dv_records.proofs.BatchTies.{batch_made}
 use Rattle.dv_records.proofs.FeedRefs.{parent_apart, refs_told}
 use Rattle.dv_records.proofs.FeedSteps.{appended-history}

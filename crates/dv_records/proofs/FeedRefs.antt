@@ -1,7 +1,8 @@
 -- The references of a valid feed's rows are read back from the tables of its hub or its link.
-use Rattle.dv_records.proofs.Vocabulary.{option_map, option_map_or, Contains, slice_get, ◌≡◌, ℕ, ◌<◌, ◌==◌, Bool, true, false, List, [], ◌∷◌, Option, Some, None, refl, sym, ◌∙◌, ap, subst, length, reverse, cond, ltb-true, and_parts, Key, NRow, Window, Hashes, is_missing, Contains-cons_here}
-use Rattle.dv_records.proofs.Vocabulary.{Contains-cons_there, Contains-nil, passes_at, FeedDef, LinkDef, Parent, Hub, Link, Mapping, keys_at, link_hubs, parent_hubs, is_declared, is_hub, is_valid, valid_feed, valid_link, HubRow, LinkRow, TableRows, appended, IsApart, hashed_refs, is_known}
-use Rattle.dv_records.proofs.Vocabulary.{Extract, history, each_hash, hub_batch, hub_row_by, hub_rows_in, key_read, keys_read, link_row_by, link_rows_in, missing_key, refs_read, are_windows_valid, fit_hubs, fits_hub, vault}
+use Rattle.dv_records.proofs.Vocabulary.{option_map, option_map_or, Contains, slice_get, ◌≡◌, ℕ, ◌<◌, ◌==◌, Bool, true, false, List, [], ◌∷◌, Option, Some, None, refl, sym, ◌∙◌, ap, subst, length, reverse, cond, ltb-true, and_parts, Key}
+use Rattle.dv_records.proofs.Vocabulary.{NRow, Window, Hashes, is_missing, Contains-cons_here, Contains-cons_there, Contains-nil, passes_at, FeedDef, LinkDef, Parent, Hub, Link, Mapping, keys_at, link_hubs, parent_hubs, is_declared, is_hub}
+use Rattle.dv_records.proofs.Vocabulary.{is_valid, valid_feed, valid_link, HubRow, LinkRow, TableRows, appended, IsApart, hashed_refs, is_known, Extract, history, each_hash, hub_batch, hub_row_by, hub_rows_in, key_read, keys_read}
+use Rattle.dv_records.proofs.Vocabulary.{link_row_by, link_rows_in, missing_key, refs_read, are_windows_valid, fit_hubs, fits_hub, vault}
 use Rattle.dv_records.proofs.KnownLists.{key_at_first, key_known, row_known}
 use Rattle.dv_records.proofs.KnownRefs.{key_found, list_found, missing_unfound, the_missing}
 use Rattle.dv_records.proofs.ValidWindows.{hub_apart, link_apart}

@@ -1,13 +1,12 @@
 -- A hub table has a row for each key that the windows bring, and no other one.
-use Rattle.dv_records.proofs.Vocabulary.{flat_map, list_all, option_map, Contains, not, ◌↔◌, ◌≡◌, ℕ, Bool, true, false, List, [], ◌∷◌, Some, None, refl, sym, ◌∙◌, ap, subst, map, Key, NRow, Window, Hashes, is_missing, filtered_members, flat_map_member, map_member, made_of, Hub, Mapping}
-use Rattle.dv_records.proofs.Vocabulary.{feed_hubs, keys_at, source, Delivery, HubRow, appended, IsApart, deliveries, is_known, offered_refs, offers, offers_of, refs_from, table_of, hub_batch, hub_row, only_key, IsHubBatch}
+use Rattle.dv_records.proofs.Vocabulary.{flat_map, list_all, option_map, Contains, not, ◌↔◌, ◌≡◌, ℕ, Bool, true, false, List, [], ◌∷◌, Some, None, refl, sym, ◌∙◌, ap, subst, map, Key, NRow, Window, Hashes, is_missing, filtered_members}
+use Rattle.dv_records.proofs.Vocabulary.{flat_map_member, map_member, made_of, Hub, Mapping, feed_hubs, keys_at, source, Delivery, HubRow, appended, IsApart, deliveries, is_known, offered_refs, offers, offers_of, refs_from, table_of}
+use Rattle.dv_records.proofs.Vocabulary.{hub_batch, hub_row, only_key, IsHubBatch, rules}
 use Rattle.dv_records.proofs.Delivered.{delivery-offered}
 use Rattle.dv_records.proofs.ParentTables as tables
 
 the_only : (refs : List Key) (key : Key) → only_key refs ≡ Some key → refs ≡ key ∷ []
-the_only [] key e = cc
-the_only (first ∷ []) key e = let is : Some first ≡ Some key = e in let same : first ≡ key = cc in ap (λ k. k ∷ []) same
-the_only (first ∷ second ∷ rest) key e = cc
+the_only refs key h1 = search (rules)
 
 -- the refs of an offer that is made of a key
 offer_of_key : (refs : List Key) (offer made : Delivery) (brought : List Key) (key : Key) → offer.refs ≡ refs → made ≡ offer → made.refs ≡ brought → key ∷ [] ≡ brought → refs ≡ key ∷ []

@@ -1,7 +1,8 @@
 -- The reference lists of a feed's rows are known to its hub or its link, and so have hash keys of their own.
-use Rattle.dv_records.proofs.Vocabulary.{flat_map, list_all, Contains, slice_get, ◌&&◌, ◌≡◌, ℕ, Bool, true, false, not, List, [], ◌∷◌, Some, refl, sym, ◌∙◌, ap, subst, map, reverse, eq-eqb, Key, NRow, Staged, Window, Hashes, is_missing, Contains-cons_here, filter_map_member, filtered_members}
-use Rattle.dv_records.proofs.Vocabulary.{Contains-flat_map, Contains-map, flat_map_member, map_member, passes_at, some_passes_at, FeedDef, Parent, Hub, Link, Mapping, feed_hubs, is_fed_by, keys_at, parent_hubs, Delivery, IsApart, hashed_refs, is_known, is_offered, offers, offers_of, refs_from}
-use Rattle.dv_records.proofs.Vocabulary.{table_of, Extract, all_refs, extract_of, history, delivered_refs, fit_hubs, is_window}
+use Rattle.dv_records.proofs.Vocabulary.{flat_map, list_all, Contains, slice_get, ◌≡◌, ℕ, true, false, not, List, [], ◌∷◌, Some, refl, sym, ◌∙◌, ap, subst, map, reverse, eq-eqb, Key, NRow, Staged, Window, Hashes, is_missing}
+use Rattle.dv_records.proofs.Vocabulary.{Contains-cons_here, filter_map_member, filtered_members, Contains-flat_map, Contains-map, flat_map_member, map_member, passes_at, some_passes_at, FeedDef, Parent, Hub, Link, Mapping, feed_hubs}
+use Rattle.dv_records.proofs.Vocabulary.{is_fed_by, keys_at, parent_hubs, Delivery, IsApart, hashed_refs, is_known, is_offered, offers, offers_of, refs_from, table_of, Extract, all_refs, extract_of, history, delivered_refs, fit_hubs}
+use Rattle.dv_records.proofs.Vocabulary.{is_window, rules}
 use Rattle.dv_records.proofs.Delivered.{is_offered-member}
 use Rattle.dv_records.proofs.KnownRefs.{known_apart}
 use Rattle.dv_records.proofs.Reversing.{history_member}
@@ -50,11 +51,7 @@ module _ (mapping : Mapping) (feed : ℕ) (window : Window) (extract : Extract) 
 -- ---- a row's references
 
 single_there : (key : Key) → list_all is_missing (key ∷ []) ≡ false → is_missing key ≡ false
-single_there key e = by (is_missing key) e
-  where
-    by : (b : Bool) → (b && true) ≡ false → b ≡ false
-    by true e = e
-    by false e = refl
+single_there key e = search (rules)
 
 -- the key at a hub's place is among the keys of the hub
 pub key_at_first : (hub : ℕ) (hubs : List ℕ) (key : Key) (refs : List Key) → Contains (keys_at hub (hub ∷ hubs) (key ∷ refs)) key

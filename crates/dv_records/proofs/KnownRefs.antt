@@ -1,7 +1,8 @@
 -- A reference list that windows bring is found in its table by its hash key.
-use Rattle.dv_records.proofs.Vocabulary.{flat_map, list_all, Contains, replicate, slice_get, bytes_eq, ◌≡◌, ℕ, ◌==◌, true, false, not, List, [], ◌∷◌, Option, Some, None, refl, sym, ◌∙◌, ap, length, reverse, and_parts, eqb-true, false≢true, not-true, nil_from_length, bytes_eq-Decides, Key, Window}
-use Rattle.dv_records.proofs.Vocabulary.{Hashes, is_missing, Contains-cons_here, Contains-cons_there, filtered_members, flat_map_member, Contains-flat_map, map_member, reverse_member, all_pass_replicate, some_passes_at, some_passes, finds, found_member, Parent, Hub, Link, Mapping, parts_of}
-use Rattle.dv_records.proofs.Vocabulary.{Delivery, HubRow, LinkRow, appended, IsApart, hashed_refs, missing_refs, is_known, is_offered, offered_refs, offers, offers_of, each_hash, hub_batch, link_batch, hub_row_by, link_row_by, missing_key, fits_hub, is_key_part}
+use Rattle.dv_records.proofs.Vocabulary.{flat_map, list_all, Contains, replicate, slice_get, bytes_eq, ◌≡◌, ℕ, ◌==◌, true, false, not, List, [], ◌∷◌, Option, Some, None, refl, sym, ◌∙◌, ap, length, reverse, and_parts, eqb-true, false≢true}
+use Rattle.dv_records.proofs.Vocabulary.{not-true, nil_from_length, bytes_eq-Decides, Key, Window, Hashes, is_missing, Contains-cons_here, Contains-cons_there, filtered_members, flat_map_member, Contains-flat_map, map_member}
+use Rattle.dv_records.proofs.Vocabulary.{reverse_member, all_pass_replicate, some_passes_at, some_passes, finds, found_member, Parent, Hub, Link, Mapping, parts_of, Delivery, HubRow, LinkRow, appended, IsApart, hashed_refs, missing_refs}
+use Rattle.dv_records.proofs.Vocabulary.{is_known, is_offered, offered_refs, offers, offers_of, each_hash, hub_batch, link_batch, hub_row_by, link_row_by, missing_key, fits_hub, rules}
 use Rattle.dv_records.proofs.Delivered.{is_offered-member, offered_member}
 use Rattle.dv_records.proofs.HubTables.{table_has as hub_has, table_row as hub_row_of}
 use Rattle.dv_records.proofs.LinkTables.{table_has as link_has, table_row as link_row_of}
@@ -18,10 +19,7 @@ all_empty (part ∷ parts) e =
 
 -- a key that fits its hub and is missing is the hub's missing key
 pub the_missing : (mapping : Mapping) (hub : ℕ) (key : Key) → fits_hub mapping hub key ≡ true → is_missing key ≡ true → key ≡ missing_key mapping hub
-the_missing mapping hub key fits missing =
-    let (count, parts) = and_parts (length key.parts == parts_of (slice_get mapping.hubs hub)) (list_all is_key_part key.parts) fits in
-    let same = all_empty key.parts missing ∙ ap (λ n. replicate n []) (eqb-true (length key.parts) (parts_of (slice_get mapping.hubs hub)) count) in
-    λ i. record { parts = same i }
+the_missing mapping hub key fits missing = search (rules, and_parts, all_empty, eqb-true)
 
 -- a list that windows bring isn't missing as a whole
 pub known_there : (mapping : Mapping) (parent : Parent) (windows : List Window) (refs : List Key) → is_known mapping parent windows refs ≡ true → list_all is_missing refs ≡ false

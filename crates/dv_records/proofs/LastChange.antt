@@ -1,7 +1,8 @@
 -- A table that gets rows of a parent only from extracts that change something of it: its last rows tell the last change.
-use Rattle.dv_records.proofs.Vocabulary.{option_or, Contains, find, ◌&&◌, nat_le, ◌≡◌, ◌⊎◌, ℕ, ◌≤◌, inl, inr, Bool, true, false, List, [], ◌∷◌, ◌++◌, Option, Some, None, refl, sym, ◌∙◌, ap, subst, arith, reverse, bytes_eq, and_from, and_parts, false≢true, le-leb, leb-true, reverse-append}
-use Rattle.dv_records.proofs.Vocabulary.{Contains-append_cases, Contains-append_left, Contains-append_right, find-append, bytes_eq-Decides, Key, Window, Hashes, Contains-cons_here, Contains-cons_there, flat_map_member, Contains-flat_map, Contains-nil, reverse_member, finds, found_member}
-use Rattle.dv_records.proofs.Vocabulary.{filter-all, appended, IsApart, Extract, all_refs, delivered_refs, history, lists_of, up_to}
+use Rattle.dv_records.proofs.Vocabulary.{option_or, Contains, find, ◌&&◌, nat_le, ◌≡◌, ◌⊎◌, ℕ, ◌≤◌, inl, inr, Bool, true, false, List, [], ◌∷◌, ◌++◌, Option, Some, None, refl, sym, ◌∙◌, ap, subst, arith, reverse, bytes_eq, and_from}
+use Rattle.dv_records.proofs.Vocabulary.{and_parts, false≢true, le-leb, leb-true, reverse-append, Contains-append_cases, Contains-append_left, Contains-append_right, find-append, bytes_eq-Decides, Key, Window, Hashes, Contains-cons_here}
+use Rattle.dv_records.proofs.Vocabulary.{Contains-cons_there, flat_map_member, Contains-flat_map, Contains-nil, reverse_member, finds, found_member, filter-all, appended, IsApart, Extract, all_refs, delivered_refs, history, lists_of, up_to}
+use Rattle.dv_records.proofs.Vocabulary.{rules}
 use Rattle.dv_records.proofs.Reversing.{AllBefore, IsNewestFirst, history_member}
 
 -- extracts that are all before a date are all up to it
@@ -19,10 +20,7 @@ abbrev pub AreApart : Hashes → List Key → List Extract → Type 0
 AreApart hashes refs all = IsApart hashes (lists_of all) × IsOwn hashes refs all
 
 pub apart-older : (hashes : Hashes) (refs : List Key) (newest : Extract) (older : List Extract) → AreApart hashes refs (newest ∷ older) → AreApart hashes refs older
-apart-older hashes refs newest older apart = (λ a b a_in b_in. apart.0 a b (there a a_in) (there b b_in), λ other has. apart.1 other (there other has))
-  where
-    there : (other : List Key) → Contains (lists_of older) other → Contains (lists_of (newest ∷ older)) other
-    there = Contains-append_right (all_refs newest.rows) (lists_of older)
+apart-older hashes refs newest older apart = search (rules, Contains-append_right)
 
 -- the lists of a feed's extracts, in either order of the windows
 pub lists_reversed : (feed : ℕ) (sealed : List Window) (refs : List Key) → Contains (lists_of (history feed (reverse sealed))) refs → Contains (delivered_refs feed sealed) refs
@@ -71,10 +69,7 @@ module _ {R V : Type 0} (parent_of : R → List ℕ) (load_of : R → ℕ) (batc
   Tells all rows = ((find is_up_to (reverse rows) ≡ None) × (value (up_to date all) ≡ value [])) ⊎ IsLast all rows
 
   found_in : (rows : List R) (row : R) → find is_up_to (reverse rows) ≡ Some row → Contains rows row × (parent_of row ≡ parent) × (load_of row ≤ date)
-  found_in rows row e =
-      let (member, passes) = found_member is_up_to (reverse rows) row e in
-      let parts = and_parts (bytes_eq (parent_of row) parent) (nat_le (load_of row) date) passes in
-      ((reverse_member rows row).0 member, (bytes_eq-Decides (parent_of row) parent).0 parts.0, leb-true (load_of row) date parts.1)
+  found_in rows row e = search (rules, found_member, and_parts, reverse_member, bytes_eq-Decides, leb-true, reverse_member rows row)
 
   -- the last row of two lists is that of the second, and else that of the first
   last_of_both : (before rows : List R) (o : Option R) → find is_up_to (reverse rows) ≡ o → find is_up_to (reverse (before ++ rows)) ≡ option_or o (find is_up_to (reverse before))

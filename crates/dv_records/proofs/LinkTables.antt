@@ -1,5 +1,6 @@
 -- A link table has a row for each reference list that the windows bring, and no other one.
-use Rattle.dv_records.proofs.Vocabulary.{flat_map, Contains, ◌↔◌, ◌≡◌, ℕ, Bool, true, false, List, Some, None, refl, sym, ap, Key, Window, Hashes, Link, Mapping, source, Delivery, LinkRow, appended, IsApart, deliveries, is_known, offered_refs, each_hash, link_batch, link_row, IsLinkBatch}
+use Rattle.dv_records.proofs.Vocabulary.{flat_map, Contains, ◌↔◌, ◌≡◌, ℕ, true, false, List, Some, refl, Key, Window, Hashes, Link, Mapping, source, Delivery, LinkRow, appended, IsApart, deliveries, is_known, offered_refs, each_hash}
+use Rattle.dv_records.proofs.Vocabulary.{link_batch, link_row, IsLinkBatch, rules}
 use Rattle.dv_records.proofs.ParentTables as tables
 
 module _ (mapping : Mapping) (link : ℕ) (hashes : Hashes) where
@@ -8,14 +9,7 @@ module _ (mapping : Mapping) (link : ℕ) (hashes : Hashes) where
   IsRowOf refs row = (row.digest ≡ hashes.hash refs) × (row.hubs ≡ each_hash hashes refs)
 
   row_made : (older : List Window) (window : Window) (item : Delivery) (row : LinkRow) → link_row mapping hashes link older window item ≡ Some row → IsRowOf item.refs row
-  row_made older window item row gives = by (is_known mapping (Link link) older item.refs) refl
-    where
-      by : (known : Bool) → is_known mapping (Link link) older item.refs ≡ known → IsRowOf item.refs row
-      by true e = let no : None ≡ Some row = rw e at gives in cc
-      by false e =
-          let made : Some (record { digest = hashes.hash item.refs; load = window.load; source = source mapping item.feed; hubs = each_hash hashes item.refs }) ≡ Some row = rw e at gives in
-          let same : record { digest = hashes.hash item.refs; load = window.load; source = source mapping item.feed; hubs = each_hash hashes item.refs } ≡ row = cc in
-          (ap (λ (r : LinkRow). r.digest) (sym same), ap (λ (r : LinkRow). r.hubs) (sym same))
+  row_made older window item row gives = search (rules)
 
   row_makes : (older : List Window) (window : Window) (item : Delivery) → Contains (deliveries mapping (Link link) window) item → is_known mapping (Link link) older item.refs ≡ false
       → (row : LinkRow) × (link_row mapping hashes link older window item ≡ Some row)

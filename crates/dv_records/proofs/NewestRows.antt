@@ -1,10 +1,10 @@
 -- The rows of a content are those of one extract.
-use Rattle.dv_records.proofs.Vocabulary.{IsStrictlySortedBy, Contains, ℕ, nat_le, reverse, List, [], ◌∷◌, NRow, Window, row_cmp, filtered_members, Contains-cons_here, Contains-nil, content, history, up_to, Extract, newest_rows}
+use Rattle.dv_records.proofs.Vocabulary.{IsStrictlySortedBy, Contains, ℕ, nat_le, reverse, List, [], ◌∷◌, NRow, Window, row_cmp, filtered_members, Contains-cons_here, content, history, up_to, Extract, newest_rows, arith, common_steps}
+use Rattle.dv_records.proofs.Vocabulary.{nat_tests}
 use Rattle.dv_records.proofs.Reversing.{history_member}
 
 newest_extract : (all : List Extract) (row : NRow) → Contains (newest_rows all) row → (extract : Extract) × Contains all extract × Contains extract.rows row
-newest_extract [] row has = Contains-nil row has
-newest_extract (newest ∷ older) row has = (newest, Contains-cons_here newest older, has)
+newest_extract all row h1 = grind (arith, common_steps, nat_tests)
 
 newest_ascends : (all : List Extract) → ((extract : Extract) → Contains all extract → IsStrictlySortedBy row_cmp extract.rows) → IsStrictlySortedBy row_cmp (newest_rows all)
 unfolding IsStrictlySortedBy

@@ -1,13 +1,13 @@
 -- The table of a hub or a link has a row for each reference list that the windows bring, and no other one, for any kind of
 -- row that is made of a delivery.
-use Rattle.dv_records.proofs.Vocabulary.{flat_map, Contains, ◌||◌, Option, ◌↔◌, ◌≡◌, ℕ, inl, inr, Bool, true, false, List, [], ◌∷◌, Some, refl, sym, ◌∙◌, ap, subst, false≢true, or_left, or_right, Contains-append_cases, Contains-append_left, Contains-append_right, Key, Window, Hashes}
-use Rattle.dv_records.proofs.Vocabulary.{Contains-nil, Parent, Mapping, Delivery, appended, batch_of, digest_cmp, IsBatchOf, IsApart, deliveries, first_offer, is_known, is_offered, offered_refs}
+use Rattle.dv_records.proofs.Vocabulary.{flat_map, Contains, ◌||◌, Option, ◌↔◌, ◌≡◌, ℕ, inl, inr, Bool, true, false, List, [], ◌∷◌, Some, refl, ◌∙◌, ap, subst, false≢true, or_left, or_right, Contains-append_cases, Contains-append_left}
+use Rattle.dv_records.proofs.Vocabulary.{Contains-append_right, Key, Window, Hashes, Contains-nil, Parent, Mapping, Delivery, appended, batch_of, digest_cmp, IsBatchOf, IsApart, deliveries, first_offer, is_known, is_offered, offered_refs}
+use Rattle.dv_records.proofs.Vocabulary.{rules}
 use Rattle.dv_records.proofs.BatchTies.{batch_made, tied_by_digest}
 use Rattle.dv_records.proofs.Delivered.{deliveries_member, delivery-offered, first_offer-refs, has_first_offer, is_offered-member, offered_member, deliveries-apart}
 
 first_true : (a b : Bool) → (a || b) ≡ true → b ≡ false → a ≡ true
-first_true true b e f = refl
-first_true false b e f = absurd (false≢true (sym f ∙ e))
+first_true a b h1 h2 = search (rules, false≢true)
 
 module _ {R : Type 0} (mapping : Mapping) (parent : Parent) (hashes : Hashes) (digest_of : R → List ℕ) (row_of : List Window → Window → Delivery → Option R) (IsRowOf : List Key → R → Type 0)
     (digests : (refs : List Key) (row : R) → IsRowOf refs row → digest_of row ≡ hashes.hash refs)

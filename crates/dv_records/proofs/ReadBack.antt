@@ -1,7 +1,8 @@
 -- The content of a feed without a sub is read back from the tables of the vault.
-use Rattle.dv_records.proofs.Vocabulary.{filter_map, option_map, option_map_or, Contains, slice_get, ◌≡◌, ℕ, ◌==◌, Bool, true, false, List, [], ◌∷◌, Option, Some, refl, sym, ◌∙◌, ap, subst, length, reverse, eqb-true, nil_from_length, NRow, Window, row_cmp-IsAntisymmetric, Hashes, refs_eq}
-use Rattle.dv_records.proofs.Vocabulary.{refs_eq-Decides, row_total, Contains-cons_here, filter_map_member, filtered_members, member_of_filter_map, Contains-nil, made_of, some_passes_at, sorted_by-members, FeedDef, Mapping, is_valid, SatRow, Sats, TableRows, Extract, content, delivers, history}
-use Rattle.dv_records.proofs.Vocabulary.{newest_rows, up_to, attrs_read, content_read, content_read_by, present_parents, row_read, sat_rows_in, status_rows_in, first_attrs, valid_at, HasOneRowEach, last_rows, IsOnePerList, are_windows_valid, vault}
+use Rattle.dv_records.proofs.Vocabulary.{filter_map, option_map, option_map_or, Contains, slice_get, ◌≡◌, ℕ, ◌==◌, Bool, true, false, List, [], ◌∷◌, Option, Some, refl, sym, ◌∙◌, ap, subst, length, reverse, eqb-true, nil_from_length, NRow}
+use Rattle.dv_records.proofs.Vocabulary.{Window, row_cmp-IsAntisymmetric, Hashes, refs_eq, refs_eq-Decides, row_total, Contains-cons_here, filter_map_member, filtered_members, member_of_filter_map, Contains-nil, made_of, some_passes_at}
+use Rattle.dv_records.proofs.Vocabulary.{sorted_by-members, FeedDef, Mapping, is_valid, SatRow, Sats, TableRows, Extract, content, delivers, history, newest_rows, up_to, attrs_read, content_read, content_read_by, present_parents, row_read}
+use Rattle.dv_records.proofs.Vocabulary.{sat_rows_in, status_rows_in, first_attrs, valid_at, HasOneRowEach, last_rows, IsOnePerList, are_windows_valid, vault, rules}
 use Rattle.dv_records.proofs.ChangedRows.{only_attrs}
 use Rattle.dv_records.proofs.FeedContents.{rows_of_extract, content_ascends, content_delivered, feed_apart, present_has, row_form, row_present, row_refs}
 use Rattle.dv_records.proofs.NewestRows.{reached}
@@ -22,9 +23,7 @@ last_held (newest ∷ older) single row has =
     rw here (only_attrs newest.rows (single newest (Contains-cons_here newest older)) row.refs row ((filtered_members (λ (r : NRow). refs_eq r.refs row.refs) newest.rows row).1 (has, same)))
 
 told_or : (o : Option SatRow) (attrs : List (List ℕ)) → option_map (λ (row : SatRow). row.attrs) o ≡ Some attrs → option_map_or (λ (row : SatRow). row.attrs) o [] ≡ attrs
-told_or o attrs e =
-    let (row, is, same) = made_of (λ (row : SatRow). row.attrs) o attrs e in
-    ap (λ (o : Option SatRow). option_map_or (λ (row : SatRow). row.attrs) o []) is ∙ same
+told_or o attrs e = search (rules, made_of)
 
 -- ---- the theorem
 

@@ -1,6 +1,7 @@
 -- Windows and extracts from the newest to the oldest.
-use Rattle.dv_records.proofs.Vocabulary.{Less, ranked, AllByRecursion, filter_map, IsStrictlySortedBy, nat_cmp, Contains, ◌≡◌, ◌↔◌, ℕ, ◌<◌, inl, inr, List, [], ◌∷◌, ◌++◌, Option, Some, None, refl, sym, ap, subst, reverse, map, reverse-append, Contains-append_cases, Window, reverse_member}
-use Rattle.dv_records.proofs.Vocabulary.{Contains-cons_cases, Contains-cons_here, Contains-cons_there, filter_map_member, member_of_filter_map, Contains-nil, made_of, Extract, extract_of, history, IsInLoadOrder}
+use Rattle.dv_records.proofs.Vocabulary.{Less, ranked, AllByRecursion, filter_map, IsStrictlySortedBy, nat_cmp, Contains, ◌≡◌, ◌↔◌, ℕ, ◌<◌, inl, inr, List, [], ◌∷◌, ◌++◌, Option, Some, None, refl, sym, subst, reverse, map, reverse-append}
+use Rattle.dv_records.proofs.Vocabulary.{Contains-append_cases, Window, reverse_member, Contains-cons_cases, Contains-cons_here, Contains-cons_there, filter_map_member, member_of_filter_map, Contains-nil, made_of, Extract, extract_of}
+use Rattle.dv_records.proofs.Vocabulary.{history, IsInLoadOrder, rules}
 
 -- each is before a date
 abbrev pub AllBefore : {X : Type 0} → (X → ℕ) → ℕ → List X → Type 0
@@ -59,14 +60,11 @@ newest_first-filter_map {X} {Y} load made_load h keeps (x ∷ xs) order = by (ne
 
 -- an extract has its window's load date
 pub extract-load : (feed : ℕ) (window : Window) (extract : Extract) → extract_of feed window ≡ Some extract → extract.load ≡ window.load
-extract-load feed window extract e =
-    let (staged, found, is) = made_of _ _ extract e in ap (λ (x : Extract). x.load) (sym is)
+extract-load feed window extract e = search (rules, made_of)
 
 -- so the extracts of windows in load order stand the newest first when the windows are turned round
 pub history-newest_first : (feed : ℕ) (sealed : List Window) → IsInLoadOrder sealed → IsNewestFirst (λ (extract : Extract). extract.load) (history feed (reverse sealed))
-history-newest_first feed sealed order =
-    newest_first-filter_map (λ (window : Window). window.load) (λ (extract : Extract). extract.load) (extract_of feed) (extract-load feed) (reverse sealed)
-    (newest_first (λ (window : Window). window.load) sealed order)
+history-newest_first feed sealed order = search (rules, newest_first-filter_map, extract-load, newest_first)
 
 -- a feed has the same extracts in either order of the windows
 pub history_member : (feed : ℕ) (sealed : List Window) (extract : Extract) → Contains (history feed (reverse sealed)) extract ↔ Contains (history feed sealed) extract

@@ -1,6 +1,6 @@
 -- When no row is later than a date.
-use Rattle.dv_records.proofs.Vocabulary.{list_all, ◌≡◌, ℕ, ◌≤◌, ◌==◌, true, List, [], ◌∷◌, ◌++◌, refl, ap, arith, length, map, nat_le, inl, inr, ◌⊎◌, eqb-true, le-leb, nat_tests, map-append, Rows, Hubs, TableRows, AreOfLoad, are_up_to, is_up_to, loads_of, row_count, rows_then, All-contains}
-use Rattle.dv_records.proofs.Vocabulary.{all_pass_weaker, all_pass, all_pass_both}
+use Rattle.dv_records.proofs.Vocabulary.{list_all, ◌≡◌, ℕ, ◌≤◌, ◌==◌, true, List, [], ◌∷◌, ◌++◌, refl, ap, arith, length, map, nat_le, inl, ◌⊎◌, eqb-true, le-leb, nat_tests, map-append, Rows, Hubs, TableRows, AreOfLoad, are_up_to, is_up_to}
+use Rattle.dv_records.proofs.Vocabulary.{loads_of, row_count, rows_then, All-contains, all_pass_weaker, all_pass, all_pass_both, rules}
 
 -- the load dates of rows with others behind them are those of both, or of the first alone
 loads-then : (rows more : Rows) → (loads_of (rows_then rows more) ≡ loads_of rows ++ loads_of more) ⊎ (loads_of (rows_then rows more) ≡ loads_of rows)
@@ -13,8 +13,7 @@ no_loads load_of (row ∷ rows) none = absurd (omega (arith, eqb-true (length (r
 
 -- no rows have no load dates
 pub loads-none : (rows : Rows) → (row_count rows == 0) ≡ true → loads_of rows ≡ []
-loads-none (Hubs rows) none = no_loads (λ row. row.load) rows none
-loads-none rows none = search no_loads
+loads-none rows h1 = search (rules, no_loads)
 
 -- ---- rows
 
@@ -28,16 +27,11 @@ up_to-later last date rows le = all_pass_weaker (λ load. nat_le load last) (λ 
 
 -- rows of one load date are up to it
 pub up_to-of_load : (date : ℕ) (rows : Rows) → AreOfLoad date rows → is_up_to date rows ≡ true
-up_to-of_load date rows of =
-    all_pass (λ load. nat_le load date) (loads_of rows) (λ load has. let here = All-contains (λ load. load ≡ date) (loads_of rows) load of has in le-leb load date (omega (arith, here)))
+up_to-of_load date rows of = search (rules, all_pass, All-contains, le-leb)
 
 -- rows up to a date with others of the date behind them are up to it
 pub up_to-then : (date : ℕ) (rows more : Rows) → is_up_to date rows ≡ true → AreOfLoad date more → is_up_to date (rows_then rows more) ≡ true
-up_to-then date rows more up of =
-    elim (loads-then rows more) [
-      | inl both ↦ rw both (all_pass_both (λ load. nat_le load date) (loads_of rows) (loads_of more) up (up_to-of_load date more of))
-      | inr alone ↦ rw alone up
-    ]
+up_to-then date rows more up of = search (rules, loads-then, all_pass_both, up_to-of_load)
 
 -- ---- tables
 

@@ -1,6 +1,7 @@
 -- The satellite rows of a feed say at each date which attributes a list had when it was last there.
-use Rattle.dv_records.proofs.Vocabulary.{option_map, Contains, find, ◌&&◌, nat_le, ◌≡◌, ℕ, List, [], Some, None, refl, sym, ◌∙◌, ap, reverse, ◌⊎◌, inl, inr, bytes_eq, Key, NRow, Window, Hashes, Sat, Mapping, source as source_of, SatRow, Sats, appended, IsApart, Extract, all_refs, delivered_refs}
-use Rattle.dv_records.proofs.Vocabulary.{history, lists_of, up_to, IsInLoadOrder, sat_rows, first_attrs, valid_at, HasOneRowEach, last_rows, sat_batch, IsSatBatch, IsOnePerList, sat_cmp, table_after}
+use Rattle.dv_records.proofs.Vocabulary.{option_map, Contains, find, ◌&&◌, nat_le, ◌≡◌, ℕ, List, [], Some, None, refl, sym, ◌∙◌, ap, reverse, ◌⊎◌, inl, inr, bytes_eq, Key, NRow, Window, Hashes, Sat, Mapping, source as source_of, SatRow}
+use Rattle.dv_records.proofs.Vocabulary.{Sats, appended, IsApart, Extract, all_refs, delivered_refs, history, lists_of, up_to, IsInLoadOrder, sat_rows, first_attrs, valid_at, HasOneRowEach, last_rows, sat_batch, IsSatBatch, IsOnePerList}
+use Rattle.dv_records.proofs.Vocabulary.{sat_cmp, table_after}
 use Rattle.dv_records.proofs.ChangedRows.{AreValid, only_attrs, valid_rows}
 use Rattle.dv_records.proofs.FeedSteps.{feed_rows}
 use Rattle.dv_records.proofs.LastChange.{IsOwn, apart-reversed}

@@ -1,6 +1,6 @@
 -- Satellite batches are the lists that meet their records.
-use Rattle.dv_records.proofs.Vocabulary.{Equal, IsTotalOrder, on_total, then_total, lists_total, nat_list_cmp_total, nat_cmp-IsAntisymmetric, slice_cmp-IsAntisymmetric, Contains, ◌≡◌, ◌↔◌, ℕ, Bool, true, false, List, Some, refl, sym, ◌∙◌, ap, NRow, both_tied, Hashes, Contains-map, MultiRow}
-use Rattle.dv_records.proofs.Vocabulary.{SatRow, IsApart, Extract, all_refs, is_changed, multi_batch, multi_cmp, multi_row, sat_batch, sat_row, IsMultiBatch, IsSatBatch, IsOnePerList, IsOnePerSub}
+use Rattle.dv_records.proofs.Vocabulary.{Equal, IsTotalOrder, on_total, then_total, lists_total, nat_list_cmp_total, nat_cmp-IsAntisymmetric, slice_cmp-IsAntisymmetric, Contains, ◌≡◌, ◌↔◌, ℕ, List, Some, sym, ◌∙◌, ap, NRow, both_tied}
+use Rattle.dv_records.proofs.Vocabulary.{Hashes, Contains-map, MultiRow, SatRow, IsApart, Extract, all_refs, multi_batch, multi_cmp, multi_row, sat_batch, sat_row, IsMultiBatch, IsSatBatch, IsOnePerList, IsOnePerSub, rules}
 use Rattle.dv_records.proofs.BatchTies.{tied, tied_by_digest}
 
 pub multi_total : IsTotalOrder multi_cmp
@@ -9,19 +9,11 @@ multi_total = then_total (on_total (λ (row : MultiRow). row.parent) nat_list_cm
 module _ (hashes : Hashes) (source : List ℕ) (older : List Extract) (newest : Extract) where
   -- the row has the hash key of the extract row's list
   pub sat_parent : (row : NRow) (made : SatRow) → sat_row hashes source older newest row ≡ Some made → made.parent ≡ hashes.hash row.refs
-  sat_parent row made is = by (is_changed older newest row.refs) refl
-    where
-      by : (changed : Bool) → is_changed older newest row.refs ≡ changed → made.parent ≡ hashes.hash row.refs
-      by true e = let gives = rw e at is in cc
-      by false e = let no = rw e at is in cc
+  sat_parent row made is = search (rules)
 
   -- and its sub
   pub multi_made : (row : NRow) (made : MultiRow) → multi_row hashes source older newest row ≡ Some made → (made.parent ≡ hashes.hash row.refs) × (made.sub ≡ row.sub)
-  multi_made row made is = by (is_changed older newest row.refs) refl
-    where
-      by : (changed : Bool) → is_changed older newest row.refs ≡ changed → (made.parent ≡ hashes.hash row.refs) × (made.sub ≡ row.sub)
-      by true e = let gives = rw e at is in (cc, cc)
-      by false e = let no = rw e at is in (cc, cc)
+  multi_made row made is = search (rules)
 
   -- rows whose lists have one hash key have one list
   one_list : IsApart hashes (all_refs newest.rows) → (a b : NRow) → Contains newest.rows a → Contains newest.rows b → hashes.hash a.refs ≡ hashes.hash b.refs → a.refs ≡ b.refs

@@ -1,7 +1,7 @@
 -- The status rows of a feed say at each date which reference lists its content delivers.
-use Rattle.dv_records.proofs.Vocabulary.{Contains, find, ◌&&◌, nat_le, ◌≡◌, ℕ, inl, inr, Bool, true, false, List, [], ◌∷◌, ◌++◌, Option, Some, None, refl, sym, ◌∙◌, ap, reverse, bytes_eq, Contains-append_cases, Contains-append_left, Contains-append_right, Key, Window, Hashes, Contains-nil}
-use Rattle.dv_records.proofs.Vocabulary.{made_of, Status, Mapping, source as source_of, Code, I, D, StatusRow, Statuses, appended, IsApart, Extract, all_refs, content, delivered_refs, delivers, history, lists_of, newest_rows, up_to, IsInLoadOrder, status_rows, is_appearance, present_at}
-use Rattle.dv_records.proofs.Vocabulary.{says_present, code_between, code_of, status_batch, IsStatusBatch, table_after}
+use Rattle.dv_records.proofs.Vocabulary.{Contains, find, ◌&&◌, nat_le, ◌≡◌, ℕ, inl, inr, Bool, List, ◌∷◌, ◌++◌, Option, Some, None, refl, sym, ◌∙◌, ap, reverse, bytes_eq, Contains-append_cases, Contains-append_left, Contains-append_right}
+use Rattle.dv_records.proofs.Vocabulary.{Key, Window, Hashes, made_of, Status, Mapping, source as source_of, Code, StatusRow, Statuses, appended, IsApart, Extract, all_refs, content, delivered_refs, delivers, history, lists_of, newest_rows}
+use Rattle.dv_records.proofs.Vocabulary.{up_to, IsInLoadOrder, status_rows, is_appearance, present_at, says_present, code_between, code_of, status_batch, IsStatusBatch, table_after, arith, common_steps, nat_tests, rules}
 use Rattle.dv_records.proofs.FeedSteps.{feed_rows}
 use Rattle.dv_records.proofs.LastChange.{AreApart, Changes, IsOwn, IsStep, Tells, apart-older, apart-reversed, last_change}
 use Rattle.dv_records.proofs.Reversing.{IsNewestFirst, history-newest_first}
@@ -9,29 +9,18 @@ use Rattle.dv_records.proofs.StatusTies.{status_stands, status_tied}
 
 -- those of the newest extract are among them
 pub newest_lists : (all : List Extract) (refs : List Key) → Contains (all_refs (newest_rows all)) refs → Contains (lists_of all) refs
-newest_lists [] refs has = Contains-nil refs has
-newest_lists (newest ∷ older) refs has = Contains-append_left (all_refs newest.rows) (lists_of older) refs has
+newest_lists all refs h1 = grind (arith, common_steps, nat_tests)
 
 -- and those of the two newest ones
 pub both_lists : (newest : Extract) (older : List Extract) (refs : List Key) → Contains (all_refs (newest_rows older) ++ all_refs newest.rows) refs → Contains (lists_of (newest ∷ older)) refs
-both_lists newest older refs has =
-    elim (Contains-append_cases (all_refs (newest_rows older)) (all_refs newest.rows) refs has) [
-      | inl before ↦ Contains-append_right (all_refs newest.rows) (lists_of older) refs (newest_lists older refs before)
-      | inr now ↦ Contains-append_left (all_refs newest.rows) (lists_of older) refs now
-    ]
+both_lists newest older refs has = search (rules, Contains-append_cases, Contains-append_right, newest_lists, Contains-append_left, Contains-append_cases (all_refs (newest_rows older)) (all_refs newest.rows) refs has)
 
 -- what a change says of now, and what no change says
 code_says : (was now : Bool) (code : Code) → code_between was now ≡ Some code → is_appearance code ≡ now
-code_says false true code e = let is : Some I ≡ Some code = e in let same : I ≡ code = cc in ap is_appearance (sym same)
-code_says true false code e = let is : Some D ≡ Some code = e in let same : D ≡ code = cc in ap is_appearance (sym same)
-code_says true true code e = cc
-code_says false false code e = cc
+code_says was now code h1 = search (rules)
 
 none_says : (was now : Bool) → code_between was now ≡ None → was ≡ now
-none_says false true e = cc
-none_says true false e = cc
-none_says true true e = refl
-none_says false false e = refl
+none_says was now h1 = search (rules)
 
 module _ (hashes : Hashes) (source : List ℕ) (refs : List Key) (date : ℕ) where
   module _ (newest : Extract) (older : List Extract) (apart : AreApart hashes refs (newest ∷ older)) where

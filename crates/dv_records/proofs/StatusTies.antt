@@ -1,5 +1,6 @@
 -- Status batches are the lists that meet their records.
-use Rattle.dv_records.proofs.Vocabulary.{Contains, ◌≡◌, ◌↔◌, ℕ, Bool, true, false, List, ◌++◌, Some, refl, Contains-append_left, Contains-append_right, Key, Hashes, StatusRow, IsApart, Extract, all_refs, delivers, newest_rows, code_of, status_batch, status_row, IsStatusBatch}
+use Rattle.dv_records.proofs.Vocabulary.{Contains, ◌≡◌, ◌↔◌, ℕ, Bool, true, false, List, ◌++◌, Some, refl, Contains-append_left, Contains-append_right, Key, Hashes, StatusRow, IsApart, Extract, all_refs, delivers, newest_rows, code_of}
+use Rattle.dv_records.proofs.Vocabulary.{status_batch, status_row, IsStatusBatch}
 use Rattle.dv_records.proofs.BatchTies.{given, tied_by_digest, tied_whole}
 use Rattle.dv_records.proofs.Deciding.{Contains-all_refs}
 

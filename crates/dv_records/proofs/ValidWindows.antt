@@ -1,14 +1,13 @@
 -- What valid windows keep to: they are in load order, no two keys of a hub and no two lists of a link have one hash key,
 -- and each is a window of the definition.
-use Rattle.dv_records.proofs.Vocabulary.{list_all, range_with_len, Contains, is_none, slice_get, ◌≡◌, ℕ, ◌<◌, true, List, Some, None, sym, ◌∙◌, ap, length, map, nat_le, and_parts, All-contains, Contains-append_left, Contains-append_right, none-some, Window, Hashes, Contains-map, Contains-range}
-use Rattle.dv_records.proofs.Vocabulary.{none_from, passes_at, Parent, Hub, Link, Mapping, IsApart, collision, collision_in, hashed_refs, parents, Extract, extract_of, IsInLoadOrder, most_weight, most_windows, are_windows_valid, ascends, is_window, vault_weight}
+use Rattle.dv_records.proofs.Vocabulary.{list_all, range_with_len, Contains, is_none, slice_get, ◌≡◌, ℕ, ◌<◌, true, List, Some, None, sym, ◌∙◌, ap, length, map, and_parts, All-contains, Contains-append_right, none-some, Window, Hashes}
+use Rattle.dv_records.proofs.Vocabulary.{Contains-map, Contains-range, none_from, passes_at, Parent, Hub, Link, Mapping, IsApart, collision, collision_in, hashed_refs, parents, Extract, extract_of, IsInLoadOrder, are_windows_valid, ascends}
+use Rattle.dv_records.proofs.Vocabulary.{is_window, arith, common_steps, rules}
 use Rattle.dv_records.proofs.CollisionTies.{collision_free, none_collide}
 use Rattle.dv_records.proofs.WindowRows.{in_order, staged_at, staged_rows}
 
 is_parent_hub : (mapping : Mapping) (hub : ℕ) → hub < length mapping.hubs → Contains (parents mapping) (Hub hub)
-is_parent_hub mapping hub under =
-    Contains-append_left (map (λ n. Hub n) (range_with_len 0 (length mapping.hubs))) (map (λ n. Link n) (range_with_len 0 (length mapping.links))) (Hub hub)
-    (Contains-map (λ n. Hub n) (range_with_len 0 (length mapping.hubs)) hub (Contains-range (length mapping.hubs) hub under))
+is_parent_hub mapping hub under = grind (arith, common_steps, Contains-range (length mapping.hubs) hub under)
 
 is_parent_link : (mapping : Mapping) (link : ℕ) → link < length mapping.links → Contains (parents mapping) (Link link)
 is_parent_link mapping link under =
@@ -22,12 +21,7 @@ module _ (mapping : Mapping) (hashes : Hashes) (sealed : List Window) (valid : a
     apart : is_none (collision mapping hashes sealed) ≡ true
 
   the_parts : Parts
-  the_parts =
-      let (e1, few) = and_parts _ (nat_le (length sealed) most_windows) valid in
-      let (e2, light) = and_parts _ (nat_le (vault_weight mapping hashes sealed) most_weight) e1 in
-      let (e3, apart) = and_parts _ (is_none (collision mapping hashes sealed)) e2 in
-      let (ordered, windows) = and_parts (ascends (map (λ window. window.load) sealed)) (list_all (is_window mapping) sealed) e3 in
-      record { ordered = ordered; windows = windows; apart = apart }
+  the_parts = search (rules, and_parts)
 
   pub load_order : IsInLoadOrder sealed
   load_order = in_order (map (λ window. window.load) sealed) the_parts.ordered

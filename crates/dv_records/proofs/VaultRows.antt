@@ -1,8 +1,8 @@
 -- The rows of a table in the vault, and which tables a mapping has.
-use Rattle.dv_records.proofs.Vocabulary.{range_with_len, Contains, slice_get, ◌≡◌, ◌⊎◌, ℕ, zero, suc, ◌+◌, ◌<◌, ◌==◌, inl, inr, Bool, true, false, List, [], ◌∷◌, ◌++◌, Some, None, refl, sym, ◌∙◌, ap, subst, arith, length, map, reverse, false≢true, Contains-append_left, Contains-append_right}
-use Rattle.dv_records.proofs.Vocabulary.{Window, Hashes, Contains-range, Contains-cons_cases, Contains-cons_here, Contains-cons_there, Contains-map, Contains-nil, FeedDef, TableId, Sat, Multi, Status, Mapping, source, effect_tables, feed_tables, sat_tables, tables, appended, hub_batch}
-use Rattle.dv_records.proofs.Vocabulary.{link_batch, hub_rows, hub_rows_in, link_rows, link_rows_in, multi_rows, multi_rows_in, sat_rows, sat_rows_in, status_rows, status_rows_in, multi_batch, sat_batch, status_batch, no_rows, rows_in, table_eq, HoldsTable, feed_batch, table_after, table_entry}
-use Rattle.dv_records.proofs.Vocabulary.{vault}
+use Rattle.dv_records.proofs.Vocabulary.{range_with_len, Contains, slice_get, ◌≡◌, ℕ, zero, suc, ◌+◌, ◌<◌, ◌==◌, Bool, true, false, List, [], ◌∷◌, ◌++◌, Some, None, refl, ap, subst, arith, length, map, reverse, false≢true}
+use Rattle.dv_records.proofs.Vocabulary.{Contains-append_left, Contains-append_right, Window, Hashes, Contains-range, Contains-cons_cases, Contains-cons_here, Contains-cons_there, Contains-map, Contains-nil, FeedDef, TableId, Sat, Multi}
+use Rattle.dv_records.proofs.Vocabulary.{Status, Mapping, source, effect_tables, feed_tables, sat_tables, tables, appended, hub_batch, link_batch, hub_rows, hub_rows_in, link_rows, link_rows_in, multi_rows, multi_rows_in, sat_rows}
+use Rattle.dv_records.proofs.Vocabulary.{sat_rows_in, status_rows, status_rows_in, multi_batch, sat_batch, status_batch, no_rows, rows_in, table_eq, HoldsTable, feed_batch, table_after, table_entry, vault, rules}
 use Rattle.dv_catalog.specs.declared.tables.TableId.TheVariants.{Hub, Link}
 use Rattle.dv_records.proofs.WellFormedTables.{same_table, table_eq-itself}
 
@@ -12,14 +12,7 @@ module _ (mapping : Mapping) (hashes : Hashes) (windows : List Window) where
   -- the rows of a table among entries of tables after windows
   pub rows_in-entries : (all : List TableId) (table : TableId) → Contains all table → rows_in table (map (table_entry mapping hashes windows) all) ≡ table_after mapping hashes windows table
   rows_in-entries [] table has = Contains-nil table has
-  rows_in-entries (first ∷ all) table has = by (table_eq first table) refl (Contains-cons_cases first all table has) (rows_in-entries all table)
-    where
-      by : (b : Bool) → table_eq first table ≡ b → (first ≡ table) ⊎ Contains all table
-          → (Contains all table → rows_in table (map (table_entry mapping hashes windows) all) ≡ table_after mapping hashes windows table)
-          → rows_in table (map (table_entry mapping hashes windows) (first ∷ all)) ≡ table_after mapping hashes windows table
-      by true t cases later = rw t (ap (table_after mapping hashes windows) (same_table first table t))
-      by false t (inl same) later = absurd (false≢true (sym t ∙ ap (table_eq first) (sym same) ∙ table_eq-itself first))
-      by false t (inr rest) later = rw t (later rest)
+  rows_in-entries (first ∷ all) table has = search (rules, Contains-cons_cases, same_table, false≢true, table_eq-itself, rows_in-entries all table)
 
   -- one that isn't among them has none
   none_in-entries : (all : List TableId) (table : TableId) → (Contains all table → ⊥) → rows_in table (map (table_entry mapping hashes windows) all) ≡ no_rows table
@@ -32,10 +25,7 @@ module _ (mapping : Mapping) (hashes : Hashes) (windows : List Window) where
       by false t later = rw t (later (λ has. out (Contains-cons_there first all table has)))
 
 pub vault_holds : (mapping : Mapping) (hashes : Hashes) (sealed : List Window) (table : TableId) → HoldsTable mapping hashes sealed table
-vault_holds mapping hashes sealed table = record {
-  rows = rows_in-entries mapping hashes (reverse sealed) (tables mapping) table;
-  none = none_in-entries mapping hashes (reverse sealed) (tables mapping) table;
-}
+vault_holds mapping hashes sealed table = search (rules, rows_in-entries, none_in-entries)
 
 -- ---- the tables of a mapping
 
@@ -59,12 +49,7 @@ tables_of definition n = sat_tables n definition.sub definition.attrs ++ Status 
 -- they are among those of the feeds
 of_feed : (n i : ℕ) (feeds : List FeedDef) (definition : FeedDef) (table : TableId) → slice_get feeds i ≡ Some definition → Contains (tables_of definition (n + i)) table → Contains (feed_tables n feeds) table
 of_feed n i [] definition table got has = let no : None ≡ Some definition = got in cc
-of_feed n zero (feed ∷ feeds) definition table got has =
-    let some : Some feed ≡ Some definition = got in
-    let same : feed ≡ definition = cc in
-    let place : n + zero ≡ n = omega arith in
-    Contains-append_left (tables_of feed n) (feed_tables (n + 1) feeds) table
-    (subst (λ (d : FeedDef). Contains (tables_of d n) table) (sym same) (subst (λ k. Contains (tables_of definition k) table) place has))
+of_feed n zero (feed ∷ feeds) definition table got has = search (rules, Contains-append_left)
 of_feed n (suc i) (feed ∷ feeds) definition table got has =
     let place : n + suc i ≡ (n + 1) + i = omega arith in
     Contains-append_right (tables_of feed n) (feed_tables (n + 1) feeds) table

@@ -60,7 +60,7 @@ pub use Rattle.dv_text.specs.declared.rows.Key.{Key}
 pub use Rattle.dv_text.specs.declared.rows.NRow.{NRow}
 pub use Rattle.dv_text.specs.declared.rows.Staged.{Staged}
 pub use Rattle.dv_text.specs.declared.rows.Window.{Window}
-pub use Rattle.std.proofs.Common.{eq-eqb, ltb-true, min, slice_set}
+pub use Rattle.std.proofs.Common.{eq-eqb, ltb-true, min, slice_set, rules}
 pub use Rattle.std.proofs.lemmas.Bool.{or_left, or_right}
 pub use Rattle.std.proofs.lemmas.List.{length-append}
 pub use Rattle.std.proofs.lemmas.List.Elements.{All-cons, All-head, All-nil, All-tail, All-weaker}
@@ -73,3 +73,4 @@ pub use Rattle.std.specs.Option.{option_map_or}
 pub use Rattle.std.specs.Prelude.{All, replicate, sum_by, ◌&&◌}
 pub use Rattle.std.specs.declared.cmp.Ordering.{Ordering}
 pub use Rattle.std.specs.declared.cmp.Ordering.TheVariants.{Equal, Greater, Less}
+pub use Rattle.std.proofs.lemmas.Grind.{common_steps}

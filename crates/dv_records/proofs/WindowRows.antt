@@ -1,8 +1,9 @@
 -- What holds of a window of the definition: of its extracts, their rows, references, keys and texts.
-use Rattle.dv_records.proofs.Vocabulary.{Less, nat_cmp_is, pointwise, list_all, IsStrictlySortedBy, option_map_or, nat_cmp, Contains, find, slice_get, sum_by, not, Bool, Option, ◌≤◌, ◌≡◌, ℕ, ◌<◌, ◌==◌, ◌||◌, true, false, List, [], ◌∷◌, Some, None, refl, sym, ◌∙◌, ap, subst, length, map, nat_le}
-use Rattle.dv_records.proofs.Vocabulary.{nat_lt, eq-eqb, ltb-true, eqb-true, and_parts, false≢true, not-true, leb-true, lt-ltb, le-leb, slice_eq-Decides, Key, NRow, Staged, Window, row_eq, texts_eq, is_missing, norm_field, norm_key, row_cmp, sorted_by, refs_eq-Decides, texts_eq-Decides}
-use Rattle.dv_records.proofs.Vocabulary.{row_total, row_eq-Decides, made_of, one_value, passes_at, found_member, all_pass, ascending-sorted_by, sorted_by-sorted, FeedDef, Mapping, parent_hubs, parts_of, Extract, extract_of, most_field_bytes, most_records, most_window_records, are_rows_of}
-use Rattle.dv_records.proofs.Vocabulary.{ascends, fit_hubs, holds_of_each_two, is_field, is_keyed, is_one_partner, is_one_row, is_row_of, is_staged, is_window, fits_hub, is_key_part, all_members, are_rivals}
+use Rattle.dv_records.proofs.Vocabulary.{Less, nat_cmp_is, pointwise, list_all, IsStrictlySortedBy, nat_cmp, Contains, slice_get, sum_by, Bool, ◌≤◌, ◌≡◌, ℕ, ◌<◌, ◌==◌, ◌||◌, true, false, List, [], ◌∷◌, Some, refl, sym, ◌∙◌, ap, subst}
+use Rattle.dv_records.proofs.Vocabulary.{length, map, nat_le, nat_lt, eq-eqb, ltb-true, eqb-true, and_parts, false≢true, not-true, lt-ltb, le-leb, slice_eq-Decides, Key, NRow, Staged, Window, row_eq, texts_eq, is_missing, norm_field}
+use Rattle.dv_records.proofs.Vocabulary.{norm_key, row_cmp, sorted_by, refs_eq-Decides, texts_eq-Decides, row_total, row_eq-Decides, made_of, one_value, passes_at, found_member, all_pass, ascending-sorted_by, sorted_by-sorted, FeedDef}
+use Rattle.dv_records.proofs.Vocabulary.{Mapping, parent_hubs, parts_of, Extract, extract_of, most_field_bytes, most_records, most_window_records, are_rows_of, ascends, fit_hubs, holds_of_each_two, is_field, is_keyed, is_one_partner}
+use Rattle.dv_records.proofs.Vocabulary.{is_one_row, is_row_of, is_staged, is_window, fits_hub, is_key_part, all_members, are_rivals, rules, arith, common_steps, nat_tests}
 
 -- ---- load order
 
@@ -28,9 +29,7 @@ field_text text e = let (normal, short) = and_parts (texts_eq (norm_field text �
 
 -- a key has as many parts as its hub says, each a key part
 pub key_form : (mapping : Mapping) (hub : ℕ) (key : Key) → fits_hub mapping hub key ≡ true → (length key.parts ≡ parts_of (slice_get mapping.hubs hub)) × (list_all is_key_part key.parts ≡ true)
-key_form mapping hub key e =
-    let (count, parts) = and_parts (length key.parts == parts_of (slice_get mapping.hubs hub)) (list_all is_key_part key.parts) e in
-    (eqb-true (length key.parts) (parts_of (slice_get mapping.hubs hub)) count, parts)
+key_form mapping hub key e = search (rules, and_parts, eqb-true)
 
 -- the references of a hub's row are one key
 pub one_key : (mapping : Mapping) (hub : ℕ) (refs : List Key) → fit_hubs mapping (hub ∷ []) refs ≡ true → (key : Key) × (refs ≡ key ∷ []) × (fits_hub mapping hub key ≡ true)
@@ -53,32 +52,14 @@ pub record HasForm (mapping : Mapping) (definition : FeedDef) (row : NRow) : Typ
   pub attr_fields : list_all is_field row.attrs ≡ true
 
 pub has_form : (mapping : Mapping) (definition : FeedDef) (row : NRow) → is_row_of mapping definition row ≡ true → HasForm mapping definition row
-has_form mapping definition row e =
-    let (e1, attr_fields) = and_parts _ (list_all is_field row.attrs) e in
-    let (e2, attributes) = and_parts _ (length row.attrs == length definition.attrs) e1 in
-    let (e3, sub_fields) = and_parts _ (list_all is_field row.sub) e2 in
-    let (e4, subs) = and_parts _ (length row.sub == length definition.sub) e3 in
-    let (fits, keyed) = and_parts (fit_hubs mapping (parent_hubs mapping definition.parent) row.refs) (is_keyed definition row) e4 in
-    record {
-      fits = fits;
-      keyed = keyed;
-      subs = eqb-true (length row.sub) (length definition.sub) subs;
-      sub_fields = sub_fields;
-      attributes = eqb-true (length row.attrs) (length definition.attrs) attributes;
-      attr_fields = attr_fields;
-    }
+has_form mapping definition row e = search (rules, and_parts, eqb-true)
 
 pub form_holds : (mapping : Mapping) (definition : FeedDef) (row : NRow) → HasForm mapping definition row → is_row_of mapping definition row ≡ true
-form_holds mapping definition row form =
-    rw (form.fits, form.keyed, eq-eqb (length row.sub) (length definition.sub) form.subs, form.sub_fields, eq-eqb (length row.attrs) (length definition.attrs) form.attributes, form.attr_fields) refl
+form_holds mapping definition row form = search (rules, eq-eqb)
 
 -- two rows that have the same references and the same sub are one
 one_row : (a b : NRow) → is_one_row a b ≡ true → a.refs ≡ b.refs → a.sub ≡ b.sub → a ≡ b
-one_row a b e refs sub = by (texts_eq a.attrs b.attrs) refl
-  where
-    by : (t : Bool) → texts_eq a.attrs b.attrs ≡ t → a ≡ b
-    by true t = let attrs = (texts_eq-Decides a.attrs b.attrs).0 t in λ i. record { refs = refs i; sub = sub i; attrs = attrs i }
-    by false t = let no : false ≡ true = rw ((refs_eq-Decides a.refs b.refs).1 refs, (texts_eq-Decides a.sub b.sub).1 sub, t) at e in cc
+one_row a b e refs sub = search (rules, texts_eq-Decides, refs_eq-Decides)
 
 -- a test that holds of each two
 pub of_each_two : (test : NRow → NRow → Bool) (rows : List NRow) → ((a b : NRow) → Contains rows a → Contains rows b → test a b ≡ true) → holds_of_each_two test rows ≡ true
@@ -109,24 +90,11 @@ are_rows mapping definition rows e =
 pub rows_hold : (mapping : Mapping) (definition : FeedDef) (rows : List NRow) → IsStrictlySortedBy row_cmp rows → ((row : NRow) → Contains rows row → HasForm mapping definition row)
     → ((a b : NRow) → Contains rows a → Contains rows b → are_rivals a b ≡ false) → ((length definition.driver == 0) || holds_of_each_two (is_one_partner definition) rows) ≡ true
     → length rows ≤ most_records → are_rows_of mapping definition rows ≡ true
-rows_hold mapping definition rows up forms apart partners few =
-    rw (
-      (slice_eq-Decides row_eq-Decides (sorted_by row_cmp rows) rows _ refl).1 (sorted_by-sorted row_cmp rows up),
-      all_pass (is_row_of mapping definition) rows (λ row has. form_holds mapping definition row (forms row has)),
-      of_each_two is_one_row rows (λ a b a_in b_in. ap not (apart a b a_in b_in)),
-      partners,
-      le-leb (length rows) most_records few,
-    )
-    refl
+rows_hold mapping definition rows up forms apart partners few = search (rules, slice_eq-Decides, row_eq-Decides, sorted_by-sorted, all_pass, form_holds, of_each_two, le-leb)
 
 -- an extract that stands in a window is one of a feed of the mapping, and has its rows
 pub staged_rows : (mapping : Mapping) (staged : Staged) → is_staged mapping staged ≡ true → (definition : FeedDef) × (slice_get mapping.feeds staged.feed ≡ Some definition) × AreRows mapping definition staged.rows
-staged_rows mapping staged e = by (slice_get mapping.feeds staged.feed) refl e
-  where
-    by : (found : Option FeedDef) → slice_get mapping.feeds staged.feed ≡ found → option_map_or (λ feed. are_rows_of mapping feed staged.rows) found false ≡ true
-        → (definition : FeedDef) × (slice_get mapping.feeds staged.feed ≡ Some definition) × AreRows mapping definition staged.rows
-    by None got e = let no : false ≡ true = e in cc
-    by (Some definition) got e = (definition, got, are_rows mapping definition staged.rows e)
+staged_rows mapping staged e = search (rules, are_rows)
 
 -- ---- windows
 
@@ -137,22 +105,14 @@ pub record WindowParts (mapping : Mapping) (window : Window) : Type 0 where
   pub few : sum_by (λ staged. length staged.rows) window.extracts ≤ most_window_records
 
 pub window_parts : (mapping : Mapping) (window : Window) → is_window mapping window ≡ true → WindowParts mapping window
-window_parts mapping window e =
-    let (e1, few) = and_parts _ (nat_le (sum_by (λ staged. length staged.rows) window.extracts) most_window_records) e in
-    let (e2, staged) = and_parts _ (list_all (is_staged mapping) window.extracts) e1 in
-    let (some, ascending) = and_parts (nat_lt 0 (length window.extracts)) (ascends (map (λ staged. staged.feed) window.extracts)) e2 in
-    record { some = ltb-true 0 (length window.extracts) some; ascending = ascending; staged = staged; few = leb-true (sum_by (λ staged. length staged.rows) window.extracts) most_window_records few }
+window_parts mapping window e = grind (arith, common_steps, nat_tests)
 
 pub window_holds : (mapping : Mapping) (window : Window) → WindowParts mapping window → is_window mapping window ≡ true
-window_holds mapping window parts =
-    rw (lt-ltb 0 (length window.extracts) parts.some, parts.ascending, parts.staged, le-leb (sum_by (λ staged. length staged.rows) window.extracts) most_window_records parts.few) refl
+window_holds mapping window parts = search (rules, lt-ltb, le-leb)
 
 -- the extract of a feed in a window is one that stands there
 pub staged_of : (feed : ℕ) (window : Window) (extract : Extract) → extract_of feed window ≡ Some extract → (staged : Staged) × Contains window.extracts staged × (staged.feed ≡ feed) × (staged.rows ≡ extract.rows)
-staged_of feed window extract is =
-    let (staged, found, made) = made_of _ (find (λ (staged : Staged). staged.feed == feed) window.extracts) extract is in
-    let (member, same) = found_member (λ (staged : Staged). staged.feed == feed) window.extracts staged found in
-    (staged, member, eqb-true staged.feed feed same, ap (λ (x : Extract). x.rows) made)
+staged_of feed window extract is = search (rules, made_of, found_member, eqb-true)
 
 module _ (mapping : Mapping) (window : Window) (whole : is_window mapping window ≡ true) (feed : ℕ) (extract : Extract) (is : extract_of feed window ≡ Some extract) where
   -- which is an extract of a feed

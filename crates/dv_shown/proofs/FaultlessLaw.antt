@@ -1,12 +1,13 @@
 -- An outline whose mapping is valid has its form, and no check refuses it.
-use Rattle.dv_shown.proofs.Vocabulary.{◌≡◌, ◌⊎◌, inl, inr, ℕ, zero, suc, ◌+◌, ◌<◌, ◌≤◌, Bool, true, false, not, ◌&&◌, ◌||◌, ◌==◌, List, [], ◌∷◌, ◌++◌, find, get_or, length, map, nat_eq, nat_le, nat_lt, Option, Some, None, refl, sym, ◌∙◌, ap, subst, arith, append_assoc, if◌then◌else◌, Contains}
-use Rattle.dv_shown.proofs.Vocabulary.{is_none, is_some, option_and_then, slice_get, filter_map, flat_map, list_all, list_any, position_or_len, range_with_len, zip, option_map, option_map_or, option_or, bytes_eq, and_from, and_parts, eq-eqb, eqb-true, false_from_ne_true, lt-ltb, ltb-true, le-leb}
-use Rattle.dv_shown.proofs.Vocabulary.{not-true, or_cases, or_parts, nat_tests, length-map, map-append, list_any-append, Contains-append_cases, Contains-get_or, get_or-range_with_len, length-range_with_len, slice_get_read, map-map, bytes_eq-Decides, Contains-cons_cases, Contains-cons_here}
-use Rattle.dv_shown.proofs.Vocabulary.{Contains-cons_there, Contains-map, Contains-nil, filter_map_member, flat_map_member, map_member, none_from, or_none, all_pass, find_none, found_member, list_any-map, none_pass, passes_at, some_passes, some_passes_at, MapError, FeedOutline, HubOutline}
-use Rattle.dv_shown.proofs.Vocabulary.{LinkOutline, Outline, ParentName, Hub, Link, PathOutline, Mapping, first_of, has_column_form, has_name_form, is_within, most_columns, most_ignored, most_parts, most_references, most_steps, again, again_after, is_among, number_twice, text_twice}
-use Rattle.dv_shown.proofs.Vocabulary.{are_joined_by, are_some_places, feed_def, feed_place, has_number, has_shape, hub_def, hub_place, is_declared, is_hub, is_link, is_link_feed, is_of_link, is_place_of_step, is_valid, is_valid_driver, is_valid_hub, is_valid_link, is_valid_feed, is_valid_path}
-use Rattle.dv_shown.proofs.Vocabulary.{link_def, link_place, mapping_of, parent_def, path_def, reference_place, valid_feed, valid_hub, valid_link, valid_parts, valid_path, ValidFeed, ValidHub, ValidLink, ValidPath, passes_at_place, place_under, same_place, columns_fit, hubs_of_parent, is_step}
-use Rattle.dv_shown.proofs.Vocabulary.{places_of_step}
+use Rattle.dv_shown.proofs.Vocabulary.{◌≡◌, ◌⊎◌, inl, inr, ℕ, zero, suc, ◌+◌, ◌<◌, ◌≤◌, Bool, true, false, not, ◌&&◌, ◌||◌, ◌==◌, List, [], ◌∷◌, ◌++◌, find, get_or, length, map, nat_eq, nat_lt, Option, Some, None, refl, sym, ◌∙◌, ap, subst}
+use Rattle.dv_shown.proofs.Vocabulary.{arith, if◌then◌else◌, Contains, is_none, is_some, option_and_then, slice_get, filter_map, flat_map, list_all, list_any, position_or_len, range_with_len, option_map, option_map_or, option_or, bytes_eq}
+use Rattle.dv_shown.proofs.Vocabulary.{and_from, and_parts, eq-eqb, eqb-true, ltb-true, le-leb, not-true, or_parts, nat_tests, length-map, map-append, list_any-append, Contains-append_cases, Contains-get_or, get_or-range_with_len}
+use Rattle.dv_shown.proofs.Vocabulary.{length-range_with_len, slice_get_read, map-map, bytes_eq-Decides, Contains-cons_cases, Contains-cons_here, Contains-cons_there, Contains-map, Contains-nil, filter_map_member, flat_map_member}
+use Rattle.dv_shown.proofs.Vocabulary.{map_member, none_from, or_none, all_pass, find_none, found_member, list_any-map, none_pass, passes_at, some_passes, some_passes_at, MapError, FeedOutline, HubOutline, LinkOutline, Outline, ParentName}
+use Rattle.dv_shown.proofs.Vocabulary.{Hub, Link, PathOutline, first_of, has_column_form, has_name_form, is_within, most_columns, most_ignored, most_parts, most_references, most_steps, again, again_after, is_among, number_twice, text_twice}
+use Rattle.dv_shown.proofs.Vocabulary.{are_joined_by, are_some_places, feed_def, feed_place, has_number, has_shape, hub_def, hub_place, is_declared, is_hub, is_link, is_link_feed, is_of_link, is_place_of_step, is_valid, link_def}
+use Rattle.dv_shown.proofs.Vocabulary.{link_place, mapping_of, parent_def, path_def, reference_place, valid_feed, valid_hub, valid_link, valid_parts, valid_path, ValidFeed, ValidHub, ValidLink, ValidPath, passes_at_place, place_under}
+use Rattle.dv_shown.proofs.Vocabulary.{same_place, columns_fit, hubs_of_parent, is_step, places_of_step, rules, common_steps}
 use Rattle.dv_catalog.specs.Checks as spec
 
 -- ---- tests
@@ -15,12 +16,10 @@ both_none : {R : Type 0} (a b : Option R) → a ≡ None → b ≡ None → opti
 both_none a b e f = rw (e, f) refl
 
 unless_described : (a b : Bool) → (a || not b) ≡ true → (not a && b) ≡ false
-unless_described true b e = refl
-unless_described false b e = not-true b e
+unless_described a b h1 = search (rules, not-true)
 
 alone : (a b c : Bool) → (a || (b && c)) ≡ true → (not a && not c) ≡ false
-alone true b c e = refl
-alone false b c e = ap not (and_parts b c e).1
+alone a b c h1 = search (rules, and_parts)
 
 first_of_map : {X R : Type 0} (f : X → Option R) (xs : List X) → ((x : X) → Contains xs x → f x ≡ None) → first_of (map f xs) ≡ None
 first_of_map f [] none = refl
@@ -29,18 +28,14 @@ first_of_map f (x ∷ xs) none = both_none (f x) (first_of (map f xs)) (none x (
 -- a place under the end is one of an item that passes
 some_at_place : {X : Type 0} (p : X → Bool) (xs : List X) → position_or_len p xs < length xs → list_any p xs ≡ true
 some_at_place p [] under = absurd (omega (arith, under))
-some_at_place p (x ∷ xs) under =
-    some_passes_at p (x ∷ xs) (get_or (x ∷ xs) (position_or_len p (x ∷ xs)) x) (Contains-get_or (x ∷ xs) (position_or_len p (x ∷ xs)) x under) (passes_at_place p (x ∷ xs) x under)
+some_at_place p (x ∷ xs) under = grind (arith, common_steps, some_passes_at p (x ∷ xs) (get_or (x ∷ xs) (position_or_len p (x ∷ xs)) x) (Contains-get_or (x ∷ xs) (position_or_len p (x ∷ xs)) x under) (passes_at_place p (x ∷ xs) x under), Contains-get_or (x ∷ xs) (position_or_len p (x ∷ xs)) x under, passes_at_place p (x ∷ xs) x under)
 
 -- an entry of a mapping, by the place of what it is made of
 entry : {X Y : Type 0} (f : X → Y) (xs : List X) (x : X) → Contains xs x → (k : ℕ) × (slice_get (map f xs) k ≡ Some (f x))
 entry f xs x has = let (k, under, there) = Contains-map f xs x has in (k, slice_get_read (map f xs) (length (map f xs)) k (f x) refl under (sym there))
 
 below : (n k : ℕ) → Contains (range_with_len 0 n) k → k < n
-below n k (i, under, there) =
-    let few : i < n = rw (length-range_with_len 0 n) at under in
-    let is : k ≡ 0 + i = sym there ∙ get_or-range_with_len 0 n i k few in
-    omega (arith, few, is)
+below n k (i, under, there) = search (rules, length-range_with_len, get_or-range_with_len)
 
 -- ---- what stands once
 
@@ -82,11 +77,7 @@ links_again before (link ∷ links) once hubs =
 own_place : (before texts : List (List ℕ)) → again_after bytes_eq before texts ≡ None → (k : ℕ) (text d : List ℕ) → k < length texts → get_or texts k d ≡ text
     → list_any (λ t. bytes_eq t text) before ≡ false
 own_place before [] once k text d under at = absurd (omega (arith, under))
-own_place before (t ∷ texts) once zero text d under at = by (or_none (again bytes_eq before t) _ once).0 (list_any (λ y. bytes_eq y t) before) refl
-  where
-    by : again bytes_eq before t ≡ None → (b : Bool) → list_any (λ y. bytes_eq y t) before ≡ b → list_any (λ y. bytes_eq y text) before ≡ false
-    by first true e = let no : Some t ≡ None = rw e at first in cc
-    by first false e = subst (λ x. list_any (λ y. bytes_eq y x) before ≡ false) at e
+own_place before (t ∷ texts) once zero text d under at = search (rules, or_none)
 own_place before (t ∷ texts) once (suc k) text d under at =
     let later = own_place (before ++ t ∷ []) texts (or_none _ _ once).1 k text d (omega (arith, under)) at in
     (or_parts _ _ (sym (list_any-append (λ y. bytes_eq y text) before (t ∷ [])) ∙ later)).0
@@ -202,9 +193,7 @@ module _ (o : Outline) (v : is_valid (mapping_of o) ≡ true) where
       ap not (and_from _ _ (eq-eqb _ _ (as_many feed has)) (sym (columns_fit o.hubs feed.keys refs) ∙ (rw (hubs_of_parent o feed.parent) at (feed_at feed has).parts)))
 
   has_two : (link : LinkOutline) → Contains o.links link → nat_lt (length link.hubs) 2 ≡ false
-  has_two link has =
-      let some : 2 ≤ length link.hubs = rw (length-map link.hubs (hub_place o.hubs)) at (link_at link has).some_hubs in
-      grind (arith, nat_tests, some)
+  has_two link has = grind (arith, common_steps, link_at link has)
 
   columns_once : (feed : FeedOutline) → Contains o.feeds feed → spec.column_again feed ≡ None
   columns_once feed has = ap (option_map _) (feed_at feed has).apart
@@ -218,11 +207,7 @@ module _ (o : Outline) (v : is_valid (mapping_of o) ≡ true) where
   driver_of feed has = rw (length-map feed.driver (reference_place (spec.reference_hubs o.links feed.parent))) at (feed_at feed has).driver
 
   link_hubs_once : (name : List ℕ) → text_twice (spec.link_hub_names o.links name) ≡ None
-  link_hubs_once name = by (find (λ link. bytes_eq link.name name) o.links) refl
-    where
-      by : (found : Option LinkOutline) → find (λ link. bytes_eq link.name name) o.links ≡ found → text_twice (option_map_or (λ link. link.hubs) found []) ≡ None
-      by None is = refl
-      by (Some link) is = references_once link (found_member (λ link. bytes_eq link.name name) o.links link is).0
+  link_hubs_once name = search (rules, references_once, found_member)
 
   driven : (feed : FeedOutline) → Contains o.feeds feed → (not (length feed.driver == 0) && not (spec.driver_in_link o.links feed.parent feed.driver)) ≡ false
   driven feed has = by (length feed.driver == 0) (driver_of feed has)

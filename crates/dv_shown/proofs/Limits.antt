@@ -1,5 +1,5 @@
 -- Numbers at a limit and past it, and the weight of snapshots with one more.
-use Rattle.dv_shown.proofs.Vocabulary.{◌≡◌, ◌<◌, ◌≤◌, ℕ, ◌+◌, nat_le, nat_lt, true, false, [], ◌∷◌, ◌++◌, arith, nat_tests, sum_by-append, Hashes, Mapping, snapshot, State, snapshots_weight, weight_with}
+use Rattle.dv_shown.proofs.Vocabulary.{◌≡◌, ◌<◌, ◌≤◌, ℕ, nat_le, nat_lt, true, false, [], ◌∷◌, ◌++◌, arith, nat_tests, sum_by-append, Hashes, Mapping, State, snapshots_weight, weight_with, rules}
 
 pub at_most : (n most : ℕ) → n ≤ most → nat_le n most ≡ true
 at_most n most h = grind (arith, nat_tests)
@@ -15,6 +15,4 @@ above n most h = grind (arith, nat_tests)
 
 -- the weight of the stored snapshots and the new one
 pub together : (mapping : Mapping) (hashes : Hashes) (state : State) (date : ℕ) → snapshots_weight mapping hashes state.sealed (state.dates ++ date ∷ []) ≡ weight_with mapping hashes state date
-together mapping hashes state date =
-    let sums = sum_by-append (λ d. (snapshot mapping hashes state.sealed d).head.weight) state.dates (date ∷ []) in
-    omega (arith, sums)
+together mapping hashes state date = search (rules, sum_by-append)

@@ -1,6 +1,6 @@
 -- The rule of records is that of the least record that breaks one.
-use Rattle.dv_shown.proofs.Vocabulary.{◌≡◌, inl, inr, ℕ, zero, suc, ◌+◌, ◌<◌, ◌≤◌, List, [], ◌∷◌, ◌++◌, length, map, take, Option, Some, None, refl, sym, ◌∙◌, ap, subst, arith, append_assoc, append-nil, option_and_then, slice_get, option_or, cases_lt, length-append, length_push, map-append}
-use Rattle.dv_shown.proofs.Vocabulary.{FeedDef, Rule, first_of, record_rule, records_rule, row_of, rule_at, IsAtLeast}
+use Rattle.dv_shown.proofs.Vocabulary.{◌≡◌, ℕ, zero, suc, ◌+◌, ◌<◌, ◌≤◌, List, [], ◌∷◌, ◌++◌, length, map, take, Option, Some, None, refl, ap, subst, arith, append_assoc, append-nil, option_and_then, slice_get, option_or, cases_lt}
+use Rattle.dv_shown.proofs.Vocabulary.{length-append, length_push, map-append, FeedDef, first_of, record_rule, records_rule, row_of, rule_at, IsAtLeast, rules}
 
 -- the same from a place on
 abbrev LeastFrom : {R : Type 0} → (ℕ → Option R) → ℕ → ℕ → Option R → Type 0
@@ -8,20 +8,11 @@ LeastFrom at n count None = (i : ℕ) → n ≤ i → i < count → at i ≡ Non
 LeastFrom at n count (Some answer) = (i : ℕ) × (n ≤ i) × (i < count) × (at i ≡ Some answer) × ((j : ℕ) → n ≤ j → j < i → at j ≡ None)
 
 from_start : {R : Type 0} (at : ℕ → Option R) (count : ℕ) (o : Option R) → LeastFrom at 0 count o → IsAtLeast at count o
-from_start at count None f = λ i under. f i (omega arith) under
-from_start at count (Some r) (i, low, under, is, none) = (i, under, is, λ j below. none j (omega arith) below)
+from_start at count o h1 = search (rules)
 
 -- one place more at the front
 one_more : {R : Type 0} (at : ℕ → Option R) (n count : ℕ) → n < count → (o : Option R) → at n ≡ o → (later : Option R) → LeastFrom at (n + 1) count later → LeastFrom at n count (option_or o later)
-one_more at n count under (Some r) is later rest = (n, omega arith, under, is, λ j low below. absurd (omega (arith, low, below)))
-one_more at n count under None is None rest = λ i low within. elim (cases_lt n i) [ inl more ↦ rest i (omega (arith, more)) within | inr most ↦ (let same : n ≡ i = omega (arith, low, most) in subst (λ k. at k ≡ None) same is) ]
-one_more at n count under None is (Some r) (i, low, within, found, none) = (
-  i,
-  omega (arith, low),
-  within,
-  found,
-  λ j from below. elim (cases_lt n j) [ inl more ↦ none j (omega (arith, more)) below | inr most ↦ (let same : n ≡ j = omega (arith, from, most) in subst (λ k. at k ≡ None) same is) ],
-)
+one_more at n count h1 o h2 later h3 = search (rules, cases_lt)
 
 -- what stands behind a list that is known
 at_end : {X : Type 0} (before : List X) (x : X) (more : List X) → slice_get (before ++ x ∷ more) (length before) ≡ Some x

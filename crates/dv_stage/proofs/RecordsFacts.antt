@@ -1,6 +1,6 @@
 -- The list of all records of a text, from its records one by one.
-use Rattle.dv_stage.proofs.Vocabulary.{◌≡◌, ◌≤◌, ◌+◌, ◌-◌, ◌∷◌, ◌++◌, ℕ, zero, suc, List, [], length, Some, None, true, false, Bool, refl, sym, subst, arith, ◌∙◌, ◌&&◌, ◌==◌, if◌then◌else◌, none-some, same_Some, append-nil, Read, next_record, ends_at_end, is_end, step, fields_after, field_after}
-use Rattle.dv_stage.proofs.Vocabulary.{is_byte, ends_with, after_end, in_field, start_field, start_record, carriage_return, line_feed, AreRecords, Reached, records, records_from, Config, Terminator, State, Action}
+use Rattle.dv_stage.proofs.Vocabulary.{◌≡◌, ◌≤◌, ◌-◌, ◌∷◌, ◌++◌, ℕ, List, [], length, Some, None, true, false, Bool, refl, subst, arith, ◌&&◌, ◌==◌, if◌then◌else◌, same_Some, Read, next_record, ends_at_end, is_end, step, fields_after, field_after}
+use Rattle.dv_stage.proofs.Vocabulary.{is_byte, ends_with, after_end, in_field, start_field, start_record, carriage_return, line_feed, Config, Terminator, State, Action}
 use Rattle.csv.specs.declared.parser.Terminator.TheVariants as term
 use Rattle.csv.specs.declared.parser.State.TheVariants as st
 use Rattle.csv.specs.declared.parser.Action.TheVariants as act
@@ -74,51 +74,3 @@ next_record-takes cfg s fields field (c ∷ rest) p e =
     by false on e more =
         let m = more e in
         (m.0, omega (arith, m.1))
-
--- a text with no byte gives no record to a machine that stands between records
-next_record-none : (cfg : Config) (s : State) → ends_at_end s ≡ false → next_record cfg s [] [] [] ≡ None
-unfolding next_record
-next_record-none cfg s e = rw e refl
-
--- a text has no more records than bytes
-pub reached-short : (cfg : Config) (s s2 : State) (xs ys : List ℕ) (rows : List (List (List ℕ))) → ends_at_end s ≡ false → Reached cfg s xs rows s2 ys → length rows ≤ length xs
-unfolding Reached
-reached-short cfg s s2 xs ys [] b h = omega arith
-reached-short cfg s s2 [] ys (r ∷ rs) b h = absurd (none-some h.0 (sym (next_record-none cfg s b) ∙ h.1))
-reached-short cfg s s2 (x ∷ xs) ys (r ∷ rs) b h =
-    let taken = next_record-takes cfg s [] [] (x ∷ xs) h.0 h.1 in
-    let more = reached-short cfg h.0.1 s2 h.0.2 ys rs taken.0 h.3 in
-    omega (arith, taken.1, more)
-
--- the records of a text are those that were reached, and then those of the rest
-pub records_from-reached : (cfg : Config) (n : ℕ) (s s2 : State) (xs ys : List ℕ) (rows : List (List (List ℕ))) → Reached cfg s xs rows s2 ys
-    → (m : ℕ) → m ≡ length rows + n → records_from cfg m s xs ≡ rows ++ records_from cfg n s2 ys
-unfolding Reached records_from
-records_from-reached cfg n s s2 xs ys [] h m e =
-    let here : m ≡ n = omega (arith, e) in rw (here, h.0, h.1) refl
-records_from-reached cfg n s s2 xs ys (r ∷ rs) h zero e = absurd (omega (arith, e))
-records_from-reached cfg n s s2 xs ys (r ∷ rs) h (suc m) e =
-    let more = records_from-reached cfg n h.0.1 s2 h.0.2 ys rs h.3 m (omega (arith, e)) in
-    rw (h.1, h.2, more) refl
-
--- no record is left
-records_from-none : (cfg : Config) (n : ℕ) (s : State) (ys : List ℕ) → next_record cfg s [] [] ys ≡ None → records_from cfg n s ys ≡ []
-unfolding records_from
-records_from-none cfg zero s ys e = refl
-records_from-none cfg (suc n) s ys e = rw e refl
-
--- records that were reached from the start of a text stand at the head of its records
-pub records-prefix : (cfg : Config) (s2 : State) (xs ys : List ℕ) (rows : List (List (List ℕ))) → Reached cfg st.StartRecord xs rows s2 ys
-    → records cfg xs ≡ rows ++ records_from cfg (length xs + 1 - length rows) s2 ys
-records-prefix cfg s2 xs ys rows h =
-    let short = reached-short cfg st.StartRecord s2 xs ys rows refl h in
-    records_from-reached cfg (length xs + 1 - length rows) st.StartRecord s2 xs ys rows h (length xs + 1) (omega (arith, short))
-
--- they are all of its records where none is left
-pub records-whole : (cfg : Config) (s2 : State) (xs ys : List ℕ) (rows : List (List (List ℕ))) → Reached cfg st.StartRecord xs rows s2 ys
-    → next_record cfg s2 [] [] ys ≡ None → records cfg xs ≡ rows
-records-whole cfg s2 xs ys rows h e =
-    records-prefix cfg s2 xs ys rows h ∙ rw (records_from-none cfg (length xs + 1 - length rows) s2 ys e) (append-nil rows)
-
-pub are-records : (cfg : Config) (xs : List ℕ) (rows : List (List (List ℕ))) → AreRecords cfg st.StartRecord xs rows → records cfg xs ≡ rows
-are-records cfg xs rows h = records-whole cfg h.0 xs h.1 rows h.2 h.3

@@ -1,7 +1,6 @@
 -- The records that are left, one by one: what a loop over a reader's records goes by.
-use Rattle.dv_stage.proofs.Vocabulary.{Bor, ◌≡◌, ◌<◌, ◌∷◌, ℕ, zero, suc, List, [], length, Option, Some, None, true, false, refl, sym, ap, arith, ◌∙◌, add-one, inl, Read, next_record, ends_at_end, ReadRecord, Reached, default_config, records_from, records_next, source_of, strip_bom, Config}
-use Rattle.dv_stage.proofs.Vocabulary.{State, Reader, rows-end, rows-more, none-some, IsSome, extract_records, IsExtractReader, bytes_left, records_left, rest_records}
-use Rattle.csv.specs.declared.parser.State.TheVariants as st
+use Rattle.dv_stage.proofs.Vocabulary.{Bor, ◌≡◌, ◌<◌, ◌∷◌, ℕ, zero, suc, List, [], length, Option, Some, None, true, false, refl, sym, ap, arith, ◌∙◌, inl, Read, next_record, ends_at_end, ReadRecord, Reached, default_config, records_from, records_next, source_of, Config}
+use Rattle.dv_stage.proofs.Vocabulary.{State, Reader, rows-end, rows-more, none-some, IsSome, IsExtractReader, bytes_left, records_left, rest_records}
 use Rattle.dv_stage.proofs.RecordsFacts.{next_record-takes}
 
 has_byte : (cfg : Config) (s : State) (xs : List ℕ) (p : Read) → ends_at_end s ≡ false → next_record cfg s [] [] xs ≡ Some p → 0 < length xs
@@ -36,10 +35,6 @@ rest-some s xs p b e =
 pub rest-none : (s : State) (xs : List ℕ) → next_record default_config s [] [] xs ≡ None → rest_records s xs ≡ []
 unfolding records_from
 rest-none s xs e = rw e refl
-
--- all the records of an extract are those that are left at its start
-pub rest-start : (bytes : List ℕ) → extract_records bytes ≡ rest_records st.StartRecord (strip_bom bytes)
-rest-start bytes = rw (add-one (length (strip_bom bytes))) refl
 
 -- the same, with its parts by name
 rest-taken : (s s2 : State) (y z : List ℕ) (fields : List (List ℕ)) (p : Read) → ends_at_end s ≡ false → next_record default_config s [] [] y ≡ Some p → fields ≡ p.0 → p.1 ≡ s2 → p.2 ≡ z
@@ -85,3 +80,5 @@ pub left-end : (a b : Reader (Bor (List ℕ))) (fields : List (List ℕ)) → Is
 left-end a b fields h r =
     let (y, at) = known_text (bytes_left a) h.known in
     left_of a y at ∙ rest-end (λ (s : Bor (List ℕ)). Some s.now) a b fields y h.settings at r
+
+pub ruleset left_records = (left-end, left-read)

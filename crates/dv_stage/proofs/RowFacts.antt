@@ -1,5 +1,5 @@
 -- The fields at places: one place more, and the row by the places of a feed's columns.
-use Rattle.dv_stage.proofs.Vocabulary.{◌≡◌, ◌+◌, ◌<◌, ◌∷◌, ◌++◌, ℕ, List, [], Option, Some, None, length, take, map, get_or, refl, ap, ◌∙◌, filter_map, option_and_then, option_to_list, cons_option, slice_get, map-append, norm_field, norm_key, filter_map_more, FeedDef, fields_under, key_under}
+use Rattle.dv_stage.proofs.Vocabulary.{IfOk-weaker, ◌≡◌, ◌+◌, ◌<◌, ◌∷◌, ◌++◌, ℕ, List, [], Option, Some, None, length, take, map, get_or, refl, ap, ◌∙◌, filter_map, option_and_then, option_to_list, cons_option, slice_get, map-append, norm_field, norm_key, filter_map_more, FeedDef, fields_under, key_under}
 use Rattle.dv_stage.proofs.Vocabulary.{place_of, row_of, Layout, IsLayoutOf, fields_at, key_at, places_of, row_at}
 
 -- what stands at one place more
@@ -32,3 +32,5 @@ row_at-layout feed names layout fields h =
     let attrs : map norm_field (fields_at fields layout.attrs) ≡ map norm_field (fields_under names fields feed.attrs) =
     ap (λ places. map norm_field (fields_at fields places)) h.of_attrs ∙ ap (map norm_field) (fields_at-places_of fields names feed.attrs) in
     λ i. record { refs = refs i; sub = sub i; attrs = attrs i }
+
+pub ruleset layouts = (IfOk-weaker, row_at-layout)

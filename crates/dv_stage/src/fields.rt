@@ -42,6 +42,7 @@ fn is_long(bytes: &[u8]) -> bool
 }
 
 // Whether each field is UTF-8.
+#[tactic(auto, using(dv_text::proofs::Options::drop_got))]
 pub(crate) fn are_texts(row: &ByteRecord) -> bool
     ensures { result ≡ list_all is_utf8 (fields_of row.now) }
 {
@@ -54,6 +55,7 @@ pub(crate) fn are_texts(row: &ByteRecord) -> bool
 }
 
 // Whether a field is too long.
+#[tactic(auto, using(dv_text::proofs::Options::drop_got))]
 pub(crate) fn has_long_field(row: &ByteRecord) -> bool
     ensures { result ≡ list_any (λ field. nat_lt most_field_bytes (length field)) (fields_of row.now) }
 {

@@ -56,6 +56,7 @@ fn all_partners(alloc: Global, feed: &FeedDef, rows: &[NRow]) -> Result<Vec<Part
 }
 
 // The first driving keys that stand beside themselves.
+#[tactic(auto, using(crate::proofs::Neighbouring::neighbour_end, crate::proofs::Neighbouring::neighbour_found, crate::proofs::Neighbouring::neighbour_passed))]
 fn first_pair(partners: &[Partner]) -> Option<&List<Key>>
     ensures { option_copied result ≡ spec.first_pair partners.entry.now }
 {

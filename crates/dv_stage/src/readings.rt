@@ -22,6 +22,7 @@ use dv_text::{Duplicate, List, Memory, NRow};
 use std::alloc::Global;
 
 // The row of a record.
+#[tactic(auto, using(crate::proofs::RowFacts::layouts))]
 fn feed_row(alloc: Global, header: &Header, row: &ByteRecord) -> Result<NRow, Memory>
     requires { IsHeader header.now }
     ensures row { IfOk result (λ made. made ≡ row_of header.now.feed.now header.now.names (fields_of row.now)) }

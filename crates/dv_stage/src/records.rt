@@ -20,6 +20,7 @@ pub(crate) fn extract_reader(alloc: Global, bytes: &[u8]) -> Reader<&[u8]>
 }
 
 // Reads the next record, where there is one.
+#[tactic(auto, using(crate::proofs::RestFacts::left_records))]
 pub(crate) fn next_row(reader: &mut Reader<&[u8]>, row: &mut ByteRecord) -> Result<bool, Memory>
     requires { IsExtractReader reader.old }
     ensures keeps { IfOk result (λ found. IsTrue found → IsExtractReader reader.new) }

@@ -31,6 +31,7 @@ fn is_of_one_name(before: &NRow, row: &NRow) -> bool
 }
 
 // Whether a row has the name of the one before it.
+#[tactic(auto, using(crate::proofs::Neighbouring::neighbour_end))]
 fn repeats_name(rows: &[NRow]) -> bool
     ensures { result ≡ spec.repeats_name rows.now }
 {

@@ -1,6 +1,7 @@
 -- The days of the years from 1900 to 9998.
-use Rattle.dv_text.proofs.Vocabulary.{◌≡◌, ℕ, ◌+◌, ◌*◌, ◌<◌, refl, ap, arith, ℤ, pos, neg_ℤ, ◌+ℤ◌, ◌-ℤ◌, ◌*ℤ◌, ◌<ℤ◌, ◌≤ℤ◌, day_count, days_from_civil, days_of_years, days_of_months, IsCivilDate, Date, DateTime, epoch_day, civil_nanos, civil_seconds, time_seconds, IsTimestampNanos}
-use Rattle.dv_text.proofs.Vocabulary.{days_from_civil-day_count, day_count-lt_year, day_count-day_of_year, int_div, by_lt_z, civil_nanos-civil_seconds, civil, signed_arith, unsigned_abs-parts, one_part, days_since_1900}
+use Rattle.dv_text.proofs.Vocabulary.{◌≡◌, ℕ, ◌+◌, ◌*◌, ◌<◌, refl, arith, ℤ, pos, neg_ℤ, ◌+ℤ◌, ◌-ℤ◌, ◌*ℤ◌, ◌<ℤ◌, ◌≤ℤ◌, day_count, days_of_years, days_of_months, IsCivilDate, Date, DateTime, epoch_day, civil_nanos, civil_seconds}
+use Rattle.dv_text.proofs.Vocabulary.{time_seconds, IsTimestampNanos, days_from_civil-day_count, day_count-lt_year, day_count-day_of_year, int_div, by_lt_z, civil_nanos-civil_seconds, civil, signed_arith, unsigned_abs-parts, one_part}
+use Rattle.dv_text.proofs.Vocabulary.{days_since_1900, rules}
 
 day_count-1899 : day_count (pos 1899) 12 31 ≡ 4_346_385
 unfolding day_count days_of_years days_of_months
@@ -29,10 +30,7 @@ day_range d low high =
 
 -- the day number of a date of these years is the days since 1900, less those up to 1970
 pub day_since : (d : Date) → pos 1900 ≤ℤ d.year → d.year ≤ℤ pos 9998 → pos (days_since_1900 d.year d.month d.day) ≡ epoch_day d +ℤ pos 25_567
-day_since d low high =
-    let range = day_range d low high in
-    let z = epoch_day d -ℤ days_from_civil (pos 1900) 1 1 in
-    omega (arith, signed_arith, days_from_civil-day_count, day_count-1900, range.0, unsigned_abs-parts z, one_part z)
+day_since d low high = search (rules, day_range, signed_arith, days_from_civil-day_count, day_count-1900, unsigned_abs-parts, one_part, day_range d low high)
 
 -- the whole seconds of so many nanoseconds
 whole_second : (n s : ℤ) → n ≡ s *ℤ pos 1_000_000_000 → int_div n (pos 1_000_000_000) ≡ s
@@ -47,10 +45,7 @@ instant_nanos dt n whole e = omega (arith, signed_arith, civil_nanos-civil_secon
 -- an instant's second, from 1900 on
 pub second_since : (dt : DateTime) (n : ℤ) → pos 1900 ≤ℤ dt.date.year → dt.date.year ≤ℤ pos 9998 → dt.time.subsec_nanosecond ≡ 0 → n ≡ civil_nanos dt -ℤ pos 0 *ℤ pos 1_000_000_000
     → int_div n (pos 1_000_000_000) +ℤ pos 2_208_988_800 ≡ pos (days_since_1900 dt.date.year dt.date.month dt.date.day * 86_400 + time_seconds dt.time)
-second_since dt n low high whole e =
-    let second = whole_second n (epoch_day dt.date *ℤ pos 86_400 +ℤ pos (time_seconds dt.time)) (instant_nanos dt n whole e) in
-    let day = day_since dt.date low high in
-    omega (arith, signed_arith, second, day)
+second_since dt n low high whole e = search (rules, whole_second, instant_nanos, day_since, signed_arith, instant_nanos dt n whole e, day_since dt.date low high)
 
 -- such a datetime is one that an instant has
 pub has_instant : (dt : DateTime) → pos 1900 ≤ℤ dt.date.year → dt.date.year ≤ℤ pos 9998 → dt.time.subsec_nanosecond ≡ 0 → IsTimestampNanos (civil_nanos dt -ℤ pos 0 *ℤ pos 1_000_000_000)
@@ -61,23 +56,7 @@ has_instant dt low high whole =
 
 -- the year of a date, by its day number
 pub year_range : (d : Date) → neg_ℤ (pos 25_567) ≤ℤ epoch_day d → epoch_day d <ℤ pos 2_932_532 → (pos 1900 ≤ℤ d.year) × (d.year ≤ℤ pos 9998)
-year_range d low high = (
-  by_lt_z d.year (pos 1900)
-      (λ lt. absurd (omega (arith, signed_arith, low, days_from_civil-day_count, day_count-lt_year d.year d.month d.day (pos 1900) 1 1 (civil d) (omega arith) lt, day_count-1900)))
-      (λ le. le),
-  by_lt_z (pos 9998) d.year
-      (λ lt. absurd (later lt))
-      (λ le. le),
-)
-  where
-    later : pos 9998 <ℤ d.year → ⊥
-    later lt = by_lt_z (pos 9999) d.year
-        (λ more. omega (arith, signed_arith, high, days_from_civil-day_count, day_count-lt_year (pos 9999) 1 1 d.year d.month d.day first_9999 d.day_in.0 more, day_count-9999))
-        (λ le.
-        let same : d.year ≡ pos 9999 = omega (arith, signed_arith) in
-        let count : day_count d.year d.month d.day ≡ day_count (pos 9999) d.month d.day = ap (λ y. day_count y d.month d.day) same in
-        let in_year = day_count-day_of_year (pos 9999) d.month d.day d.day_in.0 in
-        omega (arith, signed_arith, high, days_from_civil-day_count d.year d.month d.day, count, in_year, d.day_in.0, day_count-9999))
+year_range d low high = search (rules, by_lt_z, signed_arith, days_from_civil-day_count, day_count-lt_year, civil, day_count-1900, first_9999, day_count-9999, day_count-day_of_year)
 
 -- the parts of a datetime that so many seconds after 1900 give
 pub record Placed (dt : DateTime) (n : ℕ) : Type 0 where

@@ -1,6 +1,7 @@
 -- The tests of texts, keys and reference lists decide equality, and agree with the orders.
-use Rattle.dv_text.proofs.Vocabulary.{◌≡◌, ◌↔◌, ℕ, true, List, map, refl, ap, subst, Contains, Decides, IsTotalOrder, lists_ties, lists_total, nat_list_cmp_total, slice_cmp, texts_ties, IsAntisymmetric, slice_cmp-IsAntisymmetric, eq_by_cmp, list_any, on_total, then_total, Decides-and}
-use Rattle.dv_text.proofs.Vocabulary.{bytes_eq-Decides, slice_eq-Decides, Key, NRow, key_cmp-IsAntisymmetric, text_cmp-IsAntisymmetric, key_eq, refs_eq, row_eq, texts_eq, key_cmp, refs_cmp, row_cmp, text_cmp}
+use Rattle.dv_text.proofs.Vocabulary.{◌≡◌, ◌↔◌, ℕ, true, List, map, refl, subst, Contains, Decides, IsTotalOrder, lists_ties, lists_total, nat_list_cmp_total, slice_cmp, texts_ties, IsAntisymmetric, slice_cmp-IsAntisymmetric, eq_by_cmp}
+use Rattle.dv_text.proofs.Vocabulary.{list_any, on_total, then_total, Decides-and, bytes_eq-Decides, slice_eq-Decides, Key, NRow, key_cmp-IsAntisymmetric, text_cmp-IsAntisymmetric, key_eq, refs_eq, row_eq, texts_eq, key_cmp, refs_cmp}
+use Rattle.dv_text.proofs.Vocabulary.{row_cmp, text_cmp, rules}
 use Rattle.dv_text.proofs.Members.{Contains-map, map_member}
 use Rattle.dv_text.proofs.Passing.{some_passes, some_passes_at}
 
@@ -8,20 +9,13 @@ pub texts_eq-Decides : (a b : List (List ℕ)) → Decides (texts_eq a b) (a ≡
 texts_eq-Decides a b = slice_eq-Decides bytes_eq-Decides a b _ refl
 
 pub key_eq-Decides : (a b : Key) → Decides (key_eq a b) (a ≡ b)
-key_eq-Decides a b =
-    let parts = texts_eq-Decides a.parts b.parts in
-    (λ e. let same = parts.0 e in λ i. record { parts = same i }, λ e. parts.1 (ap (λ (k : Key). k.parts) e))
+key_eq-Decides a b = search (rules, texts_eq-Decides)
 
 pub refs_eq-Decides : (a b : List Key) → Decides (refs_eq a b) (a ≡ b)
 refs_eq-Decides a b = slice_eq-Decides key_eq-Decides a b _ refl
 
 pub row_eq-Decides : (a b : NRow) → Decides (row_eq a b) (a ≡ b)
-row_eq-Decides a b =
-    let parts : Decides (row_eq a b) (((a.refs ≡ b.refs) × (a.sub ≡ b.sub)) × (a.attrs ≡ b.attrs)) =
-    Decides-and _ _ (Decides-and _ _ (refs_eq-Decides a.refs b.refs) (texts_eq-Decides a.sub b.sub)) (texts_eq-Decides a.attrs b.attrs) in (
-      λ e. let same = parts.0 e in λ i. record { refs = same.0.0 i; sub = same.0.1 i; attrs = same.1 i },
-      λ e. parts.1 ((ap (λ (row : NRow). row.refs) e, ap (λ (row : NRow). row.sub) e), ap (λ (row : NRow). row.attrs) e),
-    )
+row_eq-Decides a b = search (rules, Decides-and, refs_eq-Decides, texts_eq-Decides)
 
 -- a list is that of some item exactly where it is among those of the items
 pub any_refs : {X : Type 0} (refs_of : X → List Key) (xs : List X) (refs : List Key) → (list_any (λ x. refs_eq (refs_of x) refs) xs ≡ true) ↔ Contains (map refs_of xs) refs

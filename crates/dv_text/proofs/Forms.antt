@@ -1,6 +1,6 @@
 -- What the form of a stamp says of its parts.
-use Rattle.dv_text.proofs.Vocabulary.{◌≡◌, ℕ, ◌+◌, ◌-◌, ◌*◌, ◌/◌, ◌%◌, ◌<◌, ◌≤◌, List, length, true, arith, refl, ◌&&◌, ◌==◌, pos, nat_le, Some, is_ascii_digit, and_parts, nat_tests, days_in_month, days_in_month_bounds, are_two_at, has_digits, has_form, has_marks, is_there, seconds_if}
-use Rattle.dv_text.proofs.Vocabulary.{seconds_of, stamp_in, text_of}
+use Rattle.dv_text.proofs.Vocabulary.{◌≡◌, ℕ, ◌+◌, ◌-◌, ◌*◌, ◌/◌, ◌%◌, ◌<◌, ◌≤◌, List, length, true, arith, refl, pos, Some, is_ascii_digit, and_parts, nat_tests, days_in_month, days_in_month_bounds, are_two_at, has_digits, has_form}
+use Rattle.dv_text.proofs.Vocabulary.{has_marks, is_there, seconds_if, seconds_of, stamp_in, text_of, rules}
 
 pub record Parts (t : List ℕ) : Type 0 where
   pub long : length t ≡ 19
@@ -14,16 +14,7 @@ pub record Parts (t : List ℕ) : Type 0 where
 
 pub form_parts : (t : List ℕ) → has_form t ≡ true → Parts t
 unfolding has_form has_digits
-form_parts t e =
-    let whole = and_parts ((length t == 19) && has_marks t) (has_digits t) e in
-    let front = and_parts (length t == 19) (has_marks t) whole.0 in
-    let a = and_parts (are_two_at t 0 && are_two_at t 2 && are_two_at t 5 && are_two_at t 8 && are_two_at t 11 && are_two_at t 14) (are_two_at t 17) whole.1 in
-    let b = and_parts (are_two_at t 0 && are_two_at t 2 && are_two_at t 5 && are_two_at t 8 && are_two_at t 11) (are_two_at t 14) a.0 in
-    let c = and_parts (are_two_at t 0 && are_two_at t 2 && are_two_at t 5 && are_two_at t 8) (are_two_at t 11) b.0 in
-    let d = and_parts (are_two_at t 0 && are_two_at t 2 && are_two_at t 5) (are_two_at t 8) c.0 in
-    let f = and_parts (are_two_at t 0 && are_two_at t 2) (are_two_at t 5) d.0 in
-    let g = and_parts (are_two_at t 0) (are_two_at t 2) f.0 in
-    record { long = grind (arith, nat_tests, front.0); century = g.0; year = g.1; month = f.1; day = d.1; hour = c.1; minute = b.1; second = a.1 }
+form_parts t e = search (rules, and_parts)
 
 -- a digit
 digit : (k : ℕ) → k < 10 → is_ascii_digit (48 + k) ≡ true
@@ -40,25 +31,7 @@ pairs n h = (digit (n / 10) (omega arith), digit (n % 10) (omega arith))
 -- the parts of a stamp, one by one
 pub there-parts : (year month day hour minute second : ℕ) → is_there 9998 year month day hour minute second ≡ true
     → (1900 ≤ year) × (year ≤ 9999) × (1 ≤ month) × (month ≤ 12) × (1 ≤ day) × (day ≤ days_in_month (pos year) month) × (hour ≤ 23) × (minute ≤ 59) × (second ≤ 59)
-there-parts year month day hour minute second e =
-    let a = and_parts _ (nat_le second 59) e in
-    let b = and_parts _ (nat_le minute 59) a.0 in
-    let c = and_parts _ (nat_le hour 23) b.0 in
-    let d = and_parts _ (nat_le day (days_in_month (pos year) month)) c.0 in
-    let f = and_parts _ (nat_le 1 day) d.0 in
-    let g = and_parts _ (nat_le month 12) f.0 in
-    let h = and_parts _ (nat_le 1 month) g.0 in
-    let i = and_parts (nat_le 1900 year) (nat_le year 9998) h.0 in (
-      grind (arith, nat_tests, i.0),
-      grind (arith, nat_tests, i.1),
-      grind (arith, nat_tests, h.1),
-      grind (arith, nat_tests, g.1),
-      grind (arith, nat_tests, f.1),
-      grind (arith, nat_tests, d.1),
-      grind (arith, nat_tests, c.1),
-      grind (arith, nat_tests, b.1),
-      grind (arith, nat_tests, a.1),
-    )
+there-parts year month day hour minute second e = search (rules, and_parts)
 
 -- the text of a date and a time of day reads as its seconds
 pub shown : (year month day hour minute second : ℕ) → is_there 9998 year month day hour minute second ≡ true

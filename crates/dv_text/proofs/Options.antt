@@ -1,9 +1,9 @@
 -- What is in an option, and what a list has at a place.
-use Rattle.dv_text.proofs.Vocabulary.{◌≡◌, inl, inr, ℕ, ◌+◌, ◌<◌, ◌≤◌, ◌∷◌, ◌++◌, [], length, take, true, List, Option, Some, None, refl, sym, ◌∙◌, ap, arith, drop, Contains, slice_get, is_none, option_map, option_or, drop_more, take_more, get_or_from_slice_get, slice_get_cases, slice_get_within}
+use Rattle.dv_text.proofs.Vocabulary.{◌≡◌, inl, inr, ℕ, ◌+◌, ◌<◌, ◌≤◌, ◌∷◌, ◌++◌, [], length, take, true, List, Option, Some, None, refl, sym, ◌∙◌, ap, arith, drop, Contains, slice_get, is_none, option_map, option_or, drop_more, take_more}
+use Rattle.dv_text.proofs.Vocabulary.{get_or_from_slice_get, slice_get_cases, slice_get_within, rules}
 
 pub none_from : {X : Type 0} (o : Option X) → is_none o ≡ true → o ≡ None
-none_from None e = refl
-none_from (Some x) e = cc
+none_from o h1 = search (rules)
 
 -- what two readings of one option give is one value
 pub one_value : {X : Type 0} (o : Option X) (a b : X) → o ≡ Some a → o ≡ Some b → a ≡ b
@@ -14,17 +14,14 @@ option_or-none None = refl
 option_or-none (Some x) = refl
 
 pub or_none : {X : Type 0} (a b : Option X) → option_or a b ≡ None → (a ≡ None) × (b ≡ None)
-or_none None b e = (refl, e)
-or_none (Some x) b e = cc
+or_none a b h1 = search (rules)
 
 pub none_before_map : {X Y : Type 0} (f : X → Y) (o : Option X) → option_map f o ≡ None → o ≡ None
-none_before_map f None e = refl
-none_before_map f (Some x) e = cc
+none_before_map f o h1 = search (rules)
 
 -- what a mapped option has is made of what the option has
 pub made_of : {X Y : Type 0} (f : X → Y) (o : Option X) (y : Y) → option_map f o ≡ Some y → (x : X) × (o ≡ Some x) × (f x ≡ y)
-made_of f None y e = cc
-made_of f (Some x) y e = let is : Some (f x) ≡ Some y = e in (x, refl, cc)
+made_of f o y h1 = search (rules)
 
 -- ---- what a place has
 

@@ -1,10 +1,8 @@
 -- What two things' order is, alone and before another order.
-use Rattle.dv_text.proofs.Vocabulary.{◌≡◌, ◌⊎◌, inl, inr, ℕ, ◌<◌, ◌≤◌, true, refl, sym, ◌∙◌, ap, arith, Ordering, Less, Equal, Greater, IsTotalOrder, tied_itself, is_lt, nat_cmp, ordering_reverse, ordering_then, nat_tests}
+use Rattle.dv_text.proofs.Vocabulary.{◌≡◌, ◌⊎◌, ℕ, ◌<◌, ◌≤◌, true, sym, ◌∙◌, ap, arith, Ordering, Less, Equal, Greater, IsTotalOrder, tied_itself, is_lt, nat_cmp, ordering_reverse, ordering_then, nat_tests, rules}
 
 pub is_less : (r : Ordering) → is_lt r ≡ true → r ≡ Less
-is_less Less e = refl
-is_less Equal e = cc
-is_less Greater e = cc
+is_less r h1 = search (rules)
 
 pub less_equal : (r : Ordering) → r ≡ Less → r ≡ Equal → ⊥
 less_equal r e f = let no : Less ≡ Equal = sym e ∙ f in cc
@@ -18,9 +16,7 @@ greater_equal r e f = let no : Greater ≡ Equal = sym e ∙ f in cc
 -- ---- one order, then another
 
 pub then_less : (r s : Ordering) → ordering_then r s ≡ Less → (r ≡ Less) ⊎ ((r ≡ Equal) × (s ≡ Less))
-then_less Less s e = inl refl
-then_less Equal s e = inr (refl, e)
-then_less Greater s e = cc
+then_less r s h1 = search (rules)
 
 -- by a number first
 pub equal_first : (a b : ℕ) (r : Ordering) → a ≡ b → ordering_then (nat_cmp a b) r ≡ r

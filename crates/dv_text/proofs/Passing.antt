@@ -1,6 +1,6 @@
 -- Tests of every item, of some item and of the first that passes, item by item.
-use Rattle.dv_text.proofs.Vocabulary.{◌≡◌, ◌⊎◌, inl, inr, ℕ, Bool, true, false, not, ◌||◌, filter, find, get_or, map, replicate, List, [], ◌∷◌, ◌++◌, Option, Some, None, refl, sym, ◌∙◌, ap, subst, Contains, slice_get, Decides, All, list_all, list_any, and_from, false≢true, false_from_ne_true}
-use Rattle.dv_text.proofs.Vocabulary.{not-false, Decides-by_and, same_from_decides, All-contains, All-replicate, Contains-get_or, Any-from_list_any, list_all-append, list_any_at}
+use Rattle.dv_text.proofs.Vocabulary.{◌≡◌, ℕ, Bool, true, false, not, ◌||◌, filter, find, get_or, map, replicate, List, [], ◌∷◌, ◌++◌, Option, Some, None, refl, sym, ◌∙◌, ap, Contains, slice_get, Decides, All, list_all, list_any, and_from}
+use Rattle.dv_text.proofs.Vocabulary.{false≢true, false_from_ne_true, not-false, Decides-by_and, same_from_decides, All-contains, All-replicate, Contains-get_or, Any-from_list_any, list_all-append, list_any_at, rules}
 use Rattle.dv_text.proofs.Members.{Contains-cons_cases, Contains-cons_here, Contains-cons_there, Contains-nil}
 use Rattle.dv_text.proofs.Options.{got_member}
 
@@ -49,23 +49,11 @@ list_any-map p f (x ∷ xs) = ap (λ b. p (f x) || b) (list_any-map p f xs)
 
 pub found_member : {X : Type 0} (p : X → Bool) (xs : List X) (x : X) → find p xs ≡ Some x → Contains xs x × (p x ≡ true)
 found_member p [] x e = cc
-found_member p (y ∷ xs) x e = by (p y) refl (found_member p xs x)
-  where
-    by : (b : Bool) → p y ≡ b → (find p xs ≡ Some x → Contains xs x × (p x ≡ true)) → Contains (y ∷ xs) x × (p x ≡ true)
-    by true t later =
-        let found : Some y ≡ Some x = rw t at e in
-        let same : y ≡ x = cc in
-        (subst (Contains (y ∷ xs)) same (Contains-cons_here y xs), sym (ap p same) ∙ t)
-    by false f later = let (member, passes) = later (rw f at e) in (Contains-cons_there y xs x member, passes)
+found_member p (y ∷ xs) x e = search (rules, Contains-cons_here, Contains-cons_there, found_member p xs x)
 
 pub none_found_at : {X : Type 0} (p : X → Bool) (xs : List X) (x : X) → find p xs ≡ None → Contains xs x → p x ≡ false
 none_found_at p [] x none has = Contains-nil x has
-none_found_at {X} p (y ∷ xs) x none has = by (none_found_at p xs x) (p y) refl (Contains-cons_cases y xs x has)
-  where
-    by : (find p xs ≡ None → Contains xs x → p x ≡ false) → (b : Bool) → p y ≡ b → (y ≡ x) ⊎ Contains xs x → p x ≡ false
-    by later true e cases = let found : Some y ≡ None = rw e at none in cc
-    by later false e (inl same) = ap p (sym same) ∙ e
-    by later false e (inr rest) = later (rw e at none) rest
+none_found_at {X} p (y ∷ xs) x none has = search (rules, Contains-cons_cases, none_found_at p xs x)
 
 pub passes_where_none_fails : {X : Type 0} (p : X → Bool) (xs : List X) (x : X) → find (λ y. not (p y)) xs ≡ None → Contains xs x → p x ≡ true
 passes_where_none_fails p xs x none has = not-false (p x) (none_found_at (λ y. not (p y)) xs x none has)
@@ -88,11 +76,7 @@ find_none p (x ∷ xs) fails = rw (fails x (Contains-cons_here x xs)) (find_none
 
 pub find-filter : {X : Type 0} (p : X → Bool) (xs : List X) → find p xs ≡ slice_get (filter p xs) 0
 find-filter p [] = refl
-find-filter {X} p (x ∷ xs) = by (p x) refl (find-filter p xs)
-  where
-    by : (b : Bool) → p x ≡ b → find p xs ≡ slice_get (filter p xs) 0 → find p (x ∷ xs) ≡ slice_get (filter p (x ∷ xs)) 0
-    by true t rest = rw t refl
-    by false t rest = rw t rest
+find-filter {X} p (x ∷ xs) = search (rules, find-filter p xs)
 
 -- ---- all that pass
 

@@ -1,17 +1,13 @@
 -- The text of a number of seconds is that of its date and its time of day.
-use Rattle.dv_text.proofs.Vocabulary.{◌≡◌, ℕ, zero, suc, ◌+◌, ◌-◌, ◌*◌, ◌/◌, ◌%◌, ◌<◌, ◌≤◌, inl, inr, arith, refl, ap, pos, ◌-ℤ◌, codes, cases_order, le-ltb, lt-ltb, day_count, days_from_civil, days_of_months, day_of_year, days_in_month, days_in_year, IsCivilDate, days_from_civil-day_count}
-use Rattle.dv_text.proofs.Vocabulary.{day_of_year_bound, day_count-next_year, day_count-later_year, day_count-day_of_year, days_of_months-zero, days_of_months_more, days_of_months_mono, signed_arith, unsigned_abs-parts, one_part, open_end, days_since_1900, month_from, seconds_of, stamp_text}
-use Rattle.dv_text.proofs.Vocabulary.{text_of, year_from}
+use Rattle.dv_text.proofs.Vocabulary.{◌≡◌, ℕ, zero, suc, ◌+◌, ◌-◌, ◌*◌, ◌/◌, ◌%◌, ◌<◌, ◌≤◌, inl, inr, arith, refl, ap, pos, ◌-ℤ◌, codes, cases_order, le-ltb, lt-ltb, day_count, days_from_civil, days_of_months, day_of_year, days_in_month}
+use Rattle.dv_text.proofs.Vocabulary.{days_in_year, IsCivilDate, days_from_civil-day_count, day_of_year_bound, day_count-next_year, day_count-later_year, day_count-day_of_year, days_of_months-zero, days_of_months_more, days_of_months_mono}
+use Rattle.dv_text.proofs.Vocabulary.{signed_arith, unsigned_abs-parts, one_part, open_end, days_since_1900, month_from, seconds_of, stamp_text, text_of, year_from, rules}
 use Rattle.dv_text.proofs.Days.{day_count-1900}
 
 -- the year of a day
 pub year_from-is : (k y0 y r n : ℕ) → y0 ≤ y → y ≤ y0 + k → r < days_in_year (pos y) → n + day_count (pos y0) 1 1 ≡ day_count (pos y) 1 1 + r → year_from k y0 n ≡ (y, r)
 unfolding year_from
-year_from-is zero y0 y r n low high small e =
-    let same : y0 ≡ y = omega (arith, low, high) in
-    let count : day_count (pos y0) 1 1 ≡ day_count (pos y) 1 1 = ap (λ x. day_count (pos x) 1 1) same in
-    let days : n ≡ r = omega (arith, e, count) in
-    rw (same, days) refl
+year_from-is zero y0 y r n low high small e = search (rules)
 year_from-is (suc k) y0 y r n low high small e =
     elim (cases_order y0 y) [
       | inl same ↦
@@ -29,11 +25,7 @@ year_from-is (suc k) y0 y r n low high small e =
 -- the month of a day of a year
 pub month_from-is : (k y m0 m r n : ℕ) → 1 ≤ m0 → m0 ≤ m → m ≤ m0 + k → r < days_in_month (pos y) m → n + days_of_months (pos y) (m0 - 1) ≡ days_of_months (pos y) (m - 1) + r → month_from k y m0 n ≡ (m, r)
 unfolding month_from
-month_from-is zero y m0 m r n first low high small e =
-    let same : m0 ≡ m = omega (arith, low, high) in
-    let count : days_of_months (pos y) (m0 - 1) ≡ days_of_months (pos y) (m - 1) = ap (λ x. days_of_months (pos y) (x - 1)) same in
-    let days : n ≡ r = omega (arith, e, count) in
-    rw (same, days) refl
+month_from-is zero y m0 m r n first low high small e = search (rules)
 month_from-is (suc k) y m0 m r n first low high small e =
     elim (cases_order m0 m) [
       | inl same ↦

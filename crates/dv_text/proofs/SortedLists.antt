@@ -1,6 +1,6 @@
 -- The laws of `sorted_by`.
-use Rattle.dv_text.proofs.Vocabulary.{◌≡◌, ◌↔◌, ◌⊎◌, inl, inr, ℕ, suc, ◌<◌, ◌≤◌, length, get_or, List, [], ◌∷◌, ◌++◌, refl, sym, ◌∙◌, ap, subst, arith, Contains, Ordering, Less, Equal, Greater, IsTotalOrder, tied_back, IsAntisymmetric, AllByRecursion, IsStrictlySortedBy, insert_by, sorted_by}
-use Rattle.dv_text.proofs.Vocabulary.{cases_order, get_or_default, Contains-append_cases, Less-from_sorted}
+use Rattle.dv_text.proofs.Vocabulary.{◌≡◌, ◌↔◌, ◌⊎◌, inl, inr, ℕ, suc, ◌<◌, ◌≤◌, length, get_or, List, [], ◌∷◌, ◌++◌, refl, sym, ◌∙◌, ap, subst, arith, Contains, Ordering, Less, Equal, Greater, IsTotalOrder, IsAntisymmetric, AllByRecursion}
+use Rattle.dv_text.proofs.Vocabulary.{IsStrictlySortedBy, insert_by, sorted_by, cases_order, get_or_default, Contains-append_cases, Less-from_sorted, rules}
 use Rattle.dv_text.proofs.Members.{all_members, all_more, Contains-cons_here, Contains-cons_there, Contains-cons_cases, member_of_all}
 use Rattle.dv_text.proofs.Orderings.{asymmetric, irreflexive, less_equal, turned}
 
@@ -12,12 +12,7 @@ ascending_at R xs i j a b up at_a at_b inside before = sym (λ t. R (at_a t) ((g
 
 -- of a list in order no two members tie
 pub one_of_ties : {X : Type 0} {R : X → X → Ordering} → IsTotalOrder R → (xs : List X) → IsStrictlySortedBy R xs → (a b : X) → Contains xs a → Contains xs b → R a b ≡ Equal → a ≡ b
-one_of_ties {R = R} o xs up a b (i, i_in, at_a) (j, j_in, at_b) e =
-    elim (cases_order i j) [
-      | inl same ↦ sym at_a ∙ get_or_default xs i a b i_in ∙ (ap (λ k. get_or xs k b) same ∙ at_b)
-      | inr (inl before) ↦ absurd (less_equal (R a b) (ascending_at R xs i j a b up at_a at_b j_in before) e)
-      | inr (inr behind) ↦ absurd (less_equal (R b a) (ascending_at R xs j i b a up at_b at_a i_in behind) (tied_back o a b e))
-    ]
+one_of_ties {R = R} o xs up a b (i, i_in, at_a) (j, j_in, at_b) e = search (rules, cases_order, get_or_default, less_equal, ascending_at)
 
 -- two lists in order, the second behind the first
 pub ascending-append : {X : Type 0} (R : X → X → Ordering) (xs ys : List X) → IsStrictlySortedBy R xs → IsStrictlySortedBy R ys → ((x y : X) → Contains xs x → Contains ys y → R x y ≡ Less) → IsStrictlySortedBy R (xs ++ ys)
@@ -46,26 +41,11 @@ ascending-same R S (x ∷ xs) same up = (
 module _ {X : Type 0} (R : X → X → Ordering) where
   all_insert : (P : X → Type 0) (x : X) (ys : List X) → P x → AllByRecursion P ys → AllByRecursion P (insert_by R x ys)
   all_insert P x [] p all = (p, tt)
-  all_insert P x (y ∷ ys) p all = by (all_insert P x ys p all.1) (R x y) refl
-    where
-      by : AllByRecursion P (insert_by R x ys) → (r : Ordering) → R x y ≡ r → AllByRecursion P (insert_by R x (y ∷ ys))
-      by later Less e = rw e (p, all)
-      by later Equal e = rw e (p, all.1)
-      by later Greater e = rw e (all.0, later)
+  all_insert P x (y ∷ ys) p all = search (rules, all_insert P x ys p all.1)
 
   pub inserted_cases : (x : X) (ys : List X) (z : X) → Contains (insert_by R x ys) z → (x ≡ z) ⊎ Contains ys z
   inserted_cases x [] z has = Contains-cons_cases x [] z has
-  inserted_cases x (y ∷ ys) z has = by (inserted_cases x ys z) (R x y) refl has
-    where
-      by : (Contains (insert_by R x ys) z → (x ≡ z) ⊎ Contains ys z) → (r : Ordering) → R x y ≡ r → Contains (insert_by R x (y ∷ ys)) z → (x ≡ z) ⊎ Contains (y ∷ ys) z
-      by later Less e has = Contains-cons_cases x (y ∷ ys) z (rw e at has)
-      by later Equal e has =
-          elim (Contains-cons_cases x ys z (rw e at has)) [ inl same ↦ inl same | inr rest ↦ inr (Contains-cons_there y ys z rest) ]
-      by later Greater e has =
-          elim (Contains-cons_cases y (insert_by R x ys) z (rw e at has)) [
-            | inl same ↦ inr (subst (Contains (y ∷ ys)) same (Contains-cons_here y ys))
-            | inr rest ↦ elim (later rest) [ inl same ↦ inl same | inr more ↦ inr (Contains-cons_there y ys z more) ]
-          ]
+  inserted_cases x (y ∷ ys) z has = search (rules, Contains-cons_cases, Contains-cons_there, Contains-cons_here, inserted_cases x ys z)
 
   pub inserted_here : (x : X) (ys : List X) → Contains (insert_by R x ys) x
   inserted_here x [] = Contains-cons_here x []
@@ -119,12 +99,7 @@ module _ {X : Type 0} (R : X → X → Ordering) where
   -- a sort makes no list longer
   length-insert_by : (x : X) (ys : List X) → length (insert_by R x ys) ≤ suc (length ys)
   length-insert_by x [] = omega arith
-  length-insert_by x (y ∷ ys) = by (R x y) refl (length-insert_by x ys)
-    where
-      by : (r : Ordering) → R x y ≡ r → length (insert_by R x ys) ≤ suc (length ys) → length (insert_by R x (y ∷ ys)) ≤ suc (suc (length ys))
-      by Less e rest = rw e (omega arith)
-      by Equal e rest = rw e (omega arith)
-      by Greater e rest = rw e (omega (arith, rest))
+  length-insert_by x (y ∷ ys) = search (rules, length-insert_by x ys)
 
   pub length-sorted_by : (xs : List X) → length (sorted_by R xs) ≤ length xs
   length-sorted_by [] = omega arith

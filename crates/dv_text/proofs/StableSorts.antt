@@ -1,6 +1,6 @@
 -- A stable sort, of whose result the first of those that tie are kept.
-use Rattle.dv_text.proofs.Vocabulary.{◌≡◌, inl, inr, Bool, true, false, List, [], ◌∷◌, Some, cond, refl, sym, ◌∙◌, ap, subst, map, find, not, ◌&&◌, Contains, slice_get, Ordering, Less, Equal, Greater, eq_by_cmp, is_eq, is_lt, ordering_reverse, Equal-is, IsEquivalence, IsTotalOrder, dedup}
-use Rattle.dv_text.proofs.Vocabulary.{dedup_from, IsSorted, IsStable, ties, false≢true, eq_by_cmp_equiv, IsStrictlySortedBy-dedup, insert_by, sorted_by}
+use Rattle.dv_text.proofs.Vocabulary.{◌≡◌, inl, inr, Bool, true, false, List, [], ◌∷◌, Some, cond, refl, sym, ◌∙◌, ap, subst, map, find, not, ◌&&◌, Contains, slice_get, Ordering, Less, Equal, Greater, eq_by_cmp, is_eq, is_lt}
+use Rattle.dv_text.proofs.Vocabulary.{ordering_reverse, Equal-is, IsEquivalence, IsTotalOrder, dedup, dedup_from, IsSorted, IsStable, ties, false≢true, eq_by_cmp_equiv, IsStrictlySortedBy-dedup, insert_by, sorted_by, rules}
 use Rattle.dv_text.proofs.Members.{Contains-nil}
 use Rattle.dv_text.proofs.Passing.{find_same, find-filter}
 use Rattle.dv_text.proofs.SortedLists.{ascending-sorted_by, inserted_cases, inserted_here, inserted_there, one_of_ties, same_ascending, sorted_by-sorted}
@@ -96,13 +96,7 @@ module _ {X : Type 0} {R : X → X → Ordering} (o : IsTotalOrder R) where
 
 insert_by-map : {X Y : Type 0} (R : Y → Y → Ordering) (f : X → Y) (x : X) (xs : List X) → insert_by R (f x) (map f xs) ≡ map f (insert_by (λ a b. R (f a) (f b)) x xs)
 insert_by-map R f x [] = refl
-insert_by-map {X} {Y} R f x (y ∷ ys) = by (R (f x) (f y)) refl (insert_by-map R f x ys)
-  where
-    by : (r : Ordering) → R (f x) (f y) ≡ r → insert_by R (f x) (map f ys) ≡ map f (insert_by (λ a b. R (f a) (f b)) x ys)
-        → insert_by R (f x) (map f (y ∷ ys)) ≡ map f (insert_by (λ a b. R (f a) (f b)) x (y ∷ ys))
-    by Less e rest = rw e refl
-    by Equal e rest = rw e refl
-    by Greater e rest = rw e (ap (λ all. f y ∷ all) rest)
+insert_by-map {X} {Y} R f x (y ∷ ys) = search (rules, insert_by-map R f x ys)
 
 pub sorted_by-map : {X Y : Type 0} (R : Y → Y → Ordering) (f : X → Y) (xs : List X) → sorted_by R (map f xs) ≡ map f (sorted_by (λ a b. R (f a) (f b)) xs)
 sorted_by-map R f [] = refl

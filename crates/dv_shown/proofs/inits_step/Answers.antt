@@ -1,5 +1,5 @@
-use Rattle.dv_shown.proofs.Vocabulary.{◌≡◌, ℕ, List, [], inl, inr, refl, ap, arith, length, ⊎_elim, Option, Some, None, ◌∙◌, chars, is_utf8, toml_on_literals, Result, Ok, Err, unwrap_or, MapError, Mapping, read_mapping, Store, BothRead, bare, with_customers_and_sites, bare_file, mapped}
-use Rattle.dv_shown.proofs.Vocabulary.{other_file}
+use Rattle.dv_shown.proofs.Vocabulary.{◌≡◌, ℕ, List, [], inl, inr, refl, ap, arith, length, ⊎_elim, Option, Some, None, ◌∙◌, chars, is_utf8, toml_on_literals, Result, Ok, Err, unwrap_or, MapError, Mapping, read_mapping, Store, BothRead}
+use Rattle.dv_shown.proofs.Vocabulary.{bare, with_customers_and_sites, bare_file, mapped, other_file}
 use Rattle.dv_shown.proofs.inits_step.Goals as goal
 
 -- how long the mapping text is that a store holds

@@ -1,4 +1,4 @@
-use Rattle.dv_shown.proofs.Vocabulary.{◌≡◌, ◌<◌, ◌≤◌, ℕ, ◌+◌, Bool, nat_le, nat_lt, true, false, ◌&&◌, [], ◌∷◌, ◌++◌, length, refl, arith, nat_tests, sum_by-append, Hashes, Mapping, snapshot, State, snapshots_weight, weight_with}
+use Rattle.dv_shown.proofs.Vocabulary.{◌≡◌, ◌+◌, Bool, true, false, ◌&&◌, length, refl, arith}
 use Rattle.dv_shown.proofs.Limits.{above, at_most, not_above, together}
 use Rattle.dv_shown.proofs.limits_kept.Goals as goal
 

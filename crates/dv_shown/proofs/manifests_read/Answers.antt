@@ -1,23 +1,7 @@
-use Rattle.dv_shown.proofs.Vocabulary.{refl, digits, chars, is_utf8, toml_on_literals, day_count, days_from_civil, days_of_months, days_of_years, has_digits, has_form, has_marks, seconds_if, stamp_in}
+use Rattle.dv_shown.proofs.Vocabulary.{digits, chars, is_utf8, toml_on_literals, day_count, days_from_civil, days_of_months, days_of_years, has_digits, has_form, has_marks, seconds_if, stamp_in}
 use Rattle.dv_shown.proofs.ByteLimits.{manifest_in-past, manifest_in-within}
 use Rattle.dv_shown.proofs.manifests_read.Goals as goal
 
 pub returns : goal.returns
 unfolding toml_on_literals digits is_utf8 chars stamp_in has_form has_marks has_digits seconds_if days_from_civil day_count days_of_years days_of_months
-returns c =
-    record {
-      one = refl;
-      in_their_order = refl;
-      other_keys = refl;
-      no_text = refl;
-      no_load = refl;
-      no_stamp = refl;
-      number_for_load = refl;
-      no_list = refl;
-      load_before_extract = refl;
-      no_feed = refl;
-      no_file = refl;
-      feed_before_file = refl;
-      too_long = manifest_in-past;
-      long = manifest_in-within;
-    }
+returns c = search (manifest_in-past, manifest_in-within)

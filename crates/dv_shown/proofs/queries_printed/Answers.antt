@@ -1,17 +1,6 @@
-use Rattle.dv_shown.proofs.Vocabulary.{refl, day_count, days_from_civil, days_of_months, days_of_years, has_digits, has_form, has_marks, month_from, seconds_if, stamp_in, stamp_text, year_from, digits}
+use Rattle.dv_shown.proofs.Vocabulary.{day_count, days_from_civil, days_of_months, days_of_years, has_digits, has_form, has_marks, month_from, seconds_if, stamp_in, stamp_text, year_from, digits}
 use Rattle.dv_shown.proofs.queries_printed.Goals as goal
 
 pub returns : goal.returns
 unfolding stamp_in stamp_text year_from month_from has_form has_marks has_digits seconds_if days_from_civil day_count days_of_years days_of_months digits
-returns c =
-    record {
-      unknown_mart = refl;
-      bad_date = refl;
-      too_large = refl;
-      future = refl;
-      no_snapshot = refl;
-      no_future = refl;
-      unknown_table = refl;
-      snapshots_full = refl;
-      nothing_open = refl;
-    }
+returns c = search

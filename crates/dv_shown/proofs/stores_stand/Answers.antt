@@ -1,5 +1,5 @@
-use Rattle.dv_shown.proofs.Vocabulary.{◌≡◌, ℕ, zero, suc, List, [], refl, ap, ◌∙◌, arith, length, map, Option, Some, None, true, false, slice_get, Result, Ok, Err, unwrap_or, MapError, Status, Mapping, read_mapping, HasTables, IsMappedBy, row_count, partial, bare, two_keys_window, day, plain}
-use Rattle.dv_shown.proofs.Vocabulary.{chars, is_utf8, toml_on_literals, bare_file, other_file, status_first, two_staged}
+use Rattle.dv_shown.proofs.Vocabulary.{◌≡◌, ℕ, zero, suc, List, [], refl, ap, ◌∙◌, arith, length, map, Option, Some, None, true, false, slice_get, Result, Ok, Err, unwrap_or, MapError, Status, Mapping, read_mapping, HasTables, IsMappedBy}
+use Rattle.dv_shown.proofs.Vocabulary.{row_count, partial, bare, two_keys_window, day, plain, chars, is_utf8, toml_on_literals, bare_file, other_file, status_first, two_staged}
 use Rattle.dv_catalog.specs.declared.tables.TableId.TheVariants.{Hub}
 use Rattle.dv_shown.proofs.stores_stand.Goals as goal
 
@@ -29,26 +29,13 @@ not_mapped mapped =
 pub returns : goal.returns
 unfolding toml_on_literals is_utf8 chars
 returns c =
+    let mapped : IsMappedBy bare (Some bare_file) = record { text = bare_file; stored_is = refl; reads = refl } in
     record {
-      sealed_window = record {
-        valid = refl;
-        mapped = record { text = bare_file; stored_is = refl; reads = refl };
-        windows = refl;
-        stage = refl;
-        tables_stand = λ table. refl;
-        snapshots = refl;
-      };
-      with_snapshot = record {
-        valid = refl;
-        mapped = record { text = bare_file; stored_is = refl; reads = refl };
-        windows = refl;
-        stage = refl;
-        tables_stand = λ table. refl;
-        snapshots = refl;
-      };
+      sealed_window = search mapped;
+      with_snapshot = search mapped;
       open_window = record {
         valid = refl;
-        mapped = record { text = bare_file; stored_is = refl; reads = refl };
+        mapped = mapped;
         windows = refl;
         stage = refl;
         tables_stand = (1, omega arith, λ table. refl);
@@ -56,7 +43,7 @@ returns c =
       };
       open_in_none = record {
         valid = refl;
-        mapped = record { text = bare_file; stored_is = refl; reads = refl };
+        mapped = mapped;
         windows = refl;
         stage = refl;
         tables_stand = (0, omega arith, λ table. refl);
@@ -64,7 +51,7 @@ returns c =
       };
       open_in_all = record {
         valid = refl;
-        mapped = record { text = bare_file; stored_is = refl; reads = refl };
+        mapped = mapped;
         windows = refl;
         stage = refl;
         tables_stand = (2, omega arith, λ table. refl);

@@ -1,14 +1,7 @@
-use Rattle.dv_shown.proofs.Vocabulary.{refl, block_words, compress, digest_bytes, hash_after, md5, rounds, day_count, days_from_civil, days_of_months, days_of_years, has_digits, has_form, has_marks, month_from, seconds_if, stamp_in, stamp_text, year_from, fields_text, is_blank, hex_on_literals}
-use Rattle.dv_shown.proofs.Vocabulary.{digits}
+use Rattle.dv_shown.proofs.Vocabulary.{block_words, compress, digest_bytes, hash_after, md5, rounds, day_count, days_from_civil, days_of_months, days_of_years, has_digits, has_form, has_marks, month_from, seconds_if, stamp_in, stamp_text}
+use Rattle.dv_shown.proofs.Vocabulary.{year_from, fields_text, is_blank, hex_on_literals, digits}
 use Rattle.dv_shown.proofs.tables_written.Goals as goal
 
 pub returns : goal.returns
 unfolding md5 digest_bytes hash_after compress rounds block_words stamp_in stamp_text year_from month_from has_form has_marks has_digits seconds_if days_from_civil day_count days_of_years days_of_months fields_text is_blank hex_on_literals digits
-returns c =
-    record {
-      satellite = refl;
-      hub_table = refl;
-      before = refl;
-      two_parts = refl;
-      second_satellite = refl;
-    }
+returns c = search

@@ -1,10 +1,7 @@
-use Rattle.dv_board.proofs.Vocabulary.{rules, arith, ◌+◌, ◌-◌, true, ap, sym, ◌∙◌, subst, length, length-set, slots_items, AreMarked}
-use Rattle.dv_board.proofs.Listed.{marks_none, marks_skip, marks_word, at_word}
+use Rattle.dv_board.proofs.Vocabulary.{arith, ◌+◌, ◌-◌, true, ap, sym, ◌∙◌, subst, length, length-set, slots_items, AreMarked}
+use Rattle.dv_board.proofs.Listed.{marks_skip, marks_word, at_word}
 use Rattle.dv_board.proofs.listing.mark_taken.Goals as goal
 use Rattle.dv_board.proofs.listing.mark_taken.Goals.{then-word-ne0, else-word-ne0}
-
-pub loop-slot-init : goal.loop-slot-init
-loop-slot-init c = record { len = search rules; marks = subst (AreMarked (slots_items c.args.closed.now.words) 0) (sym c.requires.none) (marks_none _ _) }
 
 pub index_mut-requires : goal.index_mut-requires
 index_mut-requires c =
@@ -34,9 +31,3 @@ loop-slot-preserved c =
             marks = subst (AreMarked words (c.loop-slot.slot + 1)) (sym items) (marks_skip words c.loop-slot.slot _ i.marks (word ∙ w.if-word-ne0.false));
           }
     ]
-
-pub returns-clause-marks : goal.returns-clause-marks
-returns-clause-marks c =
-    let past = c.loop-slot-test.false in
-    let within = c.loop-slot.auto.slot-end in
-    subst (λ n. AreMarked (slots_items c.args.closed.now.words) n c.loop-slot.marks.items) (omega (arith, past, within)) c.loop-slot.invariant.marks

@@ -2,9 +2,6 @@ use Rattle.dv_index.proofs.Vocabulary.{◌≡◌, ◌-◌, arith, length, refl, 
 use Rattle.dv_index.proofs.Grown.{grown_numbers, still_sorted}
 use Rattle.dv_index.proofs.merges.grow.Goals as goal
 
-pub add_numbers-requires-clause-room : goal.add_numbers-requires-clause-room
-add_numbers-requires-clause-room g c = rw c.requires.none (omega (arith, c.len-start.ensures, c.args.index.now.ok, c.requires.arrivals_room))
-
 pub merge-requires-clause-olds : goal.merge-requires-clause-olds
 merge-requires-clause-olds g c =
     let long = length-map c.args.rows.now (λ row. (g.R.Placed.place row).parent) in

@@ -1,5 +1,5 @@
-use Rattle.dv_judge.proofs.Vocabulary.{rules, ◌<◌, length, sym, ◌∙◌, arith, err_from_is_err_and}
-use Rattle.dv_judge.proofs.FeedSteps.{fault_told, rows_absent, rows_taken, rule_absent, rule_taken}
+use Rattle.dv_judge.proofs.Vocabulary.{Taken, rules, ◌<◌, length, sym, arith, err_from_is_err_and}
+use Rattle.dv_judge.proofs.FeedSteps.{fault_told, feed_absent, feed_read, rows_taken}
 use Rattle.dv_judge.proofs.stagings.stage_window.Goals.{in-Some+in_ok-push, in_default}
 use Rattle.dv_judge.proofs.stagings.stage_window.Goals as goal
 
@@ -28,7 +28,7 @@ loop-feed-preserved c =
           (record {
             within = omega (arith, under);
             counted = search rules;
-            rule = sym (rule_taken mapping extracts feed taken read.staged.rows read.taken under some) ∙ c.loop-feed.invariant.rule;
+            rule = rw (feed_read mapping extracts feed taken (Taken read.staged.rows read.taken) under some) at c.loop-feed.invariant.rule;
             extracts = rows_taken mapping extracts feed taken read.staged read.taken c.loop-feed.extracts _ under some place c.loop-feed.invariant.extracts;
           })
       | in_default w ↦
@@ -37,7 +37,7 @@ loop-feed-preserved c =
           (record {
             within = omega (arith, under);
             counted = omega (arith, c.loop-feed.invariant.counted);
-            rule = sym (rule_absent mapping extracts feed taken under none) ∙ c.loop-feed.invariant.rule;
-            extracts = rows_absent mapping extracts feed taken c.loop-feed.extracts _ under none c.loop-feed.invariant.extracts;
+            rule = rw (feed_absent mapping extracts feed taken under none) at c.loop-feed.invariant.rule;
+            extracts = rw (feed_absent mapping extracts feed taken under none) at c.loop-feed.invariant.extracts;
           })
     ]

@@ -1,5 +1,5 @@
-use Rattle.dv_board.proofs.Vocabulary.{arith, ◌≡◌, ◌+◌, ◌-◌, ◌*◌, ◌<◌, true, length, get_or, sym, ap, ◌∙◌, ◌==◌, mod_below, Keys, home_of, Keyed, begun, met_by}
-use Rattle.dv_board.proofs.KeyCalls.{meets_kept, lowers_kept}
+use Rattle.dv_board.proofs.Vocabulary.{arith, ◌≡◌, ◌+◌, ◌-◌, ◌*◌, ◌<◌, true, length, get_or, sym, ap, ◌∙◌, ◌==◌, mod_below, Keys, home_of, min, either, eqb, Tells, offered, Keyed, begun, met_by}
+use Rattle.dv_board.proofs.KeyCalls.{allows, meets_as, lowers_as}
 use Rattle.dv_board.proofs.KeyProbes.{meets_same, met_on, met_lists}
 use Rattle.dv_board.proofs.key_table.KeyTable.try_slot.Goals as goal
 
@@ -17,7 +17,8 @@ compare_exchange-found-requires g c =
     let room : c.args.slot < 2 * length k.classes + 1 = omega (arith, slot, low, inside) in (
       r.mine ∙ ap (λ (y : Keyed g.row.I.Denot). y.table) (sym c.self.view_is),
       omega (arith, room, words),
-      meets_kept _ k law _ _ _ _ c.args.item _ c.from-word.ensures r.probing.live r.share r.classes r.homes r.item r.probing.item r.probing.fresh slot room,
+      allows _ k _ _ _ _ (λ n. either (eqb n 0) (c.from-word.result + 1) n) (Tells c.args.seat.now.me.0 (c.from-word.result + 1 - 1) c.args.seat.now.me.1)
+          r.probing.live r.share r.classes r.homes (meets_as k law _ _ _ _ c.args.item _ c.from-word.ensures r.probing.live r.item r.probing.item r.probing.fresh slot room),
     )
 
 pub fetch_min-requires : goal.fetch_min-requires
@@ -48,5 +49,6 @@ fetch_min-requires g c =
     let shares = lists.2 in (
       c.compare_exchange-found.ensures.0 ∙ (r.mine ∙ ap (λ (y : Keyed g.row.I.Denot). y.table) (sym c.self.view_is)),
       omega (arith, room, words),
-      lowers_kept _ k law _ _ _ _ _ (c.from-word.ensures ∙ sym m.3) m.0 (omega (arith, share, shares)) (lists.0 ∙ r.classes) (lists.1 ∙ r.homes) m.1 m.2 place room,
+      allows _ k _ _ _ _ (λ n. min n (c.from-word.result + 1)) (λ n after. after ≡ (offered w, c.compare_exchange-found.new.seat.me.1))
+          m.0 (omega (arith, share, shares)) (lists.0 ∙ r.classes) (lists.1 ∙ r.homes) (lowers_as k law _ _ _ _ _ (c.from-word.ensures ∙ sym m.3) m.0 m.1 m.2 place room),
     )

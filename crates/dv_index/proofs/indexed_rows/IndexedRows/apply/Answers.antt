@@ -15,9 +15,6 @@ grow-requires-clause-room g c =
     let room = rw (← c.self.view_is) at c.requires.room in
     omega (arith, room, counted g.R.Placed.place c.self.inside.rows.items c.args.rows c.deref.result.now c.self.inside.index.items (c.deref.ensures.value ∙ c.append_within.ensures) c.self.invariant.0)
 
-pub grow-requires-clause-none : goal.grow-requires-clause-none
-grow-requires-clause-none g c = c.self.invariant.2
-
 pub grow-requires-clause-arrivals_room : goal.grow-requires-clause-arrivals_room
 grow-requires-clause-arrivals_room g c =
     let room = rw (← c.self.view_is) at c.requires.room in

@@ -1,6 +1,0 @@
-use Rattle.dv_index.proofs.Vocabulary.{◌∙◌}
-use Rattle.dv_index.proofs.Walk.{walk_is}
-use Rattle.dv_index.proofs.walks.latest_of_each.Goals as goal
-
-pub returns : goal.returns
-returns g c = c.in_ok-found.ensures ∙ walk_is g.R.Placed.place c.args.rows.now c.args.index.now c.requires.index c.requires.order c.args.date
