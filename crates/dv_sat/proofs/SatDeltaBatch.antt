@@ -1,22 +1,16 @@
 -- Over the satellite of older extracts, what the newest one adds row by row is its batch.
-use Rattle.dv_sat.proofs.Vocabulary.{◌≡◌, ◌⊎◌, inl, inr, ℕ, ◌==◌, ◌<◌, Bool, true, false, List, [], ◌∷◌, Option, Some, None, refl, sym, ◌∙◌, ap, subst, arith, reverse, Contains, find, nat_le, not, ◌&&◌, pointwise, Less, filter_map, IsStrictlySortedBy, option_map, bytes_eq, Contains-append_cases}
-use Rattle.dv_sat.proofs.Vocabulary.{Contains-append_left, Contains-append_right, IsStrictlySortedBy-filter, Key, NRow, Hashes, refs_eq, row_eq, texts_eq, row_cmp, sorted_by, Contains-cons_cases, Contains-cons_here, Contains-cons_there, Contains-map, Contains-nil, filter_map_member}
-use Rattle.dv_sat.proofs.Vocabulary.{filtered_members, refs_eq-Decides, row_total, texts_eq-Decides, irreflexive, some_passes, member_before_sort, SatRow, appended, IsApart, Extract, all_refs, delivers, lists_of, up_to, AreNewestFirst, first_attrs, valid_at, is_changed, last_rows, rows_of}
-use Rattle.dv_sat.proofs.Vocabulary.{sat_batch, sat_cmp, sat_row, IsOnePerList, newest_first, none_loaded, tells, all_up_to, has_attrs, has_load, sat_change, sat_delta, IsPlain}
+use Rattle.dv_sat.proofs.Vocabulary.{◌≡◌, ◌⊎◌, inl, inr, ℕ, Bool, true, false, List, [], ◌∷◌, Option, Some, None, refl, sym, ◌∙◌, ap, subst, arith, Contains, not, ◌&&◌, pointwise, Less, filter_map, IsStrictlySortedBy, option_map}
+use Rattle.dv_sat.proofs.Vocabulary.{Contains-append_left, Contains-append_right, IsStrictlySortedBy-filter, Key, NRow, Hashes, refs_eq, row_eq, texts_eq, row_cmp, sorted_by, Contains-cons_here, Contains-cons_there, Contains-map}
+use Rattle.dv_sat.proofs.Vocabulary.{Contains-nil, filtered_members, refs_eq-Decides, row_total, texts_eq-Decides, irreflexive, some_passes, SatRow, appended, IsApart, Extract, all_refs, delivers, lists_of, AreNewestFirst, first_attrs}
+use Rattle.dv_sat.proofs.Vocabulary.{valid_at, is_changed, last_rows, rows_of, sat_batch, sat_cmp, sat_row, newest_first, none_loaded, tells, all_up_to, has_attrs, has_load, sat_change, sat_delta, IsPlain, batch_stamped}
+use Rattle.dv_sat.proofs.SatFollowing.{if_so}
 
 module _ (hashes : Hashes) (source : List ℕ) where
   -- a row of a batch has its extract's load date
   row_load : (older : List Extract) (newest : Extract) (row : SatRow) → Contains (sat_batch hashes source older newest) row → row.load ≡ newest.load
-  row_load older newest row has =
-      let (made, member, gives) = filter_map_member (sat_row hashes source older newest) newest.rows row (member_before_sort sat_cmp (filter_map (sat_row hashes source older newest) newest.rows) row has) in
-      by made gives (is_changed older newest made.refs) refl
-    where
-      by : (made : NRow) → sat_row hashes source older newest made ≡ Some row → (changed : Bool) → is_changed older newest made.refs ≡ changed → row.load ≡ newest.load
-      by made gives true e =
-          let is : Some (record { parent = hashes.hash made.refs; load = newest.load; source = source; diff = hashes.diff made.attrs; attrs = made.attrs }) ≡ Some row = rw e at gives in
-          let same : record { parent = hashes.hash made.refs; load = newest.load; source = source; diff = hashes.diff made.attrs; attrs = made.attrs } ≡ row = cc in
-          ap (λ (r : SatRow). r.load) (sym same)
-      by made gives false e = let no : None ≡ Some row = rw e at gives in cc
+  row_load older newest =
+      batch_stamped (λ (row : SatRow). row.load) sat_cmp (sat_row hashes source older newest) newest.load
+      (λ thing row e. sym (ap (λ (r : SatRow). r.load) (if_so (is_changed older newest thing.refs) _ row e))) newest.rows
 
 -- ---- the one row of a list
 

@@ -1,9 +1,10 @@
 -- What the proofs of this crate, and of those above it, take from elsewhere.
-pub use Rattle.dv_text.proofs.Vocabulary.{Bool, Contains, Contains-append_cases, Contains-append_left, Contains-append_right, IsTotalOrder, List, None, Option, Some, [], ap, arith, false, filter_map, inl, inr, is_eq, is_lt, nat_le, nat_list_cmp_total, option_map, refl, refs_eq, reverse, row_cmp}
+pub use Rattle.dv_text.proofs.Vocabulary.{Bool, Contains, Contains-append_cases, Contains-append_left, Contains-append_right, IsTotalOrder, List, None, Option, Some, [], ap, arith, false, filter_map, inl, inr, is_eq, is_lt, list_all, map, nat_le, nat_list_cmp_total, option_map, refl, refs_eq, reverse, row_cmp}
 pub use Rattle.dv_text.proofs.Vocabulary.{row_eq, sorted_by, subst, sym, take, texts_eq, true, ℕ, ◌++◌, ◌<◌, ◌==◌, ◌∙◌, ◌∷◌, ◌≡◌, ◌⊎◌}
+pub use Rattle.dv_digest.specs.Fits.{attrs_fit}
 pub use Rattle.dv_index.proofs.Vocabulary.{Contains-cons_cases, Contains-cons_here, Contains-cons_there, always_returns_same, ascending-sorted_by, filter_map_member, find, list_all-map, not, ranks_by, rules}
 pub use Rattle.dv_records.proofs.Vocabulary.{AreNewestFirst, Contains-map, Contains-nil, Extract, Hashes, IsApart, IsOnePerList, all_refs, appended, batch_of, delivers, filtered_members, first_attrs, irreflexive, is_changed, last_rows, lists_of, member_before_sort, on_total, refs_eq-Decides}
-pub use Rattle.dv_records.proofs.Vocabulary.{row_total, rows_of, sat_batch, sat_cmp, sat_row, some_passes, source, texts_eq-Decides, up_to, valid_at, ◌&&◌}
+pub use Rattle.dv_records.proofs.Vocabulary.{if◌then◌else◌, row_total, rows_of, sat_batch, sat_cmp, sat_row, some_passes, source, texts_eq-Decides, up_to, valid_at, ◌&&◌}
 pub use Rattle.dv_catalog.proofs.Vocabulary.{bytes_eq, pointwise}
 pub use Rattle.dv_records.proofs.DatedRows.{batch_stamped, delta_follows, delta_stamped, found_up_to_last, in_load_order, last_load, newest_first, none_loaded}
 pub use Rattle.dv_records.proofs.LastChange.{all_up_to}

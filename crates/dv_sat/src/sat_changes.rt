@@ -4,19 +4,9 @@ ghost use Rattle.std.specs.Option.{option_to_list};
 ghost use Rattle.dv_text.specs.Keys.{hashes_of};
 ghost use Rattle.dv_digest.specs.Fits as fits;
 
-use dv_digest::{Room, attrs_fit, hash_diff, hash_key, refs_fit};
+use dv_digest::{Room, attrs_fit, hash_diff};
 use dv_records::SatRow;
-use dv_text::{Digest, Duplicate, Key, KeyDigest, List, Memory, Stamp, Text};
-
-/// The hash key of a reference list that is no longer than those of staged rows.
-pub(crate) fn hash<H: KeyDigest>(digest: &H, refs: &List<Key>, room: &mut Room) -> Digest
-    requires { IsTrue (fits.refs_fit refs.now) }
-    ensures { result ≡ (hashes_of H.digest_of H.size).hash refs.now }
-{
-    let fit = refs_fit(refs);
-    prove!(fit);
-    hash_key(digest, refs, room)
-}
+use dv_text::{Digest, Duplicate, KeyDigest, List, Memory, Stamp, Text};
 
 /// The hash difference of attributes that are no longer than those of staged rows.
 pub(crate) fn diff<H: KeyDigest>(digest: &H, attrs: &List<Text>, room: &mut Room) -> Digest

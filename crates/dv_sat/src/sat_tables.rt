@@ -1,20 +1,21 @@
-ghost use Rattle.std.specs.Prelude.{◌≡◌, ◌≤◌, ◌<◌, ◌++◌, All, IfOk, IsTrue, OnOk, length, option_map};
+ghost use Rattle.std.specs.Prelude.{◌≡◌, ◌≤◌, ◌<◌, ◌++◌, All, IfOk, IsTrue, OnOk, length, map, option_map};
 ghost use Rattle.std.specs.List.{filter_map, list_all};
 ghost use Rattle.std.specs.List.Sorted.{IsStrictlySortedBy};
 ghost use Rattle.dv_text.specs.Keys.{hashes_of};
 ghost use Rattle.dv_digest.specs.Fits as fits;
+ghost use Rattle.dv_digest.specs.HashedExtracts.{HasKeys};
 ghost use Rattle.dv_catalog.specs.Feeds.{source};
 ghost use Rattle.dv_records.specs.Reconstruction.{valid_at};
 ghost use Rattle.dv_sat.specs.SatRows.{are_up_to, current_of, sat_change, sat_delta, sat_order, IsSatBatchAfter};
 ghost use Rattle.dv_sat.specs.SatRows as spec;
 
-use crate::sat_changes::{add, diff, hash, new_row};
+use crate::sat_changes::{add, diff, new_row};
 use crate::sorting::in_batch_order;
 use dv_catalog::{Catalog, record_source};
-use dv_digest::Room;
+use dv_digest::{HashedExtract, Room};
 use dv_index::IndexedRows;
 use dv_records::SatRow;
-use dv_text::{Digest, KeyDigest, List, Memory, NRow, Staged, Stamp, Text};
+use dv_text::{Digest, KeyDigest, List, Memory, NRow, Stamp, Text};
 use std::alloc::Global;
 use std::marker::Model;
 
@@ -124,25 +125,25 @@ impl SatTable {
         }
     }
 
-    // The row that an extract's row adds.
+    // The row that an extract's row adds, where the parent is the hash key of its reference list.
     fn change<H: KeyDigest>(
         &self,
         load: Stamp,
         source: &Text,
         row: &NRow,
+        parent: &Digest,
         digest: &H,
         room: &mut Room,
     ) -> Result<Option<SatRow>, Memory>
-        requires fit { IsTrue (fits.refs_fit row.now.refs) }
+        requires key { parent.now ≡ (hashes_of H.digest_of H.size).hash row.now.refs }
         requires attrs_fit { IsTrue (fits.attrs_fit row.now.attrs) }
         ensures { IfOk result (λ made. made ≡ sat_change (hashes_of H.digest_of H.size) source.now self.now.rows load row.now) }
     {
-        let parent = hash(digest, &row.refs, room);
-        if self.has_attrs(&parent, load, &row.attrs) {
+        if self.has_attrs(parent, load, &row.attrs) {
             return Ok(None);
         }
         let diff = diff(digest, &row.attrs, room);
-        let made = new_row(parent, load, source, diff, &row.attrs)?;
+        let made = new_row(*parent, load, source, diff, &row.attrs)?;
         Ok(Some(made))
     }
 
@@ -152,16 +153,17 @@ impl SatTable {
         load: Stamp,
         source: &Text,
         rows: &[NRow],
+        keys: &[Digest],
         digest: &H,
     ) -> Result<Vec<SatRow>, Memory>
-        requires fit { IsTrue (list_all (λ row. fits.refs_fit row.refs) rows.now) }
+        requires keys { keys.now ≡ map (λ row. (hashes_of H.digest_of H.size).hash row.refs) rows.now }
         requires attrs_fit { IsTrue (list_all (λ row. fits.attrs_fit row.attrs) rows.now) }
         ensures { IfOk result (λ made. made.items ≡ filter_map (sat_change (hashes_of H.digest_of H.size) source.now self.now.rows load) rows.now) }
     {
         let mut room = Room::new(self.allocator())?;
         let mut made = Vec::new(self.allocator());
-        for row in rows {
-            let change = self.change(load, source, row, digest, &mut room)?;
+        for (row, key) in rows.iter().zip(keys) {
+            let change = self.change(load, source, row, key, digest, &mut room)?;
             add(&mut made, change)?;
         }
         Ok(made)
@@ -171,48 +173,50 @@ impl SatTable {
     /// that are valid for its parent at the load date; none where the table has a row of this load date. They
     /// have the load date, and the table's rows followed by them ascend. Over the table of a feed's extracts
     /// before it, they are the extract's batch, where the extracts have one row without a sub for each reference
-    /// list, and no two of these lists have one hash key. Conditions: the feed is in the mapping, the reference
-    /// lists and the attributes are no longer than those of staged rows, and no row of the table is later than
-    /// the load date.
+    /// list, and no two of these lists have one hash key. Conditions: the feed is in the mapping, the extract has
+    /// its hash keys, the attributes are no longer than those of staged rows, and no row of the table is later
+    /// than the load date.
     pub fn delta<H: KeyDigest>(
         &self,
         load: Stamp,
-        staged: &Staged,
+        extract: &HashedExtract<'_>,
         catalog: &Catalog,
         digest: &H,
     ) -> Result<List<SatRow>, Memory>
-        requires feed { staged.now.feed < length catalog.now.feeds }
-        requires fit { IsTrue (list_all (λ row. fits.refs_fit row.refs) staged.now.rows) }
-        requires attrs_fit { IsTrue (list_all (λ row. fits.attrs_fit row.attrs) staged.now.rows) }
+        requires feed { extract.now.staged.now.feed < length catalog.now.feeds }
+        requires keys { HasKeys (hashes_of H.digest_of H.size) extract.now }
+        requires attrs_fit { IsTrue (list_all (λ row. fits.attrs_fit row.attrs) extract.now.staged.now.rows) }
         requires not_later { IsTrue (are_up_to self.now.rows load) }
-        ensures delta { IfOk result (λ rows. rows ≡ sat_delta (hashes_of H.digest_of H.size) (source catalog.now staged.now.feed) self.now.rows load staged.now.rows) }
+        ensures delta { IfOk result (λ rows. rows ≡ sat_delta (hashes_of H.digest_of H.size) (source catalog.now extract.now.staged.now.feed) self.now.rows load extract.now.staged.now.rows) }
         ensures stamped { IfOk result (All (λ row. row.load ≡ load)) }
         ensures follows { IfOk result (λ rows. IsStrictlySortedBy sat_order (self.now.rows ++ rows)) }
-        ensures batch { IfOk result (IsSatBatchAfter (hashes_of H.digest_of H.size) (source catalog.now staged.now.feed) self.now.rows (record { load = load; rows = staged.now.rows })) }
+        ensures batch { IfOk result (IsSatBatchAfter (hashes_of H.digest_of H.size) (source catalog.now extract.now.staged.now.feed) self.now.rows (record { load = load; rows = extract.now.staged.now.rows })) }
     {
-        let rows = self.delta_rows(load, staged, catalog, digest)?;
+        let rows = self.delta_rows(load, extract, catalog, digest)?;
         Ok(rows)
     }
 
     fn delta_rows<H: KeyDigest>(
         &self,
         load: Stamp,
-        staged: &Staged,
+        extract: &HashedExtract<'_>,
         catalog: &Catalog,
         digest: &H,
     ) -> Result<List<SatRow>, Memory>
-        requires feed { staged.now.feed < length catalog.now.feeds }
-        requires fit { IsTrue (list_all (λ row. fits.refs_fit row.refs) staged.now.rows) }
-        requires attrs_fit { IsTrue (list_all (λ row. fits.attrs_fit row.attrs) staged.now.rows) }
+        requires feed { extract.now.staged.now.feed < length catalog.now.feeds }
+        requires keys { HasKeys (hashes_of H.digest_of H.size) extract.now }
+        requires attrs_fit { IsTrue (list_all (λ row. fits.attrs_fit row.attrs) extract.now.staged.now.rows) }
         requires not_later { IsTrue (are_up_to self.now.rows load) }
-        ensures value { IfOk result (λ rows. rows ≡ sat_delta (hashes_of H.digest_of H.size) (source catalog.now staged.now.feed) self.now.rows load staged.now.rows) }
+        ensures value { IfOk result (λ rows. rows ≡ sat_delta (hashes_of H.digest_of H.size) (source catalog.now extract.now.staged.now.feed) self.now.rows load extract.now.staged.now.rows) }
         ensures order { IsStrictlySortedBy sat_order self.now.rows }
     {
         if self.has_load(load) {
             return Ok(List::new(self.allocator()));
         }
+        let staged = extract.staged;
         let source = record_source(self.allocator(), catalog.feed(staged.feed))?;
-        let changes = self.changes(load, &source, staged.rows.items(), digest)?;
+        let rows = staged.rows.items();
+        let changes = self.changes(load, &source, rows, extract.keys.items(), digest)?;
         let rows = in_batch_order(changes)?;
         Ok(rows)
     }

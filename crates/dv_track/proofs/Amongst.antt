@@ -1,8 +1,12 @@
 -- Digests in a list, sorted or not.
-use Rattle.dv_track.proofs.Vocabulary.{◌≡◌, ◌↔◌, ℕ, ◌+◌, inl, inr, Bool, true, false, List, [], ◌∷◌, Option, Some, None, Result, Ok, Err, refl, sym, ap, subst, arith, length, get_or, filter, reverse, ◌&&◌, nat_le, Contains, is_ok, Decides, IsTrue, Ordering, Equal, IsTotalOrder}
+use Rattle.dv_track.proofs.Vocabulary.{◌≡◌, ◌↔◌, ℕ, ◌+◌, inl, inr, List, [], ◌∷◌, Option, Some, None, Result, Ok, Err, refl, ap, subst, arith, length, get_or, filter, reverse, ◌&&◌, nat_le, Contains, is_ok, Decides, IsTrue, Ordering, Equal, IsTotalOrder}
 use Rattle.dv_track.proofs.Vocabulary.{nat_cmp-IsAntisymmetric, slice_cmp-IsAntisymmetric, IsAntisymmetric, filter_map, IsBinarySearchResult, IsSearchInRange, IsStrictlySortedBy, IsSortedBy, is_lt, bytes_eq, and_parts, cases_lt, false≢true, tied_itself, searchable_from_sorted, Less-from_sorted}
 use Rattle.dv_track.proofs.Vocabulary.{bytes_eq-Decides, sorted_by, found_member, same_answer, some_passes, some_passes_at, member_after_sort, member_before_sort, StatusRow, Code, I, D, digest_cmp, status_place, latest_at, latest_of_each, is_appearance, says_present, is_among, parents_of}
-use Rattle.dv_track.proofs.Vocabulary.{present_parents}
+use Rattle.dv_track.proofs.Vocabulary.{Bool, sym, ◌++◌, ◌||◌, ◌∙◌, any-filter_same, list_any-append, nat_list_cmp_total, same_ascending, present_parents}
+
+-- two digests that tie are one
+pub exact : (a b : List ℕ) → digest_cmp a b ≡ Equal → a ≡ b
+exact a b e = slice_cmp-IsAntisymmetric nat_cmp-IsAntisymmetric a b e
 
 pub is_among-Decides : (digests : List (List ℕ)) (digest : List ℕ) → Decides (is_among digests digest) (Contains digests digest)
 is_among-Decides digests digest = (
@@ -35,7 +39,23 @@ pub among_sorted : (digests : List (List ℕ)) (digest : List ℕ) → is_among 
 among_sorted digests digest =
     same_answer (is_among (sorted_by digest_cmp digests) digest) (is_among digests digest)
     (λ e. (is_among-Decides digests digest).1 (member_before_sort digest_cmp digests digest ((is_among-Decides (sorted_by digest_cmp digests) digest).0 e)))
-    (λ e. (is_among-Decides (sorted_by digest_cmp digests) digest).1 (member_after_sort digest_cmp digests digest (λ x member tied. slice_cmp-IsAntisymmetric nat_cmp-IsAntisymmetric x digest tied) ((is_among-Decides digests digest).0 e)))
+    (λ e. (is_among-Decides (sorted_by digest_cmp digests) digest).1 (member_after_sort digest_cmp digests digest (λ x member tied. exact x digest tied) ((is_among-Decides digests digest).0 e)))
+
+-- a digest that passes the filter is left
+pub among-filter : (p : List ℕ → Bool) (digests : List (List ℕ)) (digest : List ℕ) → is_among (filter p digests) digest ≡ (p digest && is_among digests digest)
+among-filter p digests digest = any-filter_same (λ other. bytes_eq other digest) p (p digest) (λ other same. ap p ((bytes_eq-Decides other digest).0 same)) digests
+
+-- what is left of two lists, put in one order
+pub among_both : (p q : List ℕ → Bool) (xs ys : List (List ℕ)) (digest : List ℕ) → is_among (sorted_by digest_cmp (filter p xs ++ filter q ys)) digest ≡ ((p digest && is_among xs digest) || (q digest && is_among ys digest))
+among_both p q xs ys digest =
+    among_sorted (filter p xs ++ filter q ys) digest ∙ list_any-append (λ other. bytes_eq other digest) (filter p xs) (filter q ys) ∙ rw (among-filter p xs digest, among-filter q ys digest) refl
+
+-- two ascending lists with the same digests are one
+pub same_among : (xs ys : List (List ℕ)) → IsStrictlySortedBy digest_cmp xs → IsStrictlySortedBy digest_cmp ys → ((digest : List ℕ) → is_among xs digest ≡ is_among ys digest) → xs ≡ ys
+same_among xs ys up vp same =
+    same_ascending digest_cmp nat_list_cmp_total xs ys up vp
+    (λ digest has. (is_among-Decides ys digest).0 (sym (same digest) ∙ (is_among-Decides xs digest).1 has))
+    (λ digest has. (is_among-Decides xs digest).0 (same digest ∙ (is_among-Decides ys digest).1 has))
 
 -- the parents of those latest rows that say that it appeared are the parents that are present
 pub appeared_present : (latest : List ℕ → Option StatusRow) → ((parent : List ℕ) (row : StatusRow) → latest parent ≡ Some row → row.parent ≡ parent) → (parents : List (List ℕ))

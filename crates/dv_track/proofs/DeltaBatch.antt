@@ -1,9 +1,11 @@
 -- Over the table of older extracts, what the newest one adds row by row is its batch.
-use Rattle.dv_track.proofs.Vocabulary.{◌≡◌, ℕ, ◌==◌, ◌<◌, inl, inr, Bool, true, false, List, [], ◌∷◌, ◌++◌, Option, Some, refl, sym, ◌∙◌, ap, subst, arith, Contains, nat_list_cmp_total, nat_cmp-IsAntisymmetric, slice_cmp-IsAntisymmetric, filter_map, bytes_eq, Contains-append_cases}
-use Rattle.dv_track.proofs.Vocabulary.{Contains-append_left, Contains-append_right, bytes_eq-Decides, Key, Hashes, sorted_by, Contains-map, Contains-nil, IsStrictlySortedBy-filter_map, filter_map_member, map_member, member_of_filter_map, ascending-sorted_by, member_after_sort, member_before_sort}
+use Rattle.dv_track.proofs.Vocabulary.{◌≡◌, ℕ, inl, inr, false, List, [], ◌∷◌, ◌++◌, Option, Some, refl, sym, ◌∙◌, ap, subst, arith, Contains, nat_list_cmp_total, filter_map, Contains-append_cases}
+use Rattle.dv_track.proofs.Vocabulary.{Contains-append_left, Contains-append_right, Key, Hashes, sorted_by, Contains-map, Contains-nil, IsStrictlySortedBy-filter_map, filter_map_member, map_member, member_of_filter_map, ascending-sorted_by, member_after_sort, member_before_sort}
 use Rattle.dv_track.proofs.Vocabulary.{StatusRow, appended, digest_cmp, IsApart, Extract, all_refs, delivers, lists_of, newest_rows, AreNewestFirst, present_at, code_of, status_batch, status_cmp, status_row, IsStatusBatch, newest_first, none_loaded, Contains-all_refs, delivers-from_Contains}
-use Rattle.dv_track.proofs.Vocabulary.{both_lists, tells, status_parent, status_stands, status_tied, has_load, hashes_in, is_among, parents_of, status_change, status_delta, some_passes, some_passes_at, made_of}
+use Rattle.dv_track.proofs.Vocabulary.{both_lists, tells, status_parent, status_stands, status_tied, has_load, hashes_in, is_among, parents_of, status_change, status_delta, made_of}
 use Rattle.dv_records.proofs.LastChange.{all_up_to}
+use Rattle.dv_track.proofs.Vocabulary.{same_answer}
+use Rattle.dv_track.proofs.Amongst.{exact, is_among-Decides}
 use Rattle.dv_track.proofs.Following.{change_parent}
 use Rattle.dv_track.proofs.Presence.{present_parent}
 
@@ -67,19 +69,12 @@ module _ (hashes : Hashes) (source : List ℕ) (older : List Extract) (newest : 
 
   -- and the lists have the hash keys of those that the new one delivers
   now : (refs : List Key) → Contains (lists_of (newest ∷ older)) refs → is_among (hashes_in hashes refs_now) (hashes.hash refs) ≡ delivers newest.rows refs
-  now refs here = by (is_among (hashes_in hashes refs_now) (hashes.hash refs)) (delivers newest.rows refs) refl refl
-    where
-      by : (is there : Bool) → is_among (hashes_in hashes refs_now) (hashes.hash refs) ≡ is → delivers newest.rows refs ≡ there → is ≡ there
-      by true true i t = refl
-      by false false i t = refl
-      by false true i t =
-          let hashed = some_passes_at (λ other. bytes_eq other (hashes.hash refs)) (hashes_in hashes refs_now) (hashes.hash refs) (Contains-map hashes.hash refs_now refs (Contains-all_refs newest.rows refs t)) ((bytes_eq-Decides (hashes.hash refs) (hashes.hash refs)).1 refl) in
-          sym i ∙ hashed
-      by true false i t =
-          let (other, among, equal) = some_passes (λ other. bytes_eq other (hashes.hash refs)) (hashes_in hashes refs_now) i in
-          let (list, member, is) = map_member hashes.hash refs_now other among in
-          let same : list ≡ refs = apart list refs (Contains-append_left (all_refs newest.rows) (lists_of older) list member) here (is ∙ (bytes_eq-Decides other (hashes.hash refs)).0 equal) in
-          sym (delivers-from_Contains newest.rows refs (subst (Contains refs_now) same member)) ∙ t
+  now refs here =
+      same_answer (is_among (hashes_in hashes refs_now) (hashes.hash refs)) (delivers newest.rows refs)
+      (λ is.
+      let (list, member, hashed) = map_member hashes.hash refs_now (hashes.hash refs) ((is_among-Decides (hashes_in hashes refs_now) (hashes.hash refs)).0 is) in
+      delivers-from_Contains newest.rows refs (subst (Contains refs_now) (apart list refs (Contains-append_left (all_refs newest.rows) (lists_of older) list member) here hashed) member))
+      (λ there. (is_among-Decides (hashes_in hashes refs_now) (hashes.hash refs)).1 (Contains-map hashes.hash refs_now refs (Contains-all_refs newest.rows refs there)))
 
   -- so a list's change is its row
   same_row : (refs : List Key) → Contains (lists_of (newest ∷ older)) refs → change (hashes.hash refs) ≡ status_row hashes source older newest refs
@@ -102,20 +97,23 @@ module _ (hashes : Hashes) (source : List ℕ) (older : List Extract) (newest : 
   has_digest : (refs : List Key) → Contains (all_refs (newest_rows older) ++ refs_now) refs → Contains digests (hashes.hash refs)
   has_digest refs has =
       elim (Contains-append_cases (all_refs (newest_rows older)) refs_now refs has) [
-        | inl before ↦ Contains-append_left (parents_of rows) (hashes_in hashes refs_now) (hashes.hash refs) (present_parent rows (hashes.hash refs) newest.load (was refs (both_lists newest older refs has) ∙ delivers-from_Contains (newest_rows older) refs before))
+        | inl before ↦
+            Contains-append_left (parents_of rows) (hashes_in hashes refs_now) (hashes.hash refs)
+            (present_parent rows (hashes.hash refs) newest.load (was refs (both_lists newest older refs has) ∙ delivers-from_Contains (newest_rows older) refs before))
         | inr member ↦ Contains-append_right (parents_of rows) (hashes_in hashes refs_now) (hashes.hash refs) (Contains-map hashes.hash refs_now refs member)
       ]
 
   is_batch : IsStatusBatch hashes source older newest (filter_map change (sorted_by digest_cmp digests))
   is_batch = record {
-    ascending = IsStrictlySortedBy-filter_map digest_cmp change (λ (row : StatusRow). row.parent) (change_parent hashes source rows newest.load refs_now) (sorted_by digest_cmp digests) (ascending-sorted_by digest_cmp nat_list_cmp_total digests);
+    ascending = IsStrictlySortedBy-filter_map digest_cmp change (λ (row : StatusRow). row.parent) (change_parent source rows newest.load (hashes_in hashes refs_now)) (sorted_by digest_cmp digests)
+        (ascending-sorted_by digest_cmp nat_list_cmp_total digests);
     only = λ row has.
         let (digest, member, gives) = filter_map_member change (sorted_by digest_cmp digests) row has in
         let (refs, here, is) = digest_list digest (member_before_sort digest_cmp digests digest member) in
         (refs, sym (same_row refs here) ∙ ap change is ∙ gives);
     each = λ refs row gives.
         let stands = status_stands hashes source older newest refs row gives in
-        let sorted = member_after_sort digest_cmp digests (hashes.hash refs) (λ x member e. slice_cmp-IsAntisymmetric nat_cmp-IsAntisymmetric x (hashes.hash refs) e) (has_digest refs stands) in
+        let sorted = member_after_sort digest_cmp digests (hashes.hash refs) (λ x member tied. exact x (hashes.hash refs) tied) (has_digest refs stands) in
         member_of_filter_map change (sorted_by digest_cmp digests) (hashes.hash refs) row sorted (same_row refs (both_lists newest older refs stands) ∙ gives);
   }
 

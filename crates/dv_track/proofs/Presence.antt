@@ -1,15 +1,11 @@
 -- The parents that are present after a table's rows.
-use Rattle.dv_track.proofs.Vocabulary.{◌≡◌, ◌↔◌, ℕ, inl, inr, Bool, true, false, List, [], ◌∷◌, ◌++◌, Option, Some, None, refl, sym, ◌∙◌, ap, subst, filter, reverse, ◌&&◌, nat_le, not, Contains, find, nat_list_cmp_total, nat_cmp-IsAntisymmetric, slice_cmp-IsAntisymmetric, Equal}
-use Rattle.dv_track.proofs.Vocabulary.{IsStrictlySortedBy, bytes_eq, and_parts, false_from_ne_true, false≢true, le-leb, not-true, reverse-append, Contains-append_cases, Contains-append_left, Contains-append_right, find-append, list_all-append, IsStrictlySortedBy-filter, bytes_eq-Decides}
-use Rattle.dv_track.proofs.Vocabulary.{sorted_by, Contains-cons_here, Contains-cons_there, Contains-map, filtered_members, reverse_member, ascending-sorted_by, member_after_sort, member_before_sort, same_ascending, find_none, find_same, found_member, same_answer, some_passes_at, StatusRow}
-use Rattle.dv_track.proofs.Vocabulary.{digest_cmp, present_at, says_present, missing_in, updated, ArePresent, are_up_to, is_among, parents_of, present_parents, status_cmp, all_up_to}
-use Rattle.dv_track.proofs.Amongst.{among_sorted, is_among-Decides}
+use Rattle.dv_track.proofs.Vocabulary.{◌≡◌, ℕ, Bool, true, false, List, ◌++◌, Option, Some, None, refl, sym, ◌∙◌, ap, subst, filter, reverse, ◌&&◌, nat_le, not, Contains, find, nat_list_cmp_total, IsStrictlySortedBy, bytes_eq, and_parts}
+use Rattle.dv_track.proofs.Vocabulary.{false_from_ne_true, false≢true, le-leb, reverse-append, find-append, list_all-append, IsStrictlySortedBy-filter, bytes_eq-Decides, sorted_by, Contains-map, reverse_member, ascending-sorted_by}
+use Rattle.dv_track.proofs.Vocabulary.{find_none, find_same, found_member, some_passes_at, StatusRow, digest_cmp, present_at, says_present, missing_in, updated, ArePresent, are_up_to, is_among, parents_of, present_parents, status_cmp}
+use Rattle.dv_track.proofs.Vocabulary.{all_up_to, ◌||◌, and-false, and-true, or-false}
+use Rattle.dv_track.proofs.Amongst.{among-filter, among_both, among_sorted, is_among-Decides, same_among}
 
 -- ---- who is present
-
--- two digests that tie are one
-pub exact : (a b : List ℕ) → digest_cmp a b ≡ Equal → a ≡ b
-exact a b e = slice_cmp-IsAntisymmetric nat_cmp-IsAntisymmetric a b e
 
 -- a parent that is present has a row
 pub present_parent : (rows : List StatusRow) (parent : List ℕ) (date : ℕ) → present_at rows parent date ≡ true → Contains (parents_of rows) parent
@@ -25,20 +21,16 @@ present_parent rows parent date present = by (find p (reverse rows)) refl
         let same = (bytes_eq-Decides row.parent parent).0 (and_parts _ (nat_le row.load date) passes).0 in
         subst (Contains (parents_of rows)) same (Contains-map (λ (row : StatusRow). row.parent) rows row ((reverse_member rows row).0 member))
 
--- the list of those who are present has no other, and each of them
-pub present_members : (rows : List StatusRow) (date : ℕ) (parent : List ℕ) → Contains (present_parents rows date) parent ↔ (present_at rows parent date ≡ true)
-present_members rows date parent = (
-  λ has. ((filtered_members (λ parent. present_at rows parent date) (sorted_by digest_cmp (parents_of rows)) parent).0 has).1,
-  λ e.
-      (filtered_members (λ parent. present_at rows parent date) (sorted_by digest_cmp (parents_of rows)) parent).1
-      (member_after_sort digest_cmp (parents_of rows) parent (λ x member tied. exact x parent tied) (present_parent rows parent date e), e),
-)
+-- so the list of those who are present has just these
+implied : (p q : Bool) → (p ≡ true → q ≡ true) → (p && q) ≡ p
+implied true q has = has refl
+implied false q has = refl
 
 pub among_present : (rows : List StatusRow) (date : ℕ) (parent : List ℕ) → is_among (present_parents rows date) parent ≡ present_at rows parent date
 among_present rows date parent =
-    same_answer (is_among (present_parents rows date) parent) (present_at rows parent date)
-    (λ e. (present_members rows date parent).0 ((is_among-Decides (present_parents rows date) parent).0 e))
-    (λ e. (is_among-Decides (present_parents rows date) parent).1 ((present_members rows date parent).1 e))
+    among-filter (λ parent. present_at rows parent date) (sorted_by digest_cmp (parents_of rows)) parent
+    ∙ implied (present_at rows parent date) (is_among (sorted_by digest_cmp (parents_of rows)) parent)
+    (λ e. among_sorted (parents_of rows) parent ∙ (is_among-Decides (parents_of rows) parent).1 (present_parent rows parent date e))
 
 pub present_ascend : (rows : List StatusRow) (date : ℕ) → IsStrictlySortedBy digest_cmp (present_parents rows date)
 present_ascend rows date = IsStrictlySortedBy-filter digest_cmp (λ parent. present_at rows parent date) (sorted_by digest_cmp (parents_of rows)) (ascending-sorted_by digest_cmp nat_list_cmp_total (parents_of rows))
@@ -91,37 +83,18 @@ module _ (rows more : List StatusRow) (present : List (List ℕ)) (last : ℕ) (
     before : present ≡ present_parents rows date
     before = is date (and_parts (are_up_to rows date) (are_up_to more date) (sym (list_all-append (λ (row : StatusRow). nat_le row.load date) rows more) ∙ early)).0
 
-    there : (parent : List ℕ) → Contains (sorted_by digest_cmp items) parent → Contains (present_parents all date) parent
-    there parent has =
-        (present_members all date parent).1
-        (elim (Contains-append_cases (missing_in touched present) (filter (λ parent. present_at all parent last) touched) parent (member_before_sort digest_cmp items parent has)) [
-          | inl kept ↦
-              let (member, missing) = (filtered_members (λ digest. not (is_among touched digest)) present parent).0 kept in
-              untouched date parent (not-true (is_among touched parent) missing) ∙ (present_members rows date parent).0 (subst (λ list. Contains list parent) before member)
-          | inr new ↦
-              let (member, said) = (filtered_members (λ parent. present_at all parent last) touched parent).0 new in
-              same_late all parent date last early up ∙ said
-        ])
-
-    back : (parent : List ℕ) → Contains (present_parents all date) parent → Contains (sorted_by digest_cmp items) parent
-    back parent has = member_after_sort digest_cmp items parent (λ x member tied. exact x parent tied) (by (is_among touched parent) refl)
-      where
-        said : present_at all parent date ≡ true
-        said = (present_members all date parent).0 has
-
-        by : (b : Bool) → is_among touched parent ≡ b → Contains items parent
-        by true t =
-            Contains-append_right (missing_in touched present) (filter (λ parent. present_at all parent last) touched) parent
-            ((filtered_members (λ parent. present_at all parent last) touched parent).1 ((is_among-Decides touched parent).0 t, same_late all parent last date up early ∙ said))
-        by false f =
-            let member = (present_members rows date parent).1 (sym (untouched date parent f) ∙ said) in
-            Contains-append_left (missing_in touched present) (filter (λ parent. present_at all parent last) touched) parent
-            ((filtered_members (λ digest. not (is_among touched digest)) present parent).1 (subst (λ list. Contains list parent) (sym before) member, rw f refl))
-
   pub kept_ascend : IsStrictlySortedBy digest_cmp present
   kept_ascend = rw (before last up) (present_ascend rows last)
 
+  -- the touched ones are as the rows say now, and the others as they were
+  chosen : (t kept new said : Bool) → (t ≡ true → new ≡ said) → (t ≡ false → kept ≡ said) → ((not t && kept) || (new && t)) ≡ said
+  chosen true kept new said by_new by_kept = rw (and-true new) (by_new refl)
+  chosen false kept new said by_new by_kept = rw (and-false new, or-false kept) (by_kept refl)
+
   pub updated_present : ArePresent all (updated all last present touched)
   updated_present date early =
-      same_ascending digest_cmp nat_list_cmp_total (sorted_by digest_cmp items) (present_parents all date)
-      (ascending-sorted_by digest_cmp nat_list_cmp_total items) (present_ascend all date) (there date early) (back date early)
+      same_among (sorted_by digest_cmp items) (present_parents all date) (ascending-sorted_by digest_cmp nat_list_cmp_total items) (present_ascend all date) (λ parent.
+      among_both (λ digest. not (is_among touched digest)) (λ parent. present_at all parent last) present touched parent
+      ∙ chosen (is_among touched parent) (is_among present parent) (present_at all parent last) (is_among (present_parents all date) parent)
+      (λ t. same_late all parent last date up early ∙ sym (among_present all date parent))
+      (λ f. ap (λ list. is_among list parent) (before date early) ∙ among_present rows date parent ∙ sym (untouched date parent f) ∙ sym (among_present all date parent)))

@@ -11,7 +11,7 @@ use Rattle.dv_text.specs.Sorting.{sorted_by}
 use Rattle.dv_records.specs.declared.raw_rows.StatusRow.{StatusRow}
 use Rattle.dv_records.specs.Batches.{appended, digest_cmp}
 use Rattle.dv_records.specs.Collisions.{IsApart}
-use Rattle.dv_records.specs.History.{Extract, all_refs, lists_of, AreNewestFirst}
+use Rattle.dv_records.specs.History.{Extract, lists_of, AreNewestFirst}
 pub use Rattle.dv_records.specs.ReadBack.{present_parents}
 use Rattle.dv_records.specs.Reconstruction.{present_at}
 use Rattle.dv_records.specs.Statuses.{code_between, status_batch}
@@ -51,10 +51,14 @@ status_change source rows load now digest =
 abbrev pub status_changes : List ℕ → List StatusRow → ℕ → List (List ℕ) → List StatusRow
 status_changes source rows load now = filter_map (status_change source rows load now) (sorted_by digest_cmp (parents_of rows ++ now))
 
--- what the reference lists of an extract add to a table: by hash key, a row for each digest of the table or of the lists
--- that appeared or vanished; nothing where the table has a row of this load date
+-- what an extract with these hash keys adds to a table: a row for each digest of the table or of the keys that appeared
+-- or vanished; nothing where the table has a row of this load date
+abbrev pub keys_delta : List ℕ → List StatusRow → ℕ → List (List ℕ) → List StatusRow
+keys_delta source rows load keys = if has_load rows load then [] else status_changes source rows load keys
+
+-- what the reference lists of an extract add, by hash key
 abbrev pub status_delta : Hashes → List ℕ → List StatusRow → ℕ → List (List Key) → List StatusRow
-status_delta hashes source rows load refs = if has_load rows load then [] else status_changes source rows load (hashes_in hashes refs)
+status_delta hashes source rows load refs = keys_delta source rows load (hashes_in hashes refs)
 
 -- rows are the batch of an extract, wherever a table is that of extracts before it
 abbrev pub IsBatchAfter : Hashes → List ℕ → List StatusRow → Extract → List StatusRow → Type 0

@@ -3,7 +3,6 @@
 
 mod changes;
 mod feed_tables;
-mod hashing;
 mod loads;
 mod merges;
 mod presences;

@@ -1,22 +1,21 @@
 ghost use Rattle.std.specs.Prelude.{◌≡◌, ◌≤◌, ◌<◌, ◌++◌, All, IfOk, IsTrue, OnOk, length};
-ghost use Rattle.std.specs.List.{list_all};
 ghost use Rattle.std.specs.List.Sorted.{IsStrictlySortedBy};
-ghost use Rattle.dv_text.specs.Keys.{hashes_of};
-ghost use Rattle.dv_digest.specs.Fits as fits;
+ghost use Rattle.dv_text.specs.Keys.{Hashes};
+ghost use Rattle.dv_digest.specs.HashedExtracts.{HasKeys};
 ghost use Rattle.dv_catalog.specs.Feeds.{source};
 ghost use Rattle.dv_records.specs.History.{all_refs};
 ghost use Rattle.dv_records.specs.Reconstruction.{present_at};
-ghost use Rattle.dv_track.specs.Tracks.{are_up_to, present_parents, status_changes, status_delta, status_order, IsBatchAfter};
+ghost use Rattle.dv_track.specs.Tracks.{are_up_to, keys_delta, present_parents, status_changes, status_delta, status_order, IsBatchAfter};
 ghost use Rattle.dv_track.specs.Tracks as spec;
 
 use crate::changes::changes_between;
-use crate::hashing::hash_keys;
 use crate::loads::{has_load, last_load};
 use crate::presences::{is_present, present_parents, put_parents, update};
 use dv_catalog::{Catalog, record_source};
+use dv_digest::HashedExtract;
 use dv_index::IndexedRows;
 use dv_records::StatusRow;
-use dv_text::{Digest, KeyDigest, List, Memory, Staged, Stamp, Text, sorted_distinct};
+use dv_text::{Digest, Duplicate, List, Memory, Stamp, Text, sorted_distinct};
 use std::alloc::Global;
 use std::marker::Model;
 
@@ -157,12 +156,13 @@ impl StatusTable {
         &self,
         load: Stamp,
         source: &Text,
-        now: Vec<Digest>,
+        keys: &List<Digest>,
     ) -> Result<List<StatusRow>, Memory>
         requires { IsTrue (are_up_to self.now.rows load) }
-        ensures { IfOk result (λ made. made ≡ status_changes source.now self.now.rows load now.items) }
+        ensures { IfOk result (λ made. made ≡ status_changes source.now self.now.rows load keys.now) }
     {
-        let now = sorted_distinct(now);
+        let keys = keys.copy()?;
+        let now = sorted_distinct(keys.into_vec());
         let made = changes_between(self.allocator(), load, source, &self.present, now.items())?;
         Ok(made)
     }
@@ -170,48 +170,43 @@ impl StatusTable {
     /// The rows that an extract adds: by hash key, one for each parent that appeared or vanished; none where
     /// the table has a row of this load date. They have the load date, and the table's rows followed by them
     /// ascend. Over the table of a feed's extracts before it, they are the extract's batch, where no two
-    /// reference lists that the extracts deliver have one hash key. Conditions: the feed is in the mapping, the
-    /// reference lists are no longer than those of staged rows, and no row of the table is later than the load
-    /// date.
-    pub fn delta<H: KeyDigest>(
+    /// reference lists that the extracts deliver have one hash key. Conditions: the feed is in the mapping, and
+    /// no row of the table is later than the load date.
+    pub fn delta(
         &self,
         load: Stamp,
-        staged: &Staged,
+        extract: &HashedExtract<'_>,
         catalog: &Catalog,
-        digest: &H,
     ) -> Result<List<StatusRow>, Memory>
-        requires feed { staged.now.feed < length catalog.now.feeds }
-        requires fit { IsTrue (list_all (λ row. fits.refs_fit row.refs) staged.now.rows) }
+        requires feed { extract.now.staged.now.feed < length catalog.now.feeds }
         requires not_later { IsTrue (are_up_to self.now.rows load) }
-        ensures delta { IfOk result (λ rows. rows ≡ status_delta (hashes_of H.digest_of H.size) (source catalog.now staged.now.feed) self.now.rows load (all_refs staged.now.rows)) }
+        ensures delta { (hashes : Hashes) → HasKeys hashes extract.now → IfOk result (λ rows. rows ≡ status_delta hashes (source catalog.now extract.now.staged.now.feed) self.now.rows load (all_refs extract.now.staged.now.rows)) }
         ensures stamped { IfOk result (All (λ row. row.load ≡ load)) }
         ensures follows { IfOk result (λ rows. IsStrictlySortedBy status_order (self.now.rows ++ rows)) }
-        ensures batch { IfOk result (IsBatchAfter (hashes_of H.digest_of H.size) (source catalog.now staged.now.feed) self.now.rows (record { load = load; rows = staged.now.rows })) }
+        ensures batch { (hashes : Hashes) → HasKeys hashes extract.now → IfOk result (IsBatchAfter hashes (source catalog.now extract.now.staged.now.feed) self.now.rows (record { load = load; rows = extract.now.staged.now.rows })) }
     {
-        let rows = self.delta_rows(load, staged, catalog, digest)?;
+        let rows = self.delta_rows(load, extract, catalog)?;
         Ok(rows)
     }
 
-    fn delta_rows<H: KeyDigest>(
+    // What the extract's hash keys add.
+    fn delta_rows(
         &self,
         load: Stamp,
-        staged: &Staged,
+        extract: &HashedExtract<'_>,
         catalog: &Catalog,
-        digest: &H,
     ) -> Result<List<StatusRow>, Memory>
-        requires feed { staged.now.feed < length catalog.now.feeds }
-        requires fit { IsTrue (list_all (λ row. fits.refs_fit row.refs) staged.now.rows) }
+        requires feed { extract.now.staged.now.feed < length catalog.now.feeds }
         requires not_later { IsTrue (are_up_to self.now.rows load) }
-        ensures value { IfOk result (λ rows. rows ≡ status_delta (hashes_of H.digest_of H.size) (source catalog.now staged.now.feed) self.now.rows load (all_refs staged.now.rows)) }
+        ensures value { IfOk result (λ rows. rows ≡ keys_delta (source catalog.now extract.now.staged.now.feed) self.now.rows load extract.now.keys) }
         ensures order { IsStrictlySortedBy status_order self.now.rows }
     {
         if self.has_load(load) {
             return Ok(List::new(self.allocator()));
         }
-        let alloc = self.allocator();
-        let source = record_source(alloc, catalog.feed(staged.feed))?;
-        let now = hash_keys(alloc, digest, staged.rows.items())?;
-        let rows = self.changes(load, &source, now)?;
+        let feed = catalog.feed(extract.staged.feed);
+        let source = record_source(self.allocator(), feed)?;
+        let rows = self.changes(load, &source, &extract.keys)?;
         Ok(rows)
     }
 }

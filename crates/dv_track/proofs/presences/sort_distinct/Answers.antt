@@ -1,5 +1,5 @@
 use Rattle.dv_track.proofs.Vocabulary.{nat_list_cmp_total, texts_ties, ascending-sort_dedup, members-sort_dedup, sorted_by-members}
-use Rattle.dv_track.proofs.Presence.{exact}
+use Rattle.dv_track.proofs.Amongst.{exact}
 use Rattle.dv_track.proofs.presences.sort_distinct.Goals as goal
 
 pub returns-clause-value : goal.returns-clause-value

@@ -13,4 +13,5 @@ returns c =
     let kept = c.self.invariant.1 c.args.load (rw (← c.self.view_is) at c.requires) in
     rw (← c.self.view_is)
     (c.in_ok-made.ensures
-    ∙ rw (c.items.ensures, c.sorted_distinct-now.ensures.value, c.deref.ensures.value, kept) (all_changes c.args.source.now c.self.inside.indexed.rows c.args.load c.args.now.items))
+    ∙ rw (c.items.ensures, c.sorted_distinct-now.ensures.value, c.into_vec.ensures, c.in_ok-keys.ensures, c.deref.ensures.value, kept)
+    (all_changes c.args.source.now c.self.inside.indexed.rows c.args.load c.args.keys.now))

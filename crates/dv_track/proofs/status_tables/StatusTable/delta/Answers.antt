@@ -1,20 +1,28 @@
-use Rattle.dv_track.proofs.Vocabulary.{◌∙◌, hashes_of, source, all_refs}
+use Rattle.dv_track.proofs.Vocabulary.{◌∙◌, source}
 use Rattle.dv_track.proofs.DeltaBatch.{delta_is_batch}
-use Rattle.dv_track.proofs.Following.{all_have, follows}
+use Rattle.dv_track.proofs.Following.{all_have, follows, keys_tell}
 use Rattle.dv_track.proofs.status_tables.StatusTable.delta.Goals as goal
 
 pub returns-clause-follows : goal.returns-clause-follows
-returns-clause-follows g c =
+returns-clause-follows c =
     rw c.in_ok-rows.ensures.value
-    (follows (hashes_of g.H.KeyDigest.digest_of g.H.KeyDigest.size) (source c.args.catalog.now c.args.staged.now.feed) c.args.self.now.rows c.args.load (all_refs c.args.staged.now.rows) c.in_ok-rows.ensures.order c.requires.not_later)
+    (follows (source c.args.catalog.now c.args.extract.now.staged.now.feed) c.args.self.now.rows c.args.load c.args.extract.now.keys c.in_ok-rows.ensures.order c.requires.not_later)
 
 pub returns-clause-stamped : goal.returns-clause-stamped
-returns-clause-stamped g c =
-    rw c.in_ok-rows.ensures.value
-    (all_have (hashes_of g.H.KeyDigest.digest_of g.H.KeyDigest.size) (source c.args.catalog.now c.args.staged.now.feed) c.args.self.now.rows c.args.load (all_refs c.args.staged.now.rows))
+returns-clause-stamped c =
+    rw c.in_ok-rows.ensures.value (all_have (source c.args.catalog.now c.args.extract.now.staged.now.feed) c.args.self.now.rows c.args.load c.args.extract.now.keys)
+
+pub returns-clause-delta : goal.returns-clause-delta
+returns-clause-delta c =
+    λ hashes are.
+    c.in_ok-rows.ensures.value
+    ∙ keys_tell hashes (source c.args.catalog.now c.args.extract.now.staged.now.feed) c.args.self.now.rows c.args.load c.args.extract.now.keys c.args.extract.now.staged.now.rows are
 
 pub returns-clause-batch : goal.returns-clause-batch
-returns-clause-batch g c =
-    λ older order apart table.
+returns-clause-batch c =
+    let from = source c.args.catalog.now c.args.extract.now.staged.now.feed in
+    let staged = c.args.extract.now.staged.now.rows in
+    λ hashes are older order apart table.
     c.in_ok-rows.ensures.value
-    ∙ rw table (delta_is_batch (hashes_of g.H.KeyDigest.digest_of g.H.KeyDigest.size) (source c.args.catalog.now c.args.staged.now.feed) older (record { load = c.args.load; rows = c.args.staged.now.rows }) order apart)
+    ∙ keys_tell hashes from c.args.self.now.rows c.args.load c.args.extract.now.keys staged are
+    ∙ rw table (delta_is_batch hashes from older (record { load = c.args.load; rows = staged }) order apart)
