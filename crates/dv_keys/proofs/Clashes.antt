@@ -1,9 +1,9 @@
 -- The least pair of rivals among hashed lists and held ones is the least clash, and there is no clash where there is none.
-use Rattle.dv_keys.proofs.Vocabulary.{◌≡◌, ◌⊎◌, ℕ, inl, inr, Bool, true, false, List, [], ◌∷◌, Option, Some, None, refl, sym, ◌∙◌, ap, subst, option_map, Contains, find, slice_get, IsTotalOrder, on_total, then_total, tied_itself, nat_list_cmp_total, nat_cmp-IsAntisymmetric}
-use Rattle.dv_keys.proofs.Vocabulary.{slice_cmp-IsAntisymmetric, AllByRecursion, cons_option, filter_map, IsStrictlySortedBy, ordering_reverse, bytes_eq, Ordering, Less, Equal, Greater, nat_cmp_total, Contains-append_cases, Contains-append_left, Contains-append_right, bytes_eq-Decides, Key}
-use Rattle.dv_keys.proofs.Vocabulary.{refs_eq, refs_cmp, sorted_by, Contains-cons_cases, Contains-cons_here, Contains-cons_there, Contains-nil, filter_map_member, member_of_all, member_of_filter_map, ascending-sorted_by, member_after_sort, member_before_sort, digest_cmp, Pair, pair_cmp, Hashed}
-use Rattle.dv_keys.proofs.Vocabulary.{HasNoClash, IsClash, IsLeastClash, HashedList, Rivals, hashed_cmp, rivals_cmp-IsAntisymmetric, are_held_apart, is_other_held, list_under, all_neighbours, all_rivals, least_rivals, neighbours, rivals_cmp, rivals_of, held_rival, refs_eq-Decides, refs_exact}
-use Rattle.dv_keys.proofs.Vocabulary.{refs_total, finds, found_member, made_of, asymmetric, irreflexive}
+use Rattle.dv_keys.proofs.Vocabulary.{◌≡◌, ◌⊎◌, ℕ, inl, inr, Bool, true, false, List, [], ◌∷◌, ◌++◌, Option, Some, None, refl, sym, ◌∙◌, ap, subst, map, option_map, Contains, find, slice_get, IsTotalOrder, on_total, then_total, tied_itself, nat_list_cmp_total, nat_cmp-IsAntisymmetric}
+use Rattle.dv_keys.proofs.Vocabulary.{slice_cmp-IsAntisymmetric, cons_option, filter_map, IsStrictlySortedBy, bytes_eq, Ordering, Less, Equal, Greater, nat_cmp_total, Contains-append_cases, Contains-append_left, Contains-append_right, Contains-map, map_member, bytes_eq-Decides, Key}
+use Rattle.dv_keys.proofs.Vocabulary.{refs_eq, refs_cmp, sorted_by, Contains-cons_cases, Contains-cons_here, Contains-cons_there, Contains-nil, filter_map_member, member_of_all, member_of_filter_map, ascending-sorted_by, member_after_sort, member_before_sort, digest_cmp, Pair, Hashed}
+use Rattle.dv_keys.proofs.Vocabulary.{HasNoClash, IsClash, IsLeastClash, HashedList, Rivals, hashed_cmp, hashed_cmp-IsAntisymmetric, rivals_cmp-IsAntisymmetric, are_held_apart, is_other_held, list_under, all_neighbours, all_rivals, least_rivals, neighbours, rivals_cmp, rivals_of, held_rival, refs_eq-Decides, refs_exact}
+use Rattle.dv_keys.proofs.Vocabulary.{refs_total, finds, found_member, made_of, asymmetric, irreflexive, turned, then_less}
 use Rattle.dv_keys.proofs.Held.{one_held}
 
 -- ---- orders
@@ -17,368 +17,233 @@ rivals_total = then_total (on_total (λ (r : Rivals). r.first) refs_total) (on_t
 pub same_digest : (a b : List ℕ) → digest_cmp a b ≡ Equal → a ≡ b
 same_digest = slice_cmp-IsAntisymmetric nat_cmp-IsAntisymmetric
 
+digests_tied : (a b : List ℕ) → a ≡ b → digest_cmp a b ≡ Equal
+digests_tied a b same = subst (λ d. digest_cmp a d ≡ Equal) same (tied_itself nat_list_cmp_total a)
+
+-- none is less than the first of some in order
+none_less : {X : Type 0} {R : X → X → Ordering} → IsTotalOrder R → (x : X) (xs : List X) → IsStrictlySortedBy R (x ∷ xs) → (y : X) → Contains (x ∷ xs) y → R y x ≡ Less → ⊥
+unfolding IsStrictlySortedBy
+none_less {R = R} o x xs up y has less =
+    elim (Contains-cons_cases x xs y has) [
+      | inl is ↦ irreflexive o x (subst (λ w. R w x ≡ Less) (sym is) less)
+      | inr rest ↦ asymmetric o y x less (member_of_all (λ w. R x w ≡ Less) xs y up.0 rest)
+    ]
+
 -- of lists in order with one hash key, the first one is less or the same
-pub lists_between : (a b : HashedList) → hashed_cmp a b ≡ Less → a.digest ≡ b.digest → (refs_cmp a.refs b.refs ≡ Less) ⊎ (a.refs ≡ b.refs)
-lists_between a b less same = by (refs_cmp a.refs b.refs) refl
-  where
-    tied : digest_cmp a.digest b.digest ≡ Equal
-    tied = subst (λ d. digest_cmp a.digest d ≡ Equal) same (tied_itself nat_list_cmp_total a.digest)
-
-    by : (o : Ordering) → refs_cmp a.refs b.refs ≡ o → (refs_cmp a.refs b.refs ≡ Less) ⊎ (a.refs ≡ b.refs)
-    by Less e = inl e
-    by Equal e = inr (refs_exact a.refs b.refs e)
-    by Greater e = let no : Greater ≡ Less = rw (tied, e) at less in cc
-
--- digests do not fall
-digests_between : (a b : HashedList) → hashed_cmp a b ≡ Less → (digest_cmp a.digest b.digest ≡ Less) ⊎ (a.digest ≡ b.digest)
-digests_between a b less = by (digest_cmp a.digest b.digest) refl
-  where
-    by : (o : Ordering) → digest_cmp a.digest b.digest ≡ o → (digest_cmp a.digest b.digest ≡ Less) ⊎ (a.digest ≡ b.digest)
-    by Less e = inl e
-    by Equal e = inr (same_digest a.digest b.digest e)
-    by Greater e = let no : Greater ≡ Less = rw e at less in cc
+lists_between : (a b : HashedList) → hashed_cmp a b ≡ Less → a.digest ≡ b.digest → (refs_cmp a.refs b.refs ≡ Less) ⊎ (a.refs ≡ b.refs)
+lists_between a b less same =
+    let tied = digests_tied a.digest b.digest same in
+    elim (then_less (refs_cmp a.refs b.refs) _ (rw tied at less)) [ inl lesser ↦ inl lesser | inr both ↦ inr (refs_exact a.refs b.refs both.0) ]
 
 -- what stands between two of one digest has it
 middle_digest : (a b c : HashedList) → hashed_cmp a b ≡ Less → hashed_cmp b c ≡ Less → a.digest ≡ c.digest → a.digest ≡ b.digest
 middle_digest a b c ab bc same =
-    elim (digests_between a b ab) [
+    elim (then_less (digest_cmp a.digest b.digest) _ ab) [
       | inl less ↦
-          elim (digests_between b c bc) [
-            | inl more ↦ absurd (irreflexive nat_list_cmp_total a.digest (subst (λ d. digest_cmp a.digest d ≡ Less) (sym same) (nat_list_cmp_total.trans a.digest b.digest c.digest less more)))
-            | inr is ↦ absurd (irreflexive nat_list_cmp_total a.digest (subst (λ d. digest_cmp a.digest d ≡ Less) (is ∙ sym same) less))
+          elim (then_less (digest_cmp b.digest c.digest) _ bc) [
+            | inl more ↦ absurd (asymmetric nat_list_cmp_total a.digest b.digest less (subst (λ d. digest_cmp b.digest d ≡ Less) (sym same) more))
+            | inr both ↦ same ∙ sym (same_digest b.digest c.digest both.0)
           ]
-      | inr is ↦ is
+      | inr both ↦ same_digest a.digest b.digest both.0
     ]
 
 -- ---- pairs
 
-pub rivals_less : (a b : List Key) → refs_cmp a b ≡ Less → rivals_of a b ≡ Some (record { first = a; second = b })
-rivals_less a b e = rw e refl
+cons_option_here : {X : Type 0} (o : Option X) (xs : List X) (x : X) → o ≡ Some x → Contains (cons_option o xs) x
+cons_option_here o xs x e = rw e (Contains-cons_here x xs)
 
-rivals_greater : (a b : List Key) → refs_cmp a b ≡ Less → rivals_of b a ≡ Some (record { first = a; second = b })
-rivals_greater a b e = let turned : refs_cmp b a ≡ Greater = refs_total.antisymm b a ∙ ap ordering_reverse e in rw turned refl
+cons_option_there : {X : Type 0} (o : Option X) (xs : List X) (x : X) → Contains xs x → Contains (cons_option o xs) x
+cons_option_there None xs x has = has
+cons_option_there (Some y) xs x has = Contains-cons_there y xs x has
 
--- the lists of a pair, the lesser one first
-pub record ArePair (a b : List Key) (pair : Rivals) : Type 0 where
-  pub ordered : refs_cmp pair.first pair.second ≡ Less
-  pub are : ((pair.first ≡ a) × (pair.second ≡ b)) ⊎ ((pair.first ≡ b) × (pair.second ≡ a))
-
-pair_of : (a b : List Key) (pair : Rivals) → rivals_of a b ≡ Some pair → ArePair a b pair
-pair_of a b pair e = by (refs_cmp a b) refl
-  where
-    by : (o : Ordering) → refs_cmp a b ≡ o → ArePair a b pair
-    by Less f =
-        let is : Some (record { first = a; second = b }) ≡ Some pair = rw f at e in
-        let same : record { first = a; second = b } ≡ pair = cc in
-        let first : a ≡ pair.first = ap (λ (r : Rivals). r.first) same in
-        let second : b ≡ pair.second = ap (λ (r : Rivals). r.second) same in
-        record { ordered = subst (λ w. refs_cmp w pair.second ≡ Less) first (subst (λ w. refs_cmp a w ≡ Less) second f); are = inl (sym first, sym second) }
-    by Equal f = let no : None ≡ Some pair = rw f at e in cc
-    by Greater f =
-        let is : Some (record { first = b; second = a }) ≡ Some pair = rw f at e in
-        let same : record { first = b; second = a } ≡ pair = cc in
-        let first : b ≡ pair.first = ap (λ (r : Rivals). r.first) same in
-        let second : a ≡ pair.second = ap (λ (r : Rivals). r.second) same in
-        let turned : refs_cmp b a ≡ Less = refs_total.antisymm b a ∙ ap ordering_reverse f in
-        record { ordered = subst (λ w. refs_cmp w pair.second ≡ Less) first (subst (λ w. refs_cmp b w ≡ Less) second turned); are = inr (sym first, sym second) }
-
-neighbours_alike : (a b : HashedList) → a.digest ≡ b.digest → neighbours a b ≡ rivals_of a.refs b.refs
-neighbours_alike a b same = let e = (bytes_eq-Decides a.digest b.digest).1 same in rw e refl
-
--- the pair of two neighbours
-neighbour_pair : (a b : HashedList) (pair : Rivals) → neighbours a b ≡ Some pair → (a.digest ≡ b.digest) × ArePair a.refs b.refs pair
-neighbour_pair a b pair e = by (bytes_eq a.digest b.digest) refl
-  where
-    by : (t : Bool) → bytes_eq a.digest b.digest ≡ t → (a.digest ≡ b.digest) × ArePair a.refs b.refs pair
-    by true t = ((bytes_eq-Decides a.digest b.digest).0 t, pair_of a.refs b.refs pair (rw t at e))
-    by false t = let no : None ≡ Some pair = rw t at e in cc
-
-pub in_cons_option : {X : Type 0} (o : Option X) (xs : List X) (x : X) → o ≡ Some x → Contains (cons_option o xs) x
-in_cons_option o xs x e = rw e (Contains-cons_here x xs)
-
-pub in_rest_option : {X : Type 0} (o : Option X) (xs : List X) (x : X) → Contains xs x → Contains (cons_option o xs) x
-in_rest_option None xs x has = has
-in_rest_option (Some y) xs x has = Contains-cons_there y xs x has
-
-pub cons_option_cases : {X : Type 0} (o : Option X) (xs : List X) (x : X) → Contains (cons_option o xs) x → (o ≡ Some x) ⊎ Contains xs x
+cons_option_cases : {X : Type 0} (o : Option X) (xs : List X) (x : X) → Contains (cons_option o xs) x → (o ≡ Some x) ⊎ Contains xs x
 cons_option_cases None xs x has = inr has
 cons_option_cases (Some y) xs x has = elim (Contains-cons_cases y xs x has) [ inl same ↦ inl (ap Some same) | inr rest ↦ inr rest ]
 
--- two lists with one hash key, of which a pair is made
-pub record IsMade (lists : List HashedList) (pair : Rivals) : Type 0 where
-  pub a : HashedList
-  pub b : HashedList
-  pub a_in : Contains lists a
-  pub b_in : Contains lists b
-  pub alike : a.digest ≡ b.digest
-  pub pair_is : ArePair a.refs b.refs pair
+abbrev as_pair : Rivals → Pair
+as_pair rivals = record { first = rivals.first; second = rivals.second }
 
-made_more : (list : HashedList) (lists : List HashedList) (pair : Rivals) → IsMade lists pair → IsMade (list ∷ lists) pair
-made_more list lists pair made = record {
-  a = made.a;
-  b = made.b;
-  a_in = Contains-cons_there list lists made.a made.a_in;
-  b_in = Contains-cons_there list lists made.b made.b_in;
-  alike = made.alike;
-  pair_is = made.pair_is;
-}
+-- two lists, the lesser one first
+abbrev both : List Key → List Key → Rivals
+both a b = record { first = a; second = b }
 
-neighbours_made : (lists : List HashedList) (pair : Rivals) → Contains (all_neighbours lists) pair → IsMade lists pair
-neighbours_made [] pair has = Contains-nil pair has
-neighbours_made (last ∷ []) pair has = Contains-nil pair has
-neighbours_made (last ∷ next ∷ rest) pair has =
-    elim (cons_option_cases (neighbours last next) (all_neighbours (next ∷ rest)) pair has) [
-      | inl here ↦
-          let (same, is) = neighbour_pair last next pair here in
-          record {
-            a = last;
-            b = next;
-            a_in = Contains-cons_here last (next ∷ rest);
-            b_in = Contains-cons_there last (next ∷ rest) next (Contains-cons_here next rest);
-            alike = same;
-            pair_is = is;
-          }
-      | inr more ↦ made_more last (next ∷ rest) pair (neighbours_made (next ∷ rest) pair more)
-    ]
+-- some pair is not greater
+abbrev IsMet : List Rivals → Rivals → Type 0
+IsMet pairs pair = (met : Rivals) × Contains pairs met × ((rivals_cmp met pair ≡ Less) ⊎ (met ≡ pair))
 
--- a pair among some that is not greater than two lists
-pub record IsAtMost (pairs : List Rivals) (a b : List Key) : Type 0 where
-  pub pair : Rivals
-  pub has : Contains pairs pair
-  pub first : pair.first ≡ a
-  pub second : (pair.second ≡ b) ⊎ (refs_cmp pair.second b ≡ Less)
+met_more : (last : HashedList) (rest : List HashedList) (pair : Rivals) → IsMet (all_neighbours rest) pair → IsMet (all_neighbours (last ∷ rest)) pair
+met_more last [] pair is = is
+met_more last (next ∷ rest) pair (met, has, most) = (met, cons_option_there (neighbours last next) (all_neighbours (next ∷ rest)) met has, most)
 
-at_most_more : (o : Option Rivals) (pairs : List Rivals) (a b : List Key) → IsAtMost pairs a b → IsAtMost (cons_option o pairs) a b
-at_most_more o pairs a b is = record { pair = is.pair; has = in_rest_option o pairs is.pair is.has; first = is.first; second = is.second }
-
--- of lists in order, two different ones with one hash key have neighbours that are not greater
-pub has_neighbours : (lists : List HashedList) → IsStrictlySortedBy hashed_cmp lists → (x y : HashedList) → Contains lists x → Contains lists y → x.digest ≡ y.digest → refs_cmp x.refs y.refs ≡ Less → IsAtMost (all_neighbours lists) x.refs y.refs
+-- a list before a greater one with its hash key has neighbours that are not greater
+near : (x : HashedList) (rest : List HashedList) → IsStrictlySortedBy hashed_cmp (x ∷ rest) → (y : HashedList) → Contains rest y → x.digest ≡ y.digest → refs_cmp x.refs y.refs ≡ Less → IsMet (all_neighbours (x ∷ rest)) (both x.refs y.refs)
 unfolding IsStrictlySortedBy
-has_neighbours [] up x y x_in y_in same less = Contains-nil x x_in
-has_neighbours (last ∷ []) up x y x_in y_in same less =
-    elim (Contains-cons_cases last [] x x_in) [
-      | inl x_is ↦
-          elim (Contains-cons_cases last [] y y_in) [
-            | inl y_is ↦ absurd (irreflexive refs_total x.refs (subst (λ (w : HashedList). refs_cmp x.refs w.refs ≡ Less) (sym y_is ∙ x_is) less))
-            | inr none ↦ Contains-nil y none
-          ]
-      | inr none ↦ Contains-nil x none
-    ]
-has_neighbours (last ∷ next ∷ rest) up x y x_in y_in same less =
-    elim (Contains-cons_cases last (next ∷ rest) x x_in) [
-      | inl x_is ↦
-          elim (Contains-cons_cases last (next ∷ rest) y y_in) [
-            | inl y_is ↦ absurd (irreflexive refs_total x.refs (subst (λ (w : HashedList). refs_cmp x.refs w.refs ≡ Less) (sym y_is ∙ x_is) less))
-            | inr y_more ↦ from_here x_is y_more (has_neighbours (next ∷ rest) up.1)
-          ]
-      | inr x_more ↦
-          elim (Contains-cons_cases last (next ∷ rest) y y_in) [
-            | inl y_is ↦ absurd (no_back y_is x_more)
-            | inr y_more ↦ at_most_more (neighbours last next) (all_neighbours (next ∷ rest)) x.refs y.refs (has_neighbours (next ∷ rest) up.1 x y x_more y_more same less)
+near x [] up y has same less = Contains-nil y has
+near x (next ∷ rest) up y has same less =
+    elim (Contains-cons_cases next rest y has) [
+      | inl is ↦ beside (same ∙ ap (λ (h : HashedList). h.digest) (sym is)) (subst (λ (h : HashedList). refs_cmp x.refs h.refs ≡ Less) (sym is) less) (inr (ap (λ (h : HashedList). h.refs) is))
+      | inr far ↦
+          let behind : hashed_cmp next y ≡ Less = member_of_all (λ w. hashed_cmp next w ≡ Less) rest y up.1.0 far in
+          let middle = middle_digest x next y up.0.0 behind same in
+          elim (lists_between x next up.0.0 middle) [
+            | inl greater ↦ beside middle greater (lists_between next y behind (sym middle ∙ same))
+            | inr is ↦
+                subst (λ r. IsMet (all_neighbours (x ∷ next ∷ rest)) (both r y.refs)) (sym is)
+                (met_more x (next ∷ rest) (both next.refs y.refs) (near next rest up.1 y far (sym middle ∙ same) (subst (λ r. refs_cmp r y.refs ≡ Less) is less)))
           ]
     ]
   where
-    -- y would stand before x
-    no_back : last ≡ y → Contains (next ∷ rest) x → ⊥
-    no_back y_is x_more =
-        let before : hashed_cmp y x ≡ Less = subst (λ w. hashed_cmp w x ≡ Less) y_is (member_of_all (λ w. hashed_cmp last w ≡ Less) (next ∷ rest) x up.0 x_more) in
-        elim (lists_between y x before (sym same)) [
-          | inl turned ↦ irreflexive refs_total x.refs (refs_total.trans x.refs y.refs x.refs less turned)
-          | inr is ↦ irreflexive refs_total x.refs (subst (λ k. refs_cmp x.refs k ≡ Less) is less)
-        ]
+    beside : x.digest ≡ next.digest → refs_cmp x.refs next.refs ≡ Less → (refs_cmp next.refs y.refs ≡ Less) ⊎ (next.refs ≡ y.refs) → IsMet (all_neighbours (x ∷ next ∷ rest)) (both x.refs y.refs)
+    beside digest greater most =
+        let alike = (bytes_eq-Decides x.digest next.digest).1 digest in
+        let tied = tied_itself refs_total x.refs in
+        (both x.refs next.refs, cons_option_here _ (all_neighbours (next ∷ rest)) _ (rw (alike, greater) refl), elim most [ inl lesser ↦ inl (rw (tied, lesser) refl) | inr is ↦ inr (ap (both x.refs) is) ])
 
-    from_here : last ≡ x → Contains (next ∷ rest) y → ((v w : HashedList) → Contains (next ∷ rest) v → Contains (next ∷ rest) w → v.digest ≡ w.digest → refs_cmp v.refs w.refs ≡ Less → IsAtMost (all_neighbours (next ∷ rest)) v.refs w.refs)
-        → IsAtMost (all_neighbours (last ∷ next ∷ rest)) x.refs y.refs
-    from_here x_is y_more later =
-        let ahead : hashed_cmp x next ≡ Less = subst (λ w. hashed_cmp w next ≡ Less) x_is up.0.0 in
-        elim (Contains-cons_cases next rest y y_more) [
-          | inl y_is ↦
-              let pair : Rivals = record { first = x.refs; second = y.refs } in
-              let made : neighbours last next ≡ Some pair = subst (λ w. neighbours w next ≡ Some pair) (sym x_is) (subst (λ w. neighbours x w ≡ Some pair) (sym y_is) (neighbours_alike x y same ∙ rivals_less x.refs y.refs less)) in
-              record { pair = pair; has = in_cons_option (neighbours last next) (all_neighbours (next ∷ rest)) pair made; first = refl; second = inl refl }
-          | inr y_rest ↦
-              let behind : hashed_cmp next y ≡ Less = member_of_all (λ w. hashed_cmp next w ≡ Less) rest y up.1.0 y_rest in
-              let middle : x.digest ≡ next.digest = middle_digest x next y ahead behind same in
-              elim (lists_between x next ahead middle) [
-                | inl greater ↦
-                    let pair : Rivals = record { first = x.refs; second = next.refs } in
-                    let made : neighbours last next ≡ Some pair = subst (λ w. neighbours w next ≡ Some pair) (sym x_is) (neighbours_alike x next middle ∙ rivals_less x.refs next.refs greater) in
-                    record {
-                      pair = pair;
-                      has = in_cons_option (neighbours last next) (all_neighbours (next ∷ rest)) pair made;
-                      first = refl;
-                      second = elim (lists_between next y behind (sym middle ∙ same)) [ inl lesser ↦ inr lesser | inr is ↦ inl is ];
-                    }
-                | inr is ↦
-                    let found = later next y (Contains-cons_here next rest) y_more (sym middle ∙ same) (subst (λ k. refs_cmp k y.refs ≡ Less) is less) in
-                    at_most_more (neighbours last next) (all_neighbours (next ∷ rest)) x.refs y.refs (subst (λ k. IsAtMost (all_neighbours (next ∷ rest)) k y.refs) (sym is) found)
-              ]
-        ]
+-- so have any two of lists in order
+has_neighbours : (lists : List HashedList) → IsStrictlySortedBy hashed_cmp lists → (x y : HashedList) → Contains lists x → Contains lists y → x.digest ≡ y.digest → refs_cmp x.refs y.refs ≡ Less
+    → IsMet (all_neighbours lists) (both x.refs y.refs)
+unfolding IsStrictlySortedBy
+has_neighbours [] up x y x_in y_in same less = Contains-nil x x_in
+has_neighbours (last ∷ rest) up x y x_in y_in same less =
+    elim (Contains-cons_cases last rest y y_in) [
+      | inl is ↦
+          let tied = digests_tied x.digest y.digest same in
+          absurd (none_less hashed_total last rest up x x_in (subst (λ w. hashed_cmp x w ≡ Less) (sym is) (rw (tied, less) refl)))
+      | inr y_more ↦
+          elim (Contains-cons_cases last rest x x_in) [
+            | inl is ↦
+                subst (λ (w : HashedList). IsMet (all_neighbours (last ∷ rest)) (both w.refs y.refs)) is
+                (near last rest up y y_more (ap (λ (h : HashedList). h.digest) is ∙ same) (subst (λ (h : HashedList). refs_cmp h.refs y.refs ≡ Less) (sym is) less))
+            | inr x_more ↦ met_more last rest (both x.refs y.refs) (has_neighbours rest up.1 x y x_more y_more same less)
+          ]
+    ]
+
+-- the pair of two lists with one hash key is a clash
+pair_clashes : (all : List Hashed) (digest : List ℕ) (a b : List Key) (pair : Rivals) → Contains all (record { digest = digest; refs = a }) → Contains all (record { digest = digest; refs = b }) → rivals_of a b ≡ Some pair
+    → IsClash all (as_pair pair)
+pair_clashes all digest a b pair a_in b_in e = by (refs_cmp a b) refl
+  where
+    by : (o : Ordering) → refs_cmp a b ≡ o → IsClash all (as_pair pair)
+    by Less f =
+        let is : Some (both a b) ≡ Some pair = rw f at e in
+        let same : both a b ≡ pair = cc in
+        subst (λ r. IsClash all (as_pair r)) same (record { digest = digest; has_first = a_in; has_second = b_in; ordered = f })
+    by Equal f = let no : None ≡ Some pair = rw f at e in cc
+    by Greater f =
+        let is : Some (both b a) ≡ Some pair = rw f at e in
+        let same : both b a ≡ pair = cc in
+        subst (λ r. IsClash all (as_pair r)) same (record { digest = digest; has_first = b_in; has_second = a_in; ordered = turned refs_total a b f })
 
 -- ---- the lists and the held ones together
 
--- a reference list with a hash key is one of the lists or a held one
-abbrev pub IsEntry : List Hashed → List HashedList → List ℕ → List Key → Type 0
-IsEntry held lists digest refs =
-    ((h : HashedList) × Contains lists h × (h.digest ≡ digest) × (h.refs ≡ refs)) ⊎ ((other : Hashed) × Contains held other × (other.digest ≡ digest) × (other.refs ≡ refs))
+abbrev pub as_hashed : HashedList → Hashed
+as_hashed h = record { digest = h.digest; refs = h.refs }
 
--- reference lists with their hash keys are the lists and the held ones
-pub record AreAll (held : List Hashed) (lists : List HashedList) (all : List Hashed) : Type 0 where
-  pub entry : (digest : List ℕ) (refs : List Key) → Contains all (record { digest = digest; refs = refs }) → IsEntry held lists digest refs
-  pub list_in : (h : HashedList) → Contains lists h → Contains all (record { digest = h.digest; refs = h.refs })
-  pub held_in : (other : Hashed) → Contains held other → Contains all other
+neighbours_clash : (all : List Hashed) (lists : List HashedList) → ((h : HashedList) → Contains lists h → Contains all (as_hashed h)) → (pair : Rivals) → Contains (all_neighbours lists) pair → IsClash all (as_pair pair)
+neighbours_clash all [] within pair has = Contains-nil pair has
+neighbours_clash all (last ∷ []) within pair has = Contains-nil pair has
+neighbours_clash all (last ∷ next ∷ rest) within pair has =
+    elim (cons_option_cases (neighbours last next) (all_neighbours (next ∷ rest)) pair has) [
+      | inl here ↦ by here (bytes_eq last.digest next.digest) refl
+      | inr more ↦ neighbours_clash all (next ∷ rest) (λ h h_in. within h (Contains-cons_there last (next ∷ rest) h h_in)) pair more
+    ]
+  where
+    by : neighbours last next ≡ Some pair → (t : Bool) → bytes_eq last.digest next.digest ≡ t → IsClash all (as_pair pair)
+    by here true t =
+        let digest = (bytes_eq-Decides last.digest next.digest).0 t in
+        pair_clashes all next.digest last.refs next.refs pair (subst (λ d. Contains all (record { digest = d; refs = last.refs })) digest (within last (Contains-cons_here last (next ∷ rest))))
+        (within next (Contains-cons_there last (next ∷ rest) next (Contains-cons_here next rest))) (rw t at here)
+    by here false t = let no : None ≡ Some pair = rw t at here in cc
 
-module _ (held : List Hashed) (lists : List HashedList) (apart : are_held_apart held ≡ true) (up : IsStrictlySortedBy hashed_cmp lists) where
-  -- the list under a held one's hash key is the held one
-  held_list : (other : Hashed) → Contains held other → list_under other.digest held ≡ Some other.refs
-  held_list other member =
-      let (found, there) = finds (λ (h : Hashed). bytes_eq h.digest other.digest) held other member ((bytes_eq-Decides other.digest other.digest).1 refl) in
-      let (found_in, same) = found_member (λ (h : Hashed). bytes_eq h.digest other.digest) held found there in
-      let is : found ≡ other = one_held held apart found other found_in member ((bytes_eq-Decides found.digest other.digest).0 same) in
-      ap (option_map (λ (h : Hashed). h.refs)) there ∙ ap (λ (h : Hashed). Some h.refs) is
+module _ (held : List Hashed) (apart : are_held_apart held ≡ true) (items : List HashedList) where
+  abbrev lists : List HashedList
+  lists = sorted_by hashed_cmp items
+
+  abbrev all : List Hashed
+  all = map as_hashed items ++ held
+
+  list_in : (h : HashedList) → Contains lists h → Contains all (as_hashed h)
+  list_in h has = Contains-append_left (map as_hashed items) held _ (Contains-map as_hashed items h (member_before_sort hashed_cmp items h has))
+
+  cases : (entry : Hashed) → Contains all entry → ((h : HashedList) × Contains lists h × (as_hashed h ≡ entry)) ⊎ Contains held entry
+  cases entry has =
+      elim (Contains-append_cases (map as_hashed items) held entry has) [
+        | inl here ↦ let (h, member, is) = map_member as_hashed items entry here in inl (h, member_after_sort hashed_cmp items h (λ x x_in e. hashed_cmp-IsAntisymmetric x h e) member, is)
+        | inr far ↦ inr far
+      ]
 
   -- the held one that a list under a hash key is
-  held_of_list : (digest : List ℕ) (refs : List Key) → list_under digest held ≡ Some refs → (other : Hashed) × Contains held other × (other.digest ≡ digest) × (other.refs ≡ refs)
-  held_of_list digest refs e =
-      let (other, there, is) = made_of (λ (h : Hashed). h.refs) (find (λ (h : Hashed). bytes_eq h.digest digest) held) refs e in
-      let (member, same) = found_member (λ (h : Hashed). bytes_eq h.digest digest) held other there in
-      (other, member, (bytes_eq-Decides other.digest digest).0 same, is)
-
-  held_made : (h : HashedList) (pair : Rivals) → held_rival held h ≡ Some pair → (other : Hashed) × Contains held other × (other.digest ≡ h.digest) × ArePair other.refs h.refs pair
-  held_made h pair e = by (list_under h.digest held) refl
+  held_clash : (h : HashedList) (pair : Rivals) → Contains lists h → held_rival held h ≡ Some pair → IsClash all (as_pair pair)
+  held_clash h pair h_in e = by (list_under h.digest held) refl
     where
-      by : (o : Option (List Key)) → list_under h.digest held ≡ o → (other : Hashed) × Contains held other × (other.digest ≡ h.digest) × ArePair other.refs h.refs pair
+      by : (o : Option (List Key)) → list_under h.digest held ≡ o → IsClash all (as_pair pair)
       by None f = let no : None ≡ Some pair = rw f at e in cc
       by (Some refs) f =
-          let (other, member, digest, is) = held_of_list h.digest refs f in
-          (other, member, digest, subst (λ r. ArePair r h.refs pair) (sym is) (pair_of refs h.refs pair (rw f at e)))
+          let (other, there, is) = made_of (λ (o : Hashed). o.refs) (find (λ (o : Hashed). bytes_eq o.digest h.digest) held) refs f in
+          let (member, same) = found_member (λ (o : Hashed). bytes_eq o.digest h.digest) held other there in
+          let digest = (bytes_eq-Decides other.digest h.digest).0 same in
+          pair_clashes all h.digest refs h.refs pair (subst (Contains all) (λ i. record { digest = digest i; refs = is i }) (Contains-append_right (map as_hashed items) held other member)) (list_in h h_in) (rw f at e)
 
-  held_pair : (h : HashedList) (other : Hashed) (pair : Rivals) → Contains lists h → Contains held other → other.digest ≡ h.digest → rivals_of other.refs h.refs ≡ Some pair → Contains (all_rivals held lists) pair
-  held_pair h other pair h_in other_in same e =
-      let list : list_under h.digest held ≡ Some other.refs = subst (λ d. list_under d held ≡ Some other.refs) same (held_list other other_in) in
-      Contains-append_right (all_neighbours lists) (filter_map (held_rival held) lists) pair
-      (member_of_filter_map (held_rival held) lists h pair h_in (rw list e))
-
-  widened : (a b : List Key) → IsAtMost (all_neighbours lists) a b → IsAtMost (all_rivals held lists) a b
-  widened a b is = record { pair = is.pair; has = Contains-append_left (all_neighbours lists) (filter_map (held_rival held) lists) is.pair is.has; first = is.first; second = is.second }
-
-  exactly : (a b : List Key) → Contains (all_rivals held lists) (record { first = a; second = b }) → IsAtMost (all_rivals held lists) a b
-  exactly a b has = record { pair = record { first = a; second = b }; has = has; first = refl; second = inl refl }
+  -- a held one is found under its hash key
+  held_met : (h : HashedList) (other : Hashed) (pair : Rivals) → Contains lists h → Contains held other → other.digest ≡ h.digest → rivals_of other.refs h.refs ≡ Some pair → IsMet (all_rivals held lists) pair
+  held_met h other pair h_in other_in same e =
+      let (found, there) = finds (λ (o : Hashed). bytes_eq o.digest h.digest) held other other_in ((bytes_eq-Decides other.digest h.digest).1 same) in
+      let (found_in, alike) = found_member (λ (o : Hashed). bytes_eq o.digest h.digest) held found there in
+      let is : found ≡ other = one_held held apart found other found_in other_in ((bytes_eq-Decides found.digest h.digest).0 alike ∙ sym same) in
+      let list : list_under h.digest held ≡ Some other.refs = ap (option_map (λ (o : Hashed). o.refs)) there ∙ ap (λ (o : Hashed). Some o.refs) is in
+      (pair, Contains-append_right (all_neighbours lists) (filter_map (held_rival held) lists) pair (member_of_filter_map (held_rival held) lists h pair h_in (rw list e)), inr refl)
 
   -- two different lists with one hash key have rivals that are not greater
-  at_most : (digest : List ℕ) (a b : List Key) → IsEntry held lists digest a → IsEntry held lists digest b → refs_cmp a b ≡ Less → IsAtMost (all_rivals held lists) a b
-  at_most digest a b (inl (x, x_in, x_digest, x_refs)) (inl (y, y_in, y_digest, y_refs)) less =
-      widened a b
-      (subst (λ r. IsAtMost (all_neighbours lists) r b) x_refs (subst (λ r. IsAtMost (all_neighbours lists) x.refs r) y_refs
-      (has_neighbours lists up x y x_in y_in (x_digest ∙ sym y_digest) (subst (λ r. refs_cmp r y.refs ≡ Less) (sym x_refs) (subst (λ r. refs_cmp a r ≡ Less) (sym y_refs) less)))))
-  at_most digest a b (inl (x, x_in, x_digest, x_refs)) (inr (other, other_in, other_digest, other_refs)) less =
-      exactly a b
-      (held_pair x other (record { first = a; second = b }) x_in other_in (other_digest ∙ sym x_digest)
-      (subst (λ r. rivals_of other.refs r ≡ Some (record { first = a; second = b })) (sym x_refs)
-      (subst (λ r. rivals_of r a ≡ Some (record { first = a; second = b })) (sym other_refs) (rivals_greater a b less))))
-  at_most digest a b (inr (other, other_in, other_digest, other_refs)) (inl (y, y_in, y_digest, y_refs)) less =
-      exactly a b
-      (held_pair y other (record { first = a; second = b }) y_in other_in (other_digest ∙ sym y_digest)
-      (subst (λ r. rivals_of other.refs r ≡ Some (record { first = a; second = b })) (sym y_refs)
-      (subst (λ r. rivals_of r b ≡ Some (record { first = a; second = b })) (sym other_refs) (rivals_less a b less))))
-  at_most digest a b (inr (one, one_in, one_digest, one_refs)) (inr (other, other_in, other_digest, other_refs)) less =
-      let same : one ≡ other = one_held held apart one other one_in other_in (one_digest ∙ sym other_digest) in
-      let refs_same : b ≡ a = sym other_refs ∙ ap (λ (h : Hashed). h.refs) (sym same) ∙ one_refs in
-      absurd (irreflexive refs_total a (subst (λ r. refs_cmp a r ≡ Less) refs_same less))
+  entries_met : (a b : Hashed) → ((h : HashedList) × Contains lists h × (as_hashed h ≡ a)) ⊎ Contains held a → ((h : HashedList) × Contains lists h × (as_hashed h ≡ b)) ⊎ Contains held b → a.digest ≡ b.digest → refs_cmp a.refs b.refs ≡ Less
+      → IsMet (all_rivals held lists) (both a.refs b.refs)
+  entries_met a b (inl (x, x_in, x_is)) (inl (y, y_in, y_is)) same less =
+      let (met, has, most) = has_neighbours lists (ascending-sorted_by hashed_cmp hashed_total items) x y x_in y_in
+      (ap (λ (o : Hashed). o.digest) x_is ∙ same ∙ ap (λ (o : Hashed). o.digest) (sym y_is)) ((λ i. refs_cmp (x_is i).refs (y_is i).refs) ∙ less) in
+      subst (IsMet (all_rivals held lists)) (λ i. both (x_is i).refs (y_is i).refs) (met, Contains-append_left (all_neighbours lists) (filter_map (held_rival held) lists) met has, most)
+  entries_met a b (inl (x, x_in, x_is)) (inr b_in) same less =
+      let other : refs_cmp b.refs a.refs ≡ Greater = refs_total.antisymm b.refs a.refs ∙ rw less refl in
+      held_met x b (both a.refs b.refs) x_in b_in (sym same ∙ ap (λ (o : Hashed). o.digest) (sym x_is)) (ap (λ (o : Hashed). rivals_of b.refs o.refs) x_is ∙ rw other refl)
+  entries_met a b (inr a_in) (inl (y, y_in, y_is)) same less = held_met y a (both a.refs b.refs) y_in a_in (same ∙ ap (λ (o : Hashed). o.digest) (sym y_is)) (ap (λ (o : Hashed). rivals_of a.refs o.refs) y_is ∙ rw less refl)
+  entries_met a b (inr a_in) (inr b_in) same less = absurd (irreflexive refs_total a.refs (subst (λ (o : Hashed). refs_cmp a.refs o.refs ≡ Less) (sym (one_held held apart a b a_in b_in same)) less))
 
-  module _ (all : List Hashed) (are : AreAll held lists all) where
-    abbrev pub as_pair : Rivals → Pair
-    as_pair rivals = record { first = rivals.first; second = rivals.second }
+  -- a clash has one of the least pair at most
+  clash_met : (pair : Pair) → IsClash all pair → IsMet (sorted_by rivals_cmp (all_rivals held lists)) (both pair.first pair.second)
+  clash_met pair is =
+      let (met, has, most) = entries_met _ _ (cases _ is.has_first) (cases _ is.has_second) refl is.ordered in
+      (met, member_after_sort rivals_cmp (all_rivals held lists) met (λ x member e. rivals_cmp-IsAntisymmetric x met e) has, most)
 
-    clash_of : (digest : List ℕ) (a b : List Key) (rivals : Rivals) → ArePair a b rivals → Contains all (record { digest = digest; refs = a }) → Contains all (record { digest = digest; refs = b }) → IsClash all (as_pair rivals)
-    clash_of digest a b rivals is a_in b_in =
-        elim is.are [
-          | inl same ↦ record {
-            digest = digest;
-            has_first = subst (λ r. Contains all (record { digest = digest; refs = r })) (sym same.0) a_in;
-            has_second = subst (λ r. Contains all (record { digest = digest; refs = r })) (sym same.1) b_in;
-            ordered = is.ordered;
+  -- where there are no rivals, there is no clash
+  pub no_clash : least_rivals held lists ≡ None → HasNoClash all
+  no_clash e pair is = let (met, has, most) = clash_met pair is in nothing (sorted_by rivals_cmp (all_rivals held lists)) e has
+    where
+      nothing : (xs : List Rivals) → slice_get xs 0 ≡ None → {x : Rivals} → Contains xs x → ⊥
+      nothing [] e {x} has = Contains-nil x has
+      nothing (y ∷ xs) e has = cc
+
+  -- the least rivals are the least clash
+  pub least_clash : (rivals : Rivals) → least_rivals held lists ≡ Some rivals → IsLeastClash all (record { first = rivals.first; second = rivals.second })
+  least_clash rivals e = by (sorted_by rivals_cmp (all_rivals held lists)) refl (ascending-sorted_by rivals_cmp rivals_total (all_rivals held lists))
+    where
+      clashes : Contains (all_rivals held lists) rivals → IsClash all (as_pair rivals)
+      clashes has =
+          elim (Contains-append_cases (all_neighbours lists) (filter_map (held_rival held) lists) rivals has) [
+            | inl near ↦ neighbours_clash all lists list_in rivals near
+            | inr far ↦ let (h, h_in, is) = filter_map_member (held_rival held) lists rivals far in held_clash h rivals h_in is
+          ]
+
+      by : (xs : List Rivals) → sorted_by rivals_cmp (all_rivals held lists) ≡ xs → IsStrictlySortedBy rivals_cmp xs → IsLeastClash all (as_pair rivals)
+      by [] f up = let no : None ≡ Some rivals = rw f at e in cc
+      by (first ∷ rest) f up =
+          let is : Some first ≡ Some rivals = rw f at e in
+          let same : first ≡ rivals = cc in
+          record {
+            is = clashes (member_before_sort rivals_cmp (all_rivals held lists) rivals (subst (λ xs. Contains xs rivals) (sym f) (subst (Contains (first ∷ rest)) same (Contains-cons_here first rest))));
+            least = λ other other_is less.
+                let (met, has, most) = clash_met other other_is in
+                none_less rivals_total first rest up met (subst (λ xs. Contains xs met) f has)
+                (subst (λ r. rivals_cmp met r ≡ Less) (sym same)
+                (elim most [ inl lesser ↦ rivals_total.trans met (both other.first other.second) rivals lesser less | inr here ↦ subst (λ r. rivals_cmp r rivals ≡ Less) (sym here) less ]));
           }
-          | inr turned ↦ record {
-            digest = digest;
-            has_first = subst (λ r. Contains all (record { digest = digest; refs = r })) (sym turned.0) b_in;
-            has_second = subst (λ r. Contains all (record { digest = digest; refs = r })) (sym turned.1) a_in;
-            ordered = is.ordered;
-          }
-        ]
-
-    -- rivals clash
-    rivals_clash : (rivals : Rivals) → Contains (all_rivals held lists) rivals → IsClash all (as_pair rivals)
-    rivals_clash rivals has =
-        elim (Contains-append_cases (all_neighbours lists) (filter_map (held_rival held) lists) rivals has) [
-          | inl near ↦
-              let made = neighbours_made lists rivals near in
-              clash_of made.b.digest made.a.refs made.b.refs rivals made.pair_is
-              (subst (λ d. Contains all (record { digest = d; refs = made.a.refs })) made.alike (are.list_in made.a made.a_in))
-              (are.list_in made.b made.b_in)
-          | inr far ↦
-              let (h, h_in, e) = filter_map_member (held_rival held) lists rivals far in
-              let (other, other_in, same, is) = held_made h rivals e in
-              clash_of h.digest other.refs h.refs rivals is
-              (subst (λ d. Contains all (record { digest = d; refs = other.refs })) same (are.held_in other other_in))
-              (are.list_in h h_in)
-        ]
-
-    -- a clash has rivals that are not greater
-    clash_met : (pair : Pair) → IsClash all pair → IsAtMost (all_rivals held lists) pair.first pair.second
-    clash_met pair is = at_most is.digest pair.first pair.second (are.entry is.digest pair.first is.has_first) (are.entry is.digest pair.second is.has_second) is.ordered
-
-    in_sorted : (rivals : Rivals) → Contains (all_rivals held lists) rivals → Contains (sorted_by rivals_cmp (all_rivals held lists)) rivals
-    in_sorted rivals = member_after_sort rivals_cmp (all_rivals held lists) rivals (λ x member e. rivals_cmp-IsAntisymmetric x rivals e)
-
-    nothing_in : (xs : List Rivals) → slice_get xs 0 ≡ None → (x : Rivals) → Contains xs x → ⊥
-    nothing_in [] e x has = Contains-nil x has
-    nothing_in (y ∷ xs) e x has = cc
-
-    -- where there are no rivals, there is no clash
-    pub no_clash : least_rivals held lists ≡ None → HasNoClash all
-    no_clash e pair is =
-        let met = clash_met pair is in
-        nothing_in (sorted_by rivals_cmp (all_rivals held lists)) e met.pair (in_sorted met.pair met.has)
-
-    first_in : (xs : List Rivals) (x : Rivals) → slice_get xs 0 ≡ Some x → Contains xs x
-    first_in [] x e = cc
-    first_in (y ∷ xs) x e = let both_are : Some y ≡ Some x = e in let same : y ≡ x = cc in subst (Contains (y ∷ xs)) same (Contains-cons_here y xs)
-
-    first_least : (xs : List Rivals) → IsStrictlySortedBy rivals_cmp xs → (x : Rivals) → slice_get xs 0 ≡ Some x → (y : Rivals) → Contains xs y → rivals_cmp y x ≡ Less → ⊥
-    unfolding IsStrictlySortedBy
-    first_least [] up x e y has less = Contains-nil y has
-    first_least (z ∷ xs) up x e y has less =
-        let both_are : Some z ≡ Some x = e in
-        let same : z ≡ x = cc in
-        elim (Contains-cons_cases z xs y has) [
-          | inl is ↦ rivals_not_less x (subst (λ w. rivals_cmp w x ≡ Less) (sym is ∙ same) less)
-          | inr rest ↦ rivals_not_less x (rivals_total.trans x y x (subst (λ w. rivals_cmp w y ≡ Less) same (member_of_all (λ w. rivals_cmp z w ≡ Less) xs y up.0 rest)) less)
-        ]
-      where
-        rivals_not_less : (r : Rivals) → rivals_cmp r r ≡ Less → ⊥
-        rivals_not_less r f = let no : Less ≡ Equal = sym f ∙ tied_itself rivals_total r in cc
-
-    -- what is not greater than something less is less
-    met_less : (a b : List Key) (met other : Rivals) → met.first ≡ a → (met.second ≡ b) ⊎ (refs_cmp met.second b ≡ Less) → rivals_cmp (record { first = a; second = b }) other ≡ Less → rivals_cmp met other ≡ Less
-    met_less a b met other first second less =
-        elim second [
-          | inl same ↦ subst (λ (r : Rivals). rivals_cmp r other ≡ Less) (λ i. record { first = sym first i; second = sym same i }) less
-          | inr lesser ↦ rivals_total.trans met (record { first = a; second = b }) other (before lesser) less
-        ]
-      where
-        before : refs_cmp met.second b ≡ Less → rivals_cmp met (record { first = a; second = b }) ≡ Less
-        before lesser = let tied : refs_cmp met.first a ≡ Equal = subst (λ r. refs_cmp met.first r ≡ Equal) first (tied_itself refs_total met.first) in rw (tied, lesser) refl
-
-    -- the least rivals are the least clash
-    pub least_clash : (rivals : Rivals) → least_rivals held lists ≡ Some rivals → IsLeastClash all (as_pair rivals)
-    least_clash rivals e = record {
-      is = rivals_clash rivals (member_before_sort rivals_cmp (all_rivals held lists) rivals (first_in (sorted_by rivals_cmp (all_rivals held lists)) rivals e));
-      least = λ other other_is less.
-          let met = clash_met other other_is in
-          first_least (sorted_by rivals_cmp (all_rivals held lists)) (ascending-sorted_by rivals_cmp rivals_total (all_rivals held lists)) rivals e
-          met.pair (in_sorted met.pair met.has) (met_less other.first other.second met.pair rivals met.first met.second less);
-    }
 
 -- where no other list is held, there is no pair of a held list
 pub no_rival : (held : List Hashed) (list : HashedList) → is_other_held list.digest list.refs held ≡ false → None ≡ held_rival held list

@@ -1,5 +1,5 @@
 -- Deliveries to a hub.
-use Rattle.dv_keys.proofs.Vocabulary.{◌≡◌, ◌==◌, ℕ, Bool, true, List, [], ◌∷◌, Option, Some, None, refl, sym, ◌∙◌, ap, subst, length, map, option_map, nat_le, lt-ltb, ltb-true, eqb-true, Bor, arith, slice_get, list_all, zip, eq-eqb, and_from, and_parts, Key, Hub, Mapping, parts_of, Delivery}
+use Rattle.dv_keys.proofs.Vocabulary.{◌≡◌, ◌==◌, ℕ, true, List, [], ◌∷◌, refl, sym, subst, length, nat_le, lt-ltb, ltb-true, eqb-true, arith, slice_get, list_all, zip, eq-eqb, and_from, and_parts, Key, Hub, Mapping, parts_of, Delivery}
 use Rattle.dv_keys.proofs.Vocabulary.{AreItems, IsItem, are_keys_of, is_key_of, are_items as is_items, AreHubItems, IsHubItem}
 use Rattle.dv_keys.proofs.ItemTests.{passed}
 

@@ -1,9 +1,9 @@
 -- Over the table of a hub after windows, what clashes is what collides, and the rows that are added are the batch.
-use Rattle.dv_keys.proofs.Vocabulary.{Option, ◌≡◌, ℕ, Bool, true, false, List, [], ◌∷◌, Some, None, refl, sym, ◌∙◌, ap, subst, map, reverse, Contains, IfOk, Result, flat_map, list_all, Key, Window, Hashes, is_missing, sorted_by, Hub, Mapping, DeltaFault, Delivery, HubRow, appended, Pair}
-use Rattle.dv_keys.proofs.Vocabulary.{collision_in, deliveries, is_known, offered_refs, Answers, Hashed, HasNoClash, IfCollides, IsLeastClash, hashed_by, hub_place, hub_batch, only_key, source, HashedList, offered_key, table_has, table_row, IsHeld, IsNext, hub_delta, hub_hashed, hub_row_of}
-use Rattle.dv_keys.proofs.Vocabulary.{Contains-map, flat_map_member, map_member}
+use Rattle.dv_keys.proofs.Vocabulary.{Option, ◌≡◌, ℕ, true, List, [], ◌∷◌, Some, None, refl, sym, ◌∙◌, ap, subst, reverse, Contains, IfOk, Result, Key, Window, Hashes, Hub, Mapping, DeltaFault, Delivery, HubRow, appended, Pair}
+use Rattle.dv_keys.proofs.Vocabulary.{collision_in, deliveries, is_known, Answers, Hashed, HasNoClash, IfCollides, IsLeastClash, hashed_by, hub_place, hub_batch, only_key, source, HashedList, offered_key, table_has, table_row, IsHeld, IsNext, hub_delta, hub_hashed, hub_row_of}
+use Rattle.dv_keys.proofs.Vocabulary.{Contains-map, map_member, is_offered, offered_member, some_passes}
 use Rattle.dv_keys.proofs.KeyDeltas.{answers, held_nothing, next_rows}
-use Rattle.dv_keys.proofs.WindowLists.{HoldsOffered, held_none as lists_none, known_offered, next_least as lists_least, next_none as lists_free, offered_apart, offered_known}
+use Rattle.dv_keys.proofs.WindowLists.{HoldsOffered, held_none as lists_none, next_least as lists_least, next_none as lists_free, offered_apart}
 use Rattle.dv_keys.specs.HubDeltas.{stored}
 
 -- a row stands under the hash key of its list, and has the load date
@@ -26,22 +26,16 @@ module _ (mapping : Mapping) (hashes : Hashes) (hub : ℕ) where
   holds : (windows : List Window) → collision_in mapping hashes (reverse windows) (Hub hub) ≡ None → HoldsOffered mapping hashes (Hub hub) windows (stored (table windows))
   holds windows free = record { only = only; each = each }
     where
-      only : (entry : Hashed) → Contains (stored (table windows)) entry → Contains (flat_map (offered_refs mapping (Hub hub)) windows) entry.refs × (entry.digest ≡ hashes.hash entry.refs)
+      only : (entry : Hashed) → Contains (stored (table windows)) entry → (is_known mapping (Hub hub) windows entry.refs ≡ true) × (entry.digest ≡ hashes.hash entry.refs)
       only entry has =
           let (row, member, is) = map_member (λ (r : HubRow). record { digest = r.digest; refs = r.key ∷ [] }) (table windows) entry has in
-          let (known, digest) = table_row mapping hub hashes windows row member in
-          subst (λ (h : Hashed). Contains (flat_map (offered_refs mapping (Hub hub)) windows) h.refs × (h.digest ≡ hashes.hash h.refs)) is (known_offered mapping hashes (Hub hub) windows (row.key ∷ []) known, digest)
+          subst (λ (h : Hashed). (is_known mapping (Hub hub) windows h.refs ≡ true) × (h.digest ≡ hashes.hash h.refs)) is (table_row mapping hub hashes windows row member)
 
-      single : (refs : List Key) → Contains (flat_map (offered_refs mapping (Hub hub)) windows) refs → (key : Key) × (refs ≡ key ∷ [])
-      single refs has =
-          let (w, member, offered) = flat_map_member (offered_refs mapping (Hub hub)) windows refs has in
-          offered_key mapping hub w refs offered
-
-      each : (refs : List Key) → Contains (flat_map (offered_refs mapping (Hub hub)) windows) refs → Contains (stored (table windows)) (hashed_by hashes refs)
-      each refs has =
-          let (key, is) = single refs has in
-          let known : is_known mapping (Hub hub) windows (key ∷ []) ≡ true = subst (λ r. is_known mapping (Hub hub) windows r ≡ true) is (offered_known mapping hashes (Hub hub) windows refs has) in
-          let (row, member, same, digest) = table_has mapping hub hashes windows (offered_apart mapping hashes (Hub hub) windows free) key known in
+      each : (refs : List Key) → is_known mapping (Hub hub) windows refs ≡ true → Contains (stored (table windows)) (hashed_by hashes refs)
+      each refs known =
+          let (w, w_in, offered) = some_passes (λ (w : Window). is_offered mapping (Hub hub) w refs) windows known in
+          let (key, is) = offered_key mapping hub w refs (offered_member mapping (Hub hub) w refs offered) in
+          let (row, member, same, digest) = table_has mapping hub hashes windows (offered_apart mapping hashes (Hub hub) windows free) key (subst (λ r. is_known mapping (Hub hub) windows r ≡ true) is known) in
           subst (Contains (stored (table windows)))
           (λ i. record { digest = (digest ∙ ap hashes.hash (sym is)) i; refs = (ap (λ k. k ∷ []) same ∙ sym is) i })
           (Contains-map (λ (r : HubRow). record { digest = r.digest; refs = r.key ∷ [] }) (table windows) row member)
@@ -54,7 +48,7 @@ module _ (mapping : Mapping) (hashes : Hashes) (hub : ℕ) where
       held_none = lists_none mapping hashes (Hub hub) older window (stored (table (window ∷ older))) (holds (window ∷ older) free) free
 
       pub held_delta : (load : ℕ) → hub_delta mapping hashes load (appended (hub_batch mapping hashes hub) (window ∷ older)) (deliveries mapping (Hub hub) window) ≡ []
-      held_delta = held_nothing hub_place (λ row. row.key ∷ []) mapping hashes (Hub hub) (hub_row_of mapping) older window (table (window ∷ older)) (holds (window ∷ older) free) free
+      held_delta = held_nothing hub_place (λ row. row.key ∷ []) mapping hashes (Hub hub) (hub_row_of mapping) older window (table (window ∷ older)) (holds (window ∷ older) free)
 
     -- ---- a table of the older windows
 
@@ -62,12 +56,14 @@ module _ (mapping : Mapping) (hashes : Hashes) (hub : ℕ) where
       pub next_none : HasNoClash (hub_hashed mapping hashes (appended (hub_batch mapping hashes hub) older) (deliveries mapping (Hub hub) window)) → collision_in mapping hashes (reverse (window ∷ older)) (Hub hub) ≡ None
       next_none = lists_free mapping hashes (Hub hub) older window (stored (table older)) (holds older apart) apart
 
-      pub next_least : (pair : Pair) → IsLeastClash (hub_hashed mapping hashes (appended (hub_batch mapping hashes hub) older) (deliveries mapping (Hub hub) window)) pair → collision_in mapping hashes (reverse (window ∷ older)) (Hub hub) ≡ Some pair
+      pub next_least : (pair : Pair) → IsLeastClash (hub_hashed mapping hashes (appended (hub_batch mapping hashes hub) older) (deliveries mapping (Hub hub) window)) pair
+          → collision_in mapping hashes (reverse (window ∷ older)) (Hub hub) ≡ Some pair
       next_least = lists_least mapping hashes (Hub hub) older window (stored (table older)) (holds older apart) apart
 
       -- the delta is the batch
-      pub next_delta : collision_in mapping hashes (reverse (window ∷ older)) (Hub hub) ≡ None → hub_delta mapping hashes window.load (appended (hub_batch mapping hashes hub) older) (deliveries mapping (Hub hub) window) ≡ hub_batch mapping hashes hub older window
-      next_delta = next_rows hub_place (λ row. row.key ∷ []) mapping hashes (Hub hub) (hub_row_of mapping) older window (table older) (holds older apart) apart
+      pub next_delta : collision_in mapping hashes (reverse (window ∷ older)) (Hub hub) ≡ None
+          → hub_delta mapping hashes window.load (appended (hub_batch mapping hashes hub) older) (deliveries mapping (Hub hub) window) ≡ hub_batch mapping hashes hub older window
+      next_delta = next_rows hub_place (λ row. row.key ∷ []) mapping hashes (Hub hub) (hub_row_of mapping) older window (table older) (holds older apart)
 
 -- ---- what is answered
 
@@ -81,7 +77,8 @@ module _ (mapping : Mapping) (hashes : Hashes) (hub : ℕ) (older : List Window)
   pub next_batch : IsNext mapping hashes hub older window rows load items → collision_in mapping hashes (reverse (window ∷ older)) (Hub hub) ≡ None → hub_delta mapping hashes load rows items ≡ hub_batch mapping hashes hub older window
   next_batch next free = (λ i. hub_delta mapping hashes (next.loaded i) (next.table i) (next.offered i)) ∙ next_delta mapping hashes hub older window next.apart free
 
-  module _ (result : Result (List HubRow) DeltaFault) (apart : IfOk result (λ made. HasNoClash (hub_hashed mapping hashes rows items))) (is : IfOk result (λ made. made ≡ hub_delta mapping hashes load rows items)) (least : IfCollides result (IsLeastClash (hub_hashed mapping hashes rows items))) where
+  module _ (result : Result (List HubRow) DeltaFault) (apart : IfOk result (λ made. HasNoClash (hub_hashed mapping hashes rows items))) (is : IfOk result (λ made. made ≡ hub_delta mapping hashes load rows items))
+      (least : IfCollides result (IsLeastClash (hub_hashed mapping hashes rows items))) where
     pub answers_next : IsNext mapping hashes hub older window rows load items → Answers result (collision_in mapping hashes (reverse (window ∷ older)) (Hub hub)) (hub_batch mapping hashes hub older window)
     answers_next next =
         answers (hub_hashed mapping hashes rows items) (hub_delta mapping hashes load rows items) (collision_in mapping hashes (reverse (window ∷ older)) (Hub hub)) (hub_batch mapping hashes hub older window)

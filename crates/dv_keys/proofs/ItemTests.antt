@@ -1,6 +1,7 @@
 -- Deliveries that pass the tests are such as new lists are told from.
-use Rattle.dv_keys.proofs.Vocabulary.{◌≡◌, ◌==◌, ◌&&◌, inl, inr, Bool, true, List, [], ◌∷◌, refl, sym, ◌∙◌, ap, length, nat_lt, eqb-true, ltb-true, Contains, not, list_all, and_parts, false≢true, not-true, refs_eq, Contains-cons_cases, Contains-nil, Parent, Hub, Link, TableId, Sat, Multi, Status}
+use Rattle.dv_keys.proofs.Vocabulary.{◌≡◌, ◌&&◌, true, List, sym, ◌∙◌, ap, length, nat_lt, eqb-true, ltb-true, Contains, not, list_all, and_parts, false≢true, not-true, refs_eq, Parent, Hub, Link, TableId, Sat, Multi, Status}
 use Rattle.dv_keys.proofs.Vocabulary.{Effect, Mapping, parent_hubs, is_declared, Delivery, table_of, AreItems, IsItem, are_keys_of, are_apart, are_items, is_alone, is_item, is_table_of, refs_eq-Decides, passes_at}
+use Rattle.dv_keys.proofs.Alike.{one_alike}
 use Rattle.dv_catalog.specs.declared.tables.TableId.TheVariants.{Hub as HubTable, Link as LinkTable}
 
 table_is : (parent : Parent) (table : TableId) → is_table_of parent table ≡ true → table ≡ table_of parent
@@ -23,27 +24,13 @@ item_is mapping parent item e =
     let second = and_parts (is_table_of parent item.table) (nat_lt item.feed (length mapping.feeds)) first.0 in
     record { table = table_is parent item.table second.0; feed = ltb-true item.feed (length mapping.feeds) second.1; keys = first.1 }
 
-alone : (item : Delivery) (others : List Delivery) → is_alone item others ≡ true → (other : Delivery) → Contains others other → other.refs ≡ item.refs → ⊥
-alone item others e other has same =
-    let apart = not-true (refs_eq other.refs item.refs) (passes_at (λ (o : Delivery). not (refs_eq o.refs item.refs)) others other e has) in
-    false≢true (sym apart ∙ (refs_eq-Decides other.refs item.refs).1 same)
-
 apart_is : (items : List Delivery) → are_apart items ≡ true → (a b : Delivery) → Contains items a → Contains items b → a.refs ≡ b.refs → a ≡ b
-apart_is [] e a b a_in b_in same = Contains-nil a a_in
-apart_is (x ∷ items) e a b a_in b_in same =
-    let parts = and_parts (is_alone x items) (are_apart items) e in
-    elim (Contains-cons_cases x items a a_in) [
-      | inl a_is ↦
-          elim (Contains-cons_cases x items b b_in) [
-            | inl b_is ↦ sym a_is ∙ b_is
-            | inr b_more ↦ absurd (alone x items parts.0 b b_more (sym same ∙ ap (λ (d : Delivery). d.refs) (sym a_is)))
-          ]
-      | inr a_more ↦
-          elim (Contains-cons_cases x items b b_in) [
-            | inl b_is ↦ absurd (alone x items parts.0 a a_more (same ∙ ap (λ (d : Delivery). d.refs) (sym b_is)))
-            | inr b_more ↦ apart_is items parts.1 a b a_more b_more same
-          ]
-    ]
+apart_is = one_alike are_apart (λ (a b : Delivery). a.refs ≡ b.refs) (λ a b same. sym same) (λ item items e.
+    let parts = and_parts (is_alone item items) (are_apart items) e in (
+      λ other has same.
+          false≢true (sym (not-true (refs_eq other.refs item.refs) (passes_at (λ (o : Delivery). not (refs_eq o.refs item.refs)) items other parts.0 has)) ∙ (refs_eq-Decides other.refs item.refs).1 same),
+      parts.1,
+    ))
 
 -- what is tested is such
 pub record IsPassed (mapping : Mapping) (parent : Parent) (items : List Delivery) : Type 0 where

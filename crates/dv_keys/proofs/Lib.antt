@@ -1,3 +1,4 @@
+pub mod Alike
 pub mod Batches
 pub mod Brought
 pub mod Clashes
@@ -10,7 +11,6 @@ pub mod KeyDeltas
 pub mod Keys
 pub mod LinkItems
 pub mod LinkWindows
-pub mod NewCases
 pub mod Placed
 pub mod ToldLists
 pub mod Vocabulary

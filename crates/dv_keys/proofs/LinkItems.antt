@@ -1,7 +1,6 @@
 -- Deliveries to a link.
-use Rattle.dv_keys.proofs.Vocabulary.{◌≡◌, ℕ, Bool, true, false, List, [], ◌∷◌, Option, Some, None, refl, sym, ◌∙◌, ap, subst, length, map, option_map, lt-ltb, ltb-true, Bor, Contains, Key, Contains-cons_here, Contains-cons_there, list_all, Link, Mapping, parent_hubs, Delivery, AreItems}
+use Rattle.dv_keys.proofs.Vocabulary.{◌≡◌, ℕ, true, List, ◌∙◌, ap, length, lt-ltb, ltb-true, Link, Mapping, Delivery, AreItems}
 use Rattle.dv_keys.proofs.Vocabulary.{are_items as is_items, AreLinkItems, are_of_links, is_of_link, all_pass}
-use Rattle.dv_catalog.specs.declared.tables.TableId.TheVariants.{Link as LinkTable}
 use Rattle.dv_keys.proofs.ItemTests.{passed}
 
 pub are_items : (mapping : Mapping) (items : List Delivery) → AreLinkItems mapping items → AreItems mapping items

@@ -1,11 +1,11 @@
 -- Over the table of a link after windows, with names that tell their lists, what clashes is what collides, and the rows
 -- that are added are the batch.
-use Rattle.dv_keys.proofs.Vocabulary.{◌≡◌, ℕ, Bool, true, false, List, [], ◌∷◌, ◌++◌, Some, None, refl, sym, ◌∙◌, ap, subst, map, reverse, Contains, IfOk, Result, flat_map, list_all, Less, Equal, Key, Window, Hashes, is_missing, refs_cmp, sorted_by, Contains-cons_here, Contains-map, map_member}
-use Rattle.dv_keys.proofs.Vocabulary.{Link, Mapping, parent_hubs, DeltaFault, Delivery, LinkRow, appended, Pair, collision_in, deliveries, is_known, offered_refs, Answers, Hashed, HasNoClash, IfCollides, IsClash, IsLeastClash, brought, hashed_by, HubName, link_batch, link_place, HashedList}
+use Rattle.dv_keys.proofs.Vocabulary.{◌≡◌, ℕ, true, List, [], ◌∷◌, ◌++◌, Some, None, refl, sym, ◌∙◌, ap, subst, reverse, Contains, IfOk, Result, Less, Key, Window, Hashes, refs_cmp, Contains-cons_here, Contains-map, map_member}
+use Rattle.dv_keys.proofs.Vocabulary.{Link, Mapping, parent_hubs, DeltaFault, Delivery, LinkRow, appended, Pair, collision_in, deliveries, is_known, Answers, Hashed, HasNoClash, IfCollides, IsLeastClash, brought, hashed_by, HubName, link_batch, link_place, HashedList}
 use Rattle.dv_keys.proofs.Vocabulary.{all_hashed, refs_total, irreflexive, TellLists, link_delta, link_hashed, link_row, hubs_in, hubs_of, keys_under, stored}
 use Rattle.dv_records.proofs.LinkTables.{table_has, table_row}
 use Rattle.dv_keys.proofs.KeyDeltas.{answers, held_nothing, next_rows}
-use Rattle.dv_keys.proofs.WindowLists.{HoldsOffered, delivery_kept, held_none as lists_none, holds_clear, known_offered, next_least as lists_least, next_none as lists_free, offered_apart, offered_known}
+use Rattle.dv_keys.proofs.WindowLists.{HoldsOffered, delivery_kept, held_none as lists_none, holds_clear, next_least as lists_least, next_none as lists_free, offered_apart}
 use Rattle.dv_keys.specs.LinkDeltas.{IsHeld, IsNext}
 use Rattle.dv_keys.proofs.ToldLists.{list_told}
 
@@ -35,23 +35,18 @@ module _ (mapping : Mapping) (hashes : Hashes) (link : ℕ) where
     holds : (windows : List Window) → TellLists mapping hashes names windows → collision_in mapping hashes (reverse windows) (Link link) ≡ None → HoldsOffered mapping hashes (Link link) windows (lists_of (table windows))
     holds windows tell free = record { only = only; each = each }
       where
-        only : (entry : Hashed) → Contains (lists_of (table windows)) entry → Contains (flat_map (offered_refs mapping (Link link)) windows) entry.refs × (entry.digest ≡ hashes.hash entry.refs)
+        only : (entry : Hashed) → Contains (lists_of (table windows)) entry → (is_known mapping (Link link) windows entry.refs ≡ true) × (entry.digest ≡ hashes.hash entry.refs)
         only entry has =
             let (row, member, is) = map_member (λ (r : LinkRow). record { digest = r.digest; refs = keys_of r.hubs }) (table windows) entry has in
             let (refs, known, digest, hubs) = table_row mapping link hashes windows row member in
-            let offered = known_offered mapping hashes (Link link) windows refs known in
-            let list : keys_of row.hubs ≡ refs = ap keys_of hubs ∙ list_told mapping link hashes names windows tell refs offered in
-            subst (λ (h : Hashed). Contains (flat_map (offered_refs mapping (Link link)) windows) h.refs × (h.digest ≡ hashes.hash h.refs)) is (
-              subst (Contains (flat_map (offered_refs mapping (Link link)) windows)) (sym list) offered,
-              digest ∙ ap hashes.hash (sym list),
-            )
+            let list : refs ≡ keys_of row.hubs = sym (ap keys_of hubs ∙ list_told mapping link hashes names windows tell refs known) in
+            subst (λ (h : Hashed). (is_known mapping (Link link) windows h.refs ≡ true) × (h.digest ≡ hashes.hash h.refs)) is (subst (λ r. is_known mapping (Link link) windows r ≡ true) list known, digest ∙ ap hashes.hash list)
 
-        each : (refs : List Key) → Contains (flat_map (offered_refs mapping (Link link)) windows) refs → Contains (lists_of (table windows)) (hashed_by hashes refs)
-        each refs has =
-            let known = offered_known mapping hashes (Link link) windows refs has in
+        each : (refs : List Key) → is_known mapping (Link link) windows refs ≡ true → Contains (lists_of (table windows)) (hashed_by hashes refs)
+        each refs known =
             let (row, member, digest, hubs) = table_has mapping link hashes windows (offered_apart mapping hashes (Link link) windows free) refs known in
             subst (Contains (lists_of (table windows)))
-            (λ i. record { digest = digest i; refs = (ap keys_of hubs ∙ list_told mapping link hashes names windows tell refs has) i })
+            (λ i. record { digest = digest i; refs = (ap keys_of hubs ∙ list_told mapping link hashes names windows tell refs known) i })
             (Contains-map (λ (r : LinkRow). record { digest = r.digest; refs = keys_of r.hubs }) (table windows) row member)
 
     module _ (older : List Window) (window : Window) where
@@ -89,7 +84,7 @@ module _ (mapping : Mapping) (hashes : Hashes) (link : ℕ) where
             lists_none mapping hashes (Link link) older window (lists_of (table (window ∷ older))) (holds (window ∷ older) tell free) free pair (least_all (table (window ∷ older)) pair least).is
 
         pub held_delta : (load : ℕ) → link_delta mapping hashes load (appended (link_batch mapping hashes link) (window ∷ older)) (deliveries mapping (Link link) window) ≡ []
-        held_delta = held_nothing link_place (λ row. keys_of row.hubs) mapping hashes (Link link) (λ load list. Some (link_row mapping hashes load list)) older window (table (window ∷ older)) (holds (window ∷ older) tell free) free
+        held_delta = held_nothing link_place (λ row. keys_of row.hubs) mapping hashes (Link link) (λ load list. Some (link_row mapping hashes load list)) older window (table (window ∷ older)) (holds (window ∷ older) tell free)
 
       -- ---- a table of the older windows
 
@@ -101,12 +96,14 @@ module _ (mapping : Mapping) (hashes : Hashes) (link : ℕ) where
             by [] e = subst (λ l. HasNoClash (all_hashed mapping hashes (lists_of (table older)) l)) (sym e) (holds_clear mapping hashes (Link link) older (lists_of (table older)) (holds older tell apart) apart)
             by (first ∷ rest) e = subst HasNoClash (same_all (table older) first rest e) none
 
-        pub next_least : (pair : Pair) → IsLeastClash (link_hashed mapping hashes names (appended (link_batch mapping hashes link) older) (deliveries mapping (Link link) window)) pair → collision_in mapping hashes (reverse (window ∷ older)) (Link link) ≡ Some pair
+        pub next_least : (pair : Pair) → IsLeastClash (link_hashed mapping hashes names (appended (link_batch mapping hashes link) older) (deliveries mapping (Link link) window)) pair
+            → collision_in mapping hashes (reverse (window ∷ older)) (Link link) ≡ Some pair
         next_least pair least = lists_least mapping hashes (Link link) older window (lists_of (table older)) (holds older tell apart) apart pair (least_all (table older) pair least)
 
         -- the delta is the batch
-        pub next_delta : collision_in mapping hashes (reverse (window ∷ older)) (Link link) ≡ None → link_delta mapping hashes window.load (appended (link_batch mapping hashes link) older) (deliveries mapping (Link link) window) ≡ link_batch mapping hashes link older window
-        next_delta = next_rows link_place (λ row. keys_of row.hubs) mapping hashes (Link link) (λ load list. Some (link_row mapping hashes load list)) older window (table older) (holds older tell apart) apart
+        pub next_delta : collision_in mapping hashes (reverse (window ∷ older)) (Link link) ≡ None
+            → link_delta mapping hashes window.load (appended (link_batch mapping hashes link) older) (deliveries mapping (Link link) window) ≡ link_batch mapping hashes link older window
+        next_delta = next_rows link_place (λ row. keys_of row.hubs) mapping hashes (Link link) (λ load list. Some (link_row mapping hashes load list)) older window (table older) (holds older tell apart)
 
 -- a row stands under the hash key of its list, and has the load date
 module _ (mapping : Mapping) (hashes : Hashes) (load : ℕ) (list : HashedList) (row : LinkRow) (e : Some (link_row mapping hashes load list) ≡ Some row) where
@@ -133,13 +130,16 @@ module _ (mapping : Mapping) (hashes : Hashes) (names : List HubName) (link : �
   pub next_free : IsNext mapping hashes names link older window rows load items → HasNoClash (link_hashed mapping hashes names rows items) → collision_in mapping hashes (reverse (window ∷ older)) (Link link) ≡ None
   next_free next none = next_none mapping hashes link names older window next.told next.apart (subst HasNoClash (λ i. link_hashed mapping hashes names (next.table i) (next.offered i)) none)
 
-  pub next_collides : IsNext mapping hashes names link older window rows load items → (pair : Pair) → IsLeastClash (link_hashed mapping hashes names rows items) pair → collision_in mapping hashes (reverse (window ∷ older)) (Link link) ≡ Some pair
+  pub next_collides : IsNext mapping hashes names link older window rows load items → (pair : Pair) → IsLeastClash (link_hashed mapping hashes names rows items) pair
+      → collision_in mapping hashes (reverse (window ∷ older)) (Link link) ≡ Some pair
   next_collides next pair least = next_least mapping hashes link names older window next.told next.apart pair (subst (λ all. IsLeastClash all pair) (λ i. link_hashed mapping hashes names (next.table i) (next.offered i)) least)
 
-  pub next_batch : IsNext mapping hashes names link older window rows load items → collision_in mapping hashes (reverse (window ∷ older)) (Link link) ≡ None → link_delta mapping hashes load rows items ≡ link_batch mapping hashes link older window
+  pub next_batch : IsNext mapping hashes names link older window rows load items → collision_in mapping hashes (reverse (window ∷ older)) (Link link) ≡ None
+      → link_delta mapping hashes load rows items ≡ link_batch mapping hashes link older window
   next_batch next free = (λ i. link_delta mapping hashes (next.loaded i) (next.table i) (next.offered i)) ∙ next_delta mapping hashes link names older window next.told next.apart free
 
-  module _ (result : Result (List LinkRow) DeltaFault) (apart : IfOk result (λ made. HasNoClash (link_hashed mapping hashes names rows items))) (is : IfOk result (λ made. made ≡ link_delta mapping hashes load rows items)) (least : IfCollides result (IsLeastClash (link_hashed mapping hashes names rows items))) where
+  module _ (result : Result (List LinkRow) DeltaFault) (apart : IfOk result (λ made. HasNoClash (link_hashed mapping hashes names rows items))) (is : IfOk result (λ made. made ≡ link_delta mapping hashes load rows items))
+      (least : IfCollides result (IsLeastClash (link_hashed mapping hashes names rows items))) where
     pub answers_next : IsNext mapping hashes names link older window rows load items → Answers result (collision_in mapping hashes (reverse (window ∷ older)) (Link link)) (link_batch mapping hashes link older window)
     answers_next next =
         answers (link_hashed mapping hashes names rows items) (link_delta mapping hashes load rows items) (collision_in mapping hashes (reverse (window ∷ older)) (Link link)) (link_batch mapping hashes link older window)

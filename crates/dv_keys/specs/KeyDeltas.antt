@@ -1,6 +1,6 @@
 -- The rows that a window adds to the table of a hub or a link, told from the rows of the table and the deliveries of the
 -- window.
-use Rattle.std.specs.Prelude.{ℕ, ◌||◌, List, Option, None, map, if◌then◌else◌}
+use Rattle.std.specs.Prelude.{◌||◌, List, Option, None, map, if◌then◌else◌}
 use Rattle.std.specs.List.{list_all}
 use Rattle.std.specs.declared.cmp.Ordering.{Ordering}
 use Rattle.dv_text.specs.declared.rows.Key.{Key}

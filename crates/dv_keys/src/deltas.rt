@@ -3,7 +3,7 @@ ghost use Rattle.std.specs.Prelude.{◌≡◌, IfOk, IsTrue, length, nat_lt};
 ghost use Rattle.std.specs.List.{list_all};
 ghost use Rattle.dv_text.specs.Keys.{hashes_of};
 ghost use Rattle.dv_digest.specs.Fits.{refs_fit};
-ghost use Rattle.dv_records.specs.Deltas.{HasNoClash, IfCollides, IsLeastClash};
+ghost use Rattle.dv_records.specs.Deltas.{AreHashed, HasNoClash, IfCollides, IsLeastClash, delivered};
 ghost use Rattle.dv_keys.specs.Items.{AreItems};
 ghost use Rattle.dv_keys.specs.KeyDeltas.{lists_of};
 ghost use Rattle.dv_keys.specs.NewLists as spec;
@@ -16,7 +16,7 @@ use crate::key_rows::KeyRows;
 use crate::told_lists::{TellsLists, ToldRows};
 use dv_catalog::Catalog;
 use dv_index::Placed;
-use dv_records::{Delivery, DeltaFault};
+use dv_records::{DeltaFault, HashedDelivery};
 use dv_text::{KeyDigest, List};
 use std::alloc::Global;
 
@@ -25,18 +25,19 @@ use std::alloc::Global;
 /// rows stand for have one hash key, the error is the least such pair. Want of memory is `DeltaFault::Memory`.
 pub(crate) fn lists_for<R: Placed, L: TellsLists<R>, H: KeyDigest>(
     alloc: Global,
-    items: &List<Delivery>,
+    items: &List<HashedDelivery>,
     rows: &KeyRows<R>,
     lists: &L,
     catalog: &Catalog,
     digest: &H,
 ) -> Result<List<HashedList>, DeltaFault>
-    requires items { AreItems catalog.now items.now }
-    ensures apart { IfOk result (λ made. HasNoClash (all_hashed catalog.now (hashes_of H.digest_of H.size) (lists_of R.place (L.list lists.now) rows.now.rows) items.now)) }
-    ensures lists { IfOk result (λ made. made ≡ spec.new_lists (hashes_of H.digest_of H.size) (lists_of R.place (L.list lists.now) rows.now.rows) items.now) }
+    requires items { AreItems catalog.now (delivered items.now) }
+    requires hashed { AreHashed (hashes_of H.digest_of H.size) items.now }
+    ensures apart { IfOk result (λ made. HasNoClash (all_hashed catalog.now (hashes_of H.digest_of H.size) (lists_of R.place (L.list lists.now) rows.now.rows) (delivered items.now))) }
+    ensures lists { IfOk result (λ made. made ≡ spec.new_lists (hashes_of H.digest_of H.size) (lists_of R.place (L.list lists.now) rows.now.rows) (delivered items.now)) }
     ensures feeds { IfOk result (λ made. IsTrue (list_all (λ list. nat_lt list.feed (length catalog.now.feeds)) made)) }
     ensures fits { IfOk result (λ made. IsTrue (list_all (λ list. refs_fit list.refs) made)) }
-    ensures collision { IfCollides result (IsLeastClash (all_hashed catalog.now (hashes_of H.digest_of H.size) (lists_of R.place (L.list lists.now) rows.now.rows) items.now)) }
+    ensures collision { IfCollides result (IsLeastClash (all_hashed catalog.now (hashes_of H.digest_of H.size) (lists_of R.place (L.list lists.now) rows.now.rows) (delivered items.now))) }
     ensures kept { IsTrue (are_placed_rows R.place rows.now.rows) }
 {
     rows.note_rows();

@@ -78,6 +78,7 @@ fn add(rows: &mut List<HubRow>, made: Option<HubRow>) -> Result<(), Memory>
 }
 
 /// The rows of lists of one key, in their order.
+#[tactic(auto, using(crate::proofs::Batches::filter_map_push))]
 pub(crate) fn hub_rows(
     alloc: Global,
     load: Stamp,

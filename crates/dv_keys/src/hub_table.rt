@@ -4,7 +4,7 @@ ghost use Rattle.dv_text.specs.Keys.{hashes_of};
 ghost use Rattle.dv_text.specs.declared.rows.Window.{Window};
 ghost use Rattle.dv_catalog.specs.declared.entries.Parent.TheVariants as parents;
 ghost use Rattle.dv_records.specs.Collisions.{collision_in};
-ghost use Rattle.dv_records.specs.Deltas.{Answers, HasNoClash, IfCollides, IsLeastClash};
+ghost use Rattle.dv_records.specs.Deltas.{Answers, AreHashed, HasNoClash, IfCollides, IsLeastClash, delivered};
 ghost use Rattle.dv_records.specs.Hubs.{hub_batch};
 ghost use Rattle.dv_keys.specs.HubDeltas.{AreHubItems, IsHeld, IsNext, hub_delta, hub_hashed};
 ghost use Rattle.dv_keys.specs.HubRows as spec;
@@ -14,7 +14,7 @@ use crate::deltas::lists_for;
 use crate::hub_rows::{OwnKeys, hub_rows};
 use crate::key_rows::KeyRows;
 use dv_catalog::Catalog;
-use dv_records::{Delivery, DeltaFault, HubRow};
+use dv_records::{DeltaFault, HashedDelivery, HubRow};
 use dv_text::{Digest, Key, KeyDigest, List, Memory, Stamp};
 use std::alloc::Global;
 use std::marker::Model;
@@ -90,24 +90,26 @@ impl HubTable {
     /// The rows that a window adds to the hub: of each delivered key that is not missing, and whose hash key no
     /// row has, one row, by hash key. Conditions: no row is later than the load date; the items are deliveries
     /// to one hub of the catalog, by its feeds, no two of one key; a key has the hub's number of parts, each of
-    /// at most 4,096 bytes. Where two different keys among those of the rows and the items and the missing key
-    /// have one hash key, the error is the least such pair. Want of memory is `DeltaFault::Memory`.
+    /// at most 4,096 bytes; an item's digest is the hash key of its key. Where two different keys among those of
+    /// the rows and the items and the missing key have one hash key, the error is the least such pair. Want of
+    /// memory is `DeltaFault::Memory`.
     pub fn delta<H: KeyDigest>(
         &self,
         load: Stamp,
-        items: &List<Delivery>,
+        items: &List<HashedDelivery>,
         catalog: &Catalog,
         digest: &H,
     ) -> Result<List<HubRow>, DeltaFault>
         requires dated { IsTrue (list_all (λ row. nat_le row.load load) self.now.rows) }
-        requires items { AreHubItems catalog.now items.now }
-        ensures apart { IfOk result (λ made. HasNoClash (hub_hashed catalog.now (hashes_of H.digest_of H.size) self.now.rows items.now)) }
-        ensures rows { IfOk result (λ made. made ≡ hub_delta catalog.now (hashes_of H.digest_of H.size) load self.now.rows items.now) }
-        ensures collision { IfCollides result (IsLeastClash (hub_hashed catalog.now (hashes_of H.digest_of H.size) self.now.rows items.now)) }
+        requires items { AreHubItems catalog.now (delivered items.now) }
+        requires hashed { AreHashed (hashes_of H.digest_of H.size) items.now }
+        ensures apart { IfOk result (λ made. HasNoClash (hub_hashed catalog.now (hashes_of H.digest_of H.size) self.now.rows (delivered items.now))) }
+        ensures rows { IfOk result (λ made. made ≡ hub_delta catalog.now (hashes_of H.digest_of H.size) load self.now.rows (delivered items.now)) }
+        ensures collision { IfCollides result (IsLeastClash (hub_hashed catalog.now (hashes_of H.digest_of H.size) self.now.rows (delivered items.now))) }
         ensures whole { IfOk result (λ made. IsTrue (are_hub_rows (self.now.rows ++ made))) }
-        ensures batch { (hub : ℕ) (older : list_of Window) (window : Window) → IsNext catalog.now (hashes_of H.digest_of H.size) hub older window self.now.rows load items.now
+        ensures batch { (hub : ℕ) (older : list_of Window) (window : Window) → IsNext catalog.now (hashes_of H.digest_of H.size) hub older window self.now.rows load (delivered items.now)
             → Answers result (collision_in catalog.now (hashes_of H.digest_of H.size) (reverse (window ∷ older)) (parents.Hub hub)) (hub_batch catalog.now (hashes_of H.digest_of H.size) hub older window) }
-        ensures held { (hub : ℕ) (older : list_of Window) (window : Window) → IsHeld catalog.now (hashes_of H.digest_of H.size) hub older window self.now.rows items.now
+        ensures held { (hub : ℕ) (older : list_of Window) (window : Window) → IsHeld catalog.now (hashes_of H.digest_of H.size) hub older window self.now.rows (delivered items.now)
             → Answers result None [] }
     {
         let alloc = self.held.allocator();

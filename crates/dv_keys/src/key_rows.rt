@@ -66,6 +66,7 @@ impl<R: Placed> KeyRows<R> {
     }
 
     /// Whether a row has this hash key. Takes no memory.
+    #[tactic(auto, using(crate::proofs::Placed::has_by_row))]
     pub(crate) fn has(&self, d: &Digest) -> bool
         ensures { result ≡ spec.has_row_under R.place d.now self.now.rows }
     {

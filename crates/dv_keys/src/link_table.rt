@@ -4,7 +4,7 @@ ghost use Rattle.dv_text.specs.Keys.{hashes_of};
 ghost use Rattle.dv_text.specs.declared.rows.Window.{Window};
 ghost use Rattle.dv_catalog.specs.declared.entries.Parent.TheVariants as parents;
 ghost use Rattle.dv_records.specs.Collisions.{collision_in};
-ghost use Rattle.dv_records.specs.Deltas.{Answers, HasNoClash, IfCollides, IsLeastClash};
+ghost use Rattle.dv_records.specs.Deltas.{Answers, AreHashed, HasNoClash, IfCollides, IsLeastClash, delivered};
 ghost use Rattle.dv_records.specs.Hubs.{link_batch};
 ghost use Rattle.dv_keys.specs.LinkDeltas.{AreLinkItems, IsHeld, IsNext, link_delta, link_hashed};
 ghost use Rattle.dv_keys.specs.LinkLists as lists;
@@ -17,20 +17,20 @@ use crate::key_rows::KeyRows;
 use crate::link_rows::link_rows;
 use crate::named_keys::NamedKeys;
 use dv_catalog::{Catalog, TableId};
-use dv_records::{Delivery, DeltaFault, HubNames, LinkRow};
+use dv_records::{DeltaFault, HashedDelivery, HubNames, LinkRow};
 use dv_text::{Digest, KeyDigest, List, Memory, Stamp};
 use std::alloc::Global;
 use std::marker::Model;
 
 // The hubs of the link that deliveries are to; none where there are no deliveries.
-fn hubs_of<'a>(items: &[Delivery], catalog: &'a Catalog) -> &'a [u32]
-    requires { IsTrue (are_of_links catalog.now items.now) }
-    ensures { result.now ≡ lists.hubs_of catalog.now items.now }
+fn hubs_of<'a>(items: &[HashedDelivery], catalog: &'a Catalog) -> &'a [u32]
+    requires { IsTrue (are_of_links catalog.now (delivered items.now)) }
+    ensures { result.now ≡ lists.hubs_of catalog.now (delivered items.now) }
 {
     let Some(first) = items.first() else {
         return &[];
     };
-    match first.table {
+    match first.delivery.table {
         TableId::Link(link) => catalog.link(link).hubs.items(),
         _ => &[],
     }
@@ -109,27 +109,29 @@ impl LinkTable {
     /// whose hash key no row has, one row, by hash key. A row has the hash key of each reference, and of a
     /// missing one the zero key. Conditions: no row is later than the load date; the items are deliveries to
     /// one link of the catalog, by its feeds, no two of one list; a list has a key of each hub of the link, of
-    /// the hub's number of parts, each of at most 4,096 bytes. Where two different lists among the list of
-    /// missing keys, those of the items and those that the rows stand for have one hash key, the error is the
-    /// least such pair. The names tell the key that a row's reference stands for, and where they have none it
-    /// is the missing key. Want of memory is `DeltaFault::Memory`.
+    /// the hub's number of parts, each of at most 4,096 bytes; an item's digest is the hash key of its list.
+    /// Where two different lists among the list of missing keys, those of the items and those that the rows
+    /// stand for have one hash key, the error is the least such pair. The names tell the key that a row's
+    /// reference stands for, and where they have none it is the missing key. Want of memory is
+    /// `DeltaFault::Memory`.
     pub fn delta<H: KeyDigest, N: HubNames>(
         &self,
         load: Stamp,
-        items: &List<Delivery>,
+        items: &List<HashedDelivery>,
         names: &N,
         catalog: &Catalog,
         digest: &H,
     ) -> Result<List<LinkRow>, DeltaFault>
         requires dated { IsTrue (list_all (λ row. nat_le row.load load) self.now.rows) }
-        requires items { AreLinkItems catalog.now items.now }
-        ensures apart { IfOk result (λ made. HasNoClash (link_hashed catalog.now (hashes_of H.digest_of H.size) (N.names names.now) self.now.rows items.now)) }
-        ensures rows { IfOk result (λ made. made ≡ link_delta catalog.now (hashes_of H.digest_of H.size) load self.now.rows items.now) }
-        ensures collision { IfCollides result (IsLeastClash (link_hashed catalog.now (hashes_of H.digest_of H.size) (N.names names.now) self.now.rows items.now)) }
+        requires items { AreLinkItems catalog.now (delivered items.now) }
+        requires hashed { AreHashed (hashes_of H.digest_of H.size) items.now }
+        ensures apart { IfOk result (λ made. HasNoClash (link_hashed catalog.now (hashes_of H.digest_of H.size) (N.names names.now) self.now.rows (delivered items.now))) }
+        ensures rows { IfOk result (λ made. made ≡ link_delta catalog.now (hashes_of H.digest_of H.size) load self.now.rows (delivered items.now)) }
+        ensures collision { IfCollides result (IsLeastClash (link_hashed catalog.now (hashes_of H.digest_of H.size) (N.names names.now) self.now.rows (delivered items.now))) }
         ensures whole { IfOk result (λ made. IsTrue (are_link_rows (self.now.rows ++ made))) }
-        ensures batch { (link : ℕ) (older : list_of Window) (window : Window) → IsNext catalog.now (hashes_of H.digest_of H.size) (N.names names.now) link older window self.now.rows load items.now
+        ensures batch { (link : ℕ) (older : list_of Window) (window : Window) → IsNext catalog.now (hashes_of H.digest_of H.size) (N.names names.now) link older window self.now.rows load (delivered items.now)
             → Answers result (collision_in catalog.now (hashes_of H.digest_of H.size) (reverse (window ∷ older)) (parents.Link link)) (link_batch catalog.now (hashes_of H.digest_of H.size) link older window) }
-        ensures held { (link : ℕ) (older : list_of Window) (window : Window) → IsHeld catalog.now (hashes_of H.digest_of H.size) (N.names names.now) link older window self.now.rows items.now
+        ensures held { (link : ℕ) (older : list_of Window) (window : Window) → IsHeld catalog.now (hashes_of H.digest_of H.size) (N.names names.now) link older window self.now.rows (delivered items.now)
             → Answers result None [] }
     {
         let alloc = self.held.allocator();

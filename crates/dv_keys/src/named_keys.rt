@@ -21,6 +21,7 @@ pub(crate) struct NamedKeys<'a, N: HubNames> {
 }
 
 // Whether a key is the missing key of a hub.
+#[tactic(auto, using(crate::proofs::Keys::missing_same))]
 fn is_missing_key(catalog: &Catalog, hub: u32, key: &Key) -> bool
     ensures { result ≡ key_eq (items.missing_key catalog.now hub) key.now }
 {

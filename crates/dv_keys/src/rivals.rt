@@ -66,6 +66,7 @@ fn rivals_with(other: Option<List<Key>>, refs: &List<Key>) -> Result<Option<Riva
 }
 
 // The pair of a list and the held one with its hash key; none where there is none, or it is the same.
+#[tactic(auto, using(crate::proofs::Clashes::no_rival))]
 fn held_rival<T: HoldsLists>(
     alloc: Global,
     hashed: &HashedList,

@@ -34,6 +34,7 @@ impl<'a, R: Placed, L: TellsLists<R>> HoldsLists for ToldRows<'a, R, L> {
 
     ghost held = { λ t. lists_of R.place (L.list t.lists.now) t.rows.now.rows };
 
+    #[tactic(auto, using(crate::proofs::Held::is_held_rows))]
     fn holds(&self, d: &Digest) -> bool {
         self.rows.has(d)
     }

@@ -1,6 +1,5 @@
-use Rattle.dv_keys.proofs.Vocabulary.{and_parts}
-use Rattle.dv_keys.proofs.Held.{held_apart-rows}
+use Rattle.dv_keys.proofs.Held.{held_apart_rows}
 use Rattle.dv_keys.proofs.deltas.lists_for.Goals as goal
 
 pub new_lists-requires-clause-held : goal.new_lists-requires-clause-held
-new_lists-requires-clause-held g c κs within = held_apart-rows g.R.Placed.place (g.L.TellsLists.list c.args.lists.now) c.args.rows.now.rows (and_parts _ _ c.note_rows.ensures).0
+new_lists-requires-clause-held g c κs within = held_apart_rows g.R.Placed.place (g.L.TellsLists.list c.args.lists.now) c.args.rows.now.rows c.note_rows.ensures

@@ -1,4 +1,3 @@
-use Rattle.dv_keys.proofs.Vocabulary.{sym, ap, latest_at}
 use Rattle.dv_keys.proofs.Placed.{row_is}
 use Rattle.dv_keys.proofs.key_rows.KeyRows.row.Goals as goal
 
