@@ -1,8 +1,9 @@
 -- What a window adds to each table of a vault, told from the rows alone, is its batch after the sealed windows.
-use Rattle.dv_vault.proofs.Vocabulary.{Contains, slice_get, List, None, Option, Some, [], ap, arith, inl, inr, length, map, refl, reverse, subst, sym, true, ℕ, ◌++◌, ◌+◌, ◌<◌, ◌∙◌, ◌∷◌, ◌≡◌, nat_lt, and_from, and_parts, false≢true, list_all, range_with_len, cons_option, nat_tests, delta}
-use Rattle.dv_vault.proofs.Vocabulary.{Contains-cons_here, Contains-cons_there, Contains-map, map_member, Contains-range, Hashes, all_refs, extract_of, AreNewestFirst, Extract, history, lists_of, appended, ascends, is_window, are_windows_valid, last_load, source, table_entry, vault, feed_batch}
-use Rattle.dv_vault.proofs.Vocabulary.{table_batch, batch_at, table_of, valid_feed, Mapping, feed_tables, tables, is_declared, is_valid, map-append, status_delta, sat_delta, IsPlain, FeedDef, Parent, Hub, Link, TableId, late_after, Rows, Hubs, Links, Sats, Statuses, NRow, Window, AreApart}
-use Rattle.dv_vault.proofs.Vocabulary.{all_added, kept, HasSealed, RawVault, added_to, is_kept, All-contains, Contains-append_cases, Contains-append_left, Contains-append_right, IsApart, collision, collision_in, parents, sat_batch, status_batch, next_delta as hub_delta_is, none_collide}
+use Rattle.dv_vault.proofs.Vocabulary.{ltb-true, map-map, map_filter, filter_map_same, passes_at, Contains, slice_get, List, None, Option, Some, [], ap, arith, inl, inr, length, map, refl, reverse, subst, sym, true, ℕ, ◌++◌, ◌+◌, ◌∙◌, ◌∷◌}
+use Rattle.dv_vault.proofs.Vocabulary.{◌≡◌, and_from, false≢true, list_all, range_with_len, cons_option, delta, Contains-map, map_member, Contains-range, Hashes, all_refs, extract_of, AreNewestFirst, Extract, history, lists_of, appended}
+use Rattle.dv_vault.proofs.Vocabulary.{ascends, is_window, are_windows_valid, last_load, source, table_entry, vault, feed_batch, table_batch, batch_at, table_of, valid_feed, Mapping, feed_tables, tables, is_declared, is_valid, map-append}
+use Rattle.dv_vault.proofs.Vocabulary.{status_delta, sat_delta, IsPlain, FeedDef, Parent, Hub, Link, TableId, late_after, Rows, Hubs, Links, Sats, Statuses, NRow, Window, AreApart, all_added, kept, HasSealed, RawVault, added_to, is_kept}
+use Rattle.dv_vault.proofs.Vocabulary.{All-contains, Contains-append_cases, Contains-append_left, Contains-append_right, IsApart, collision, collision_in, parents, sat_batch, status_batch, next_delta as hub_delta_is, none_collide}
 use Rattle.dv_vault.proofs.Vocabulary.{appended-history, delta_is_batch as sat_delta_is, extract_added}
 use Rattle.dv_catalog.specs.declared.tables.TableId.TheVariants as ids
 use Rattle.dv_keys.proofs.LinkWindows.{next_delta as link_delta_is}
@@ -55,16 +56,13 @@ module _ (mapping : Mapping) (hashes : Hashes) (sealed : List Window) (window : 
 
   -- ---- feeds
 
-  under : (n count : ℕ) → nat_lt n count ≡ true → n < count
-  under n count e = grind (arith, nat_tests, e)
-
   declared_parent : (parent : Parent) → is_declared mapping parent ≡ true → Contains (parents mapping) parent
   declared_parent (Hub hub) e =
       Contains-append_left (map (λ n. Hub n) (range_with_len 0 (length mapping.hubs))) (map (λ n. Link n) (range_with_len 0 (length mapping.links))) (Hub hub)
-      (Contains-map (λ n. Hub n) (range_with_len 0 (length mapping.hubs)) hub (Contains-range (length mapping.hubs) hub (under hub (length mapping.hubs) e)))
+      (Contains-map (λ n. Hub n) (range_with_len 0 (length mapping.hubs)) hub (Contains-range (length mapping.hubs) hub (ltb-true hub (length mapping.hubs) e)))
   declared_parent (Link link) e =
       Contains-append_right (map (λ n. Hub n) (range_with_len 0 (length mapping.hubs))) (map (λ n. Link n) (range_with_len 0 (length mapping.links))) (Link link)
-      (Contains-map (λ n. Link n) (range_with_len 0 (length mapping.links)) link (Contains-range (length mapping.links) link (under link (length mapping.links) e)))
+      (Contains-map (λ n. Link n) (range_with_len 0 (length mapping.links)) link (Contains-range (length mapping.links) link (ltb-true link (length mapping.links) e)))
 
   -- what a feed's table gets, by the table's rows, is the batch of its extract, by the older extracts
   next_batch : {R : Type 0} (kind : List R → Rows) (feed : ℕ) (batch : List Extract → Extract → List R) (delta : List R → ℕ → List NRow → List R)
@@ -128,17 +126,12 @@ module _ (mapping : Mapping) (hashes : Hashes) (sealed : List Window) (window : 
         | inr feed ↦ of_feeds IsAdded 0 mapping.feeds feed_added id feed kept
       ]
 
-  tables_added : (all : List TableId) → list_all is_kept all ≡ true → ((id : TableId) → Contains all id → Contains (tables mapping) id)
-      → map (added_to mapping hashes window) (map (table_entry mapping hashes older) all) ≡ map batch_of_table all
-  tables_added [] kept among = refl
-  tables_added (id ∷ all) kept among =
-      let (here, rest) = and_parts (is_kept id) (list_all is_kept all) kept in
-      let first = table_added id here (among id (Contains-cons_here id all)) in
-      let behind = tables_added all rest (λ other has. among other (Contains-cons_there id all other has)) in
-      λ i. first i ∷ behind i
-
   pub vault_added : list_all is_kept (tables mapping) ≡ true → map (added_to mapping hashes window) (vault mapping hashes sealed) ≡ map (λ table. table_batch mapping hashes table (reverse sealed) window) (tables mapping)
-  vault_added kept = tables_added (tables mapping) kept (λ id has. has)
+  vault_added kept =
+      map-map (added_to mapping hashes window) (table_entry mapping hashes older) (tables mapping)
+      ∙ map_filter added_at (tables mapping)
+      ∙ filter_map_same (λ id. Some (added_at id)) (λ id. Some (batch_of_table id)) (tables mapping) (λ id has. ap Some (table_added id (passes_at is_kept (tables mapping) id kept has) has))
+      ∙ sym (map_filter batch_of_table (tables mapping))
 
 -- ---- a vault
 

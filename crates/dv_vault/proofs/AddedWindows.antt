@@ -1,6 +1,7 @@
 -- What a vault is with what a window adds: the vault of the sealed windows and the new one.
-use Rattle.dv_vault.proofs.Vocabulary.{List, None, Option, Some, [], ap, arith, length, map, refl, reverse, suc, sym, true, zero, ℕ, ◌++◌, ◌+◌, ◌-◌, ◌∙◌, ◌∷◌, ◌≡◌, length-map, map-append, option_map, slice_get, sum_by, Hashes, is_window, head_of, last_load, row_count, rows_weight, tables_weight}
-use Rattle.dv_vault.proofs.Vocabulary.{vault_weight, vault, table_batch, tables, Rule, late_after, full_at, Rows, TableRows, Window, WindowHead, AreApart, raw_with, IsAddition, all_added, weight_with, HasSealed, IsBuilt, RawVault, entries_with, last_head, Addition, loaded, last_or}
+use Rattle.dv_vault.proofs.Vocabulary.{map-map, slice_get-map, List, None, Option, Some, [], ap, arith, length, map, refl, reverse, suc, sym, true, ℕ, ◌++◌, ◌+◌, ◌-◌, ◌∙◌, ◌∷◌, ◌≡◌, length-map, map-append, option_map, slice_get, sum_by}
+use Rattle.dv_vault.proofs.Vocabulary.{Hashes, is_window, head_of, last_load, row_count, rows_weight, tables_weight, vault_weight, vault, table_batch, tables, Rule, late_after, full_at, Rows, TableRows, Window, WindowHead, AreApart}
+use Rattle.dv_vault.proofs.Vocabulary.{raw_with, IsAddition, all_added, weight_with, HasSealed, IsBuilt, RawVault, entries_with, last_head, Addition, loaded, last_or}
 use Rattle.dv_vault.proofs.AddedBatches.{added_is_batch}
 use Rattle.dv_vault.proofs.Afterwards.{loaded_batches, vault_with, weight_with_batches, windows_still_valid}
 use Rattle.dv_vault.proofs.BuiltTables.{tables_kept}
@@ -22,9 +23,7 @@ last_same (window ∷ windows) =
     one_less n = omega arith
 
     got_load : (all : List Window) (n : ℕ) → slice_get (map (λ w. w.load) all) n ≡ option_map (λ head. head.load) (slice_get (map head_of all) n)
-    got_load [] n = refl
-    got_load (w ∷ all) zero = refl
-    got_load (w ∷ all) (suc n) = got_load all n
+    got_load all n = ap (λ loads. slice_get loads n) (sym (map-map (λ (head : WindowHead). head.load) head_of all)) ∙ slice_get-map (λ (head : WindowHead). head.load) (map head_of all) n
 
     by : (all : List Window) (n m : ℕ) → n ≡ m → slice_get (map (λ w. w.load) all) n ≡ option_map (λ head. head.load) (slice_get (map head_of all) m)
     by all n m e = got_load all n ∙ ap (λ k. option_map (λ head. head.load) (slice_get (map head_of all) k)) e

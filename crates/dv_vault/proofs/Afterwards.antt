@@ -38,7 +38,7 @@ loaded_batches mapping hashes sealed window = sum_seen (λ table. table_batch ma
 less_through : (a b c : ℕ) → nat_lt a b ≡ true → nat_lt b c ≡ true → nat_lt a c ≡ true
 less_through a b c p q = grind (arith, nat_tests)
 
-later_than_last : (last load : ℕ) → late_after (Some last) load ≡ None → nat_lt last load ≡ true
+pub later_than_last : (last load : ℕ) → late_after (Some last) load ≡ None → nat_lt last load ≡ true
 later_than_last last load e = by (nat_le load last) refl e
   where
     by : (b : Bool) → nat_le load last ≡ b → (if b then Some (Rule.Late last) else None) ≡ None → nat_lt last load ≡ true

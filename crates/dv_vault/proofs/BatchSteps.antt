@@ -1,9 +1,10 @@
 -- Tables and their batches, one table after the other.
-use Rattle.dv_vault.proofs.Vocabulary.{◌≡◌, ℕ, ◌+◌, ◌<◌, ◌≤◌, ◌==◌, Bool, true, false, List, [], ◌∷◌, ◌++◌, refl, sym, ◌∙◌, ap, subst, arith, add-one, append-nil, drop, drop-cons, get_or, length, map, not, slice_set, suc, take, zero, ◌||◌, if◌then◌else◌, AllZip, list_any, and_parts, nat_tests}
-use Rattle.dv_vault.proofs.Vocabulary.{drop-set-lt, take_more, take_more_set, TableId, Rows, TableRows, appended_to, are_apart, is_of_kind, no_rows, row_count, rows_in, rows_then, table_eq, Table, HaveRoom, Follow, entry_of, spare_of, entries_with, same_table}
+use Rattle.dv_vault.proofs.Vocabulary.{get_or-map, length-map, AllZip-long, AreOfKinds, IsOfKind, ◌≡◌, ℕ, ◌+◌, ◌<◌, ◌≤◌, Bool, true, false, List, [], ◌∷◌, ◌++◌, refl, sym, ◌∙◌, ap, subst, arith, add-one, append-nil, drop, drop-cons, get_or}
+use Rattle.dv_vault.proofs.Vocabulary.{length, map, not, slice_set, suc, take, zero, if◌then◌else◌, AllZip, list_any, and_parts, none_passes, same_answer, not-true, false≢true, table_eq-itself, Contains, Contains-get_or, drop_all, take_all}
+use Rattle.dv_vault.proofs.Vocabulary.{nil_from_length, map-append, append_assoc, drop-set-lt, take_more, take_more_set, TableId, Rows, TableRows, appended_to, are_apart, is_of_kind, no_rows, row_count, rows_in, rows_then, table_eq, Table}
+use Rattle.dv_vault.proofs.Vocabulary.{HaveRoom, Follow, entry_of, spare_of, entries_with, same_table}
 use Rattle.dv_catalog.specs.declared.tables.TableId.TheVariants as ids
 use Rattle.dv_records.specs.declared.stores.Rows.TheVariants as of
-use Rattle.dv_vault.proofs.VaultFacts.{table_itself}
 
 -- ---- pairs
 
@@ -25,14 +26,6 @@ pair_at R (a ∷ xs) [] i x y all h at is = absurd all
 pair_at R (a ∷ xs) (b ∷ ys) zero x y all h at is = subst (λ b. R x b) is (subst (λ a. R a b) at all.0)
 pair_at R (a ∷ xs) (b ∷ ys) (suc i) x y all h at is = pair_at R xs ys i x y all.1 (omega (arith, h)) at is
 
-pub whole : {X : Type 0} (n : ℕ) (l : List X) → length l ≤ n → (take n l ≡ l) × (drop n l ≡ [])
-whole zero [] h = (refl, refl)
-whole (suc n) [] h = (refl, refl)
-whole zero (t ∷ l) h = absurd (omega (arith, h))
-whole (suc n) (t ∷ l) h =
-    let (taken, dropped) = whole n l (omega (arith, h)) in
-    (ap (λ l. t ∷ l) taken, dropped)
-
 -- ---- batches that are put behind the rows of tables
 
 -- the batches that are left fit the tables from a place on, and with those before them the tables are as they should be
@@ -48,8 +41,7 @@ under_start tables batches left count is counted room follow =
     rw is (record { counted = counted; room = room; follow = follow; result = refl })
 
 moved : (before : List Table) (table : Table) (rest : List TableRows) → map entry_of (before ++ table ∷ []) ++ rest ≡ map entry_of before ++ entry_of table ∷ rest
-moved [] table rest = refl
-moved (t ∷ before) table rest = ap (λ l. entry_of t ∷ l) (moved before table rest)
+moved before table rest = ap (λ l. l ++ rest) (map-append entry_of before (table ∷ [])) ∙ append_assoc (map entry_of before) (entry_of table ∷ []) rest
 
 module _ (first : List Table) (all : List Rows) (now : List Table) (i : ℕ) (left : List Rows) (count : ℕ) (is : IsUnder first all now i left count) where
   -- what holds of a table and its batch
@@ -100,23 +92,18 @@ module _ (first : List Table) (all : List Rows) (now : List Table) (i : ℕ) (le
     where
       by : (rest before : List Table) → drop i now ≡ rest → take i now ≡ before → map entry_of before ++ entries_with (map entry_of rest) left ≡ entries_with (map entry_of first) all → map entry_of now ≡ entries_with (map entry_of first) all
       by rest before d t e =
-          let (taken, dropped) = whole i now h in
-          ap (map entry_of) (sym taken ∙ t) ∙ sym (append-nil (map entry_of before)) ∙ ap (λ l. map entry_of before ++ entries_with (map entry_of l) left) (sym dropped ∙ d) ∙ e
+          ap (map entry_of) (sym (take_all i now h) ∙ t) ∙ sym (append-nil (map entry_of before)) ∙ ap (λ l. map entry_of before ++ entries_with (map entry_of l) left) (sym (drop_all i now h) ∙ d) ∙ e
 
 -- ---- batches that are put into a store
 
-pub none_of : {X : Type 0} (xs : List X) → length xs ≡ 0 → xs ≡ []
-none_of [] e = refl
-none_of (x ∷ xs) e = cc
-
 -- no rows behind others
 pub nothing_then : (table : TableId) (a b : Rows) → is_of_kind table a ≡ true → is_of_kind table b ≡ true → row_count b ≡ 0 → rows_then a b ≡ a
-nothing_then (ids.Hub n) (of.Hubs a) (of.Hubs b) k l e = ap of.Hubs (ap (λ b. a ++ b) (none_of b e) ∙ append-nil a)
-nothing_then (ids.Link n) (of.Links a) (of.Links b) k l e = ap of.Links (ap (λ b. a ++ b) (none_of b e) ∙ append-nil a)
-nothing_then (ids.Sat n) (of.Sats a) (of.Sats b) k l e = ap of.Sats (ap (λ b. a ++ b) (none_of b e) ∙ append-nil a)
-nothing_then (ids.Multi n) (of.Multis a) (of.Multis b) k l e = ap of.Multis (ap (λ b. a ++ b) (none_of b e) ∙ append-nil a)
-nothing_then (ids.Status n) (of.Statuses a) (of.Statuses b) k l e = ap of.Statuses (ap (λ b. a ++ b) (none_of b e) ∙ append-nil a)
-nothing_then (ids.Effect n) (of.Effects a) (of.Effects b) k l e = ap of.Effects (ap (λ b. a ++ b) (none_of b e) ∙ append-nil a)
+nothing_then (ids.Hub n) (of.Hubs a) (of.Hubs b) k l e = ap of.Hubs (ap (λ b. a ++ b) (nil_from_length b e) ∙ append-nil a)
+nothing_then (ids.Link n) (of.Links a) (of.Links b) k l e = ap of.Links (ap (λ b. a ++ b) (nil_from_length b e) ∙ append-nil a)
+nothing_then (ids.Sat n) (of.Sats a) (of.Sats b) k l e = ap of.Sats (ap (λ b. a ++ b) (nil_from_length b e) ∙ append-nil a)
+nothing_then (ids.Multi n) (of.Multis a) (of.Multis b) k l e = ap of.Multis (ap (λ b. a ++ b) (nil_from_length b e) ∙ append-nil a)
+nothing_then (ids.Status n) (of.Statuses a) (of.Statuses b) k l e = ap of.Statuses (ap (λ b. a ++ b) (nil_from_length b e) ∙ append-nil a)
+nothing_then (ids.Effect n) (of.Effects a) (of.Effects b) k l e = ap of.Effects (ap (λ b. a ++ b) (nil_from_length b e) ∙ append-nil a)
 nothing_then table a b k l e = cc
 
 -- rows behind none
@@ -157,7 +144,7 @@ rows_appended id table rows kind (entry ∷ entries) =
     by true false false h i s later = refl
     by true true false h i s later = absurd (clash (table_eq table id) (sym (ap (λ t. table_eq t id) (same_table entry.table table h)) ∙ i) s)
     by true false true h i s later = absurd (clash (table_eq entry.table id) (ap (λ t. table_eq t id) (same_table entry.table table h) ∙ s) i)
-    by false true true h i s later = absurd (clash (table_eq entry.table table) (ap (λ t. table_eq t table) (same_table entry.table id i ∙ sym (same_table table id s)) ∙ table_itself table) h)
+    by false true true h i s later = absurd (clash (table_eq entry.table table) (ap (λ t. table_eq t table) (same_table entry.table id i ∙ sym (same_table table id s)) ∙ table_eq-itself table) h)
     by false true false h i s later = refl
     by false false true h i s later = later
     by false false false h i s later = later
@@ -177,16 +164,7 @@ no_more (entry ∷ entries) = refl
 -- a table behind the first one is another
 another : (table : TableId) (entries : List TableRows) (i : ℕ) (entry : TableRows) → list_any (λ other. table_eq other.table table) entries ≡ false → i < length entries → get_or entries i entry ≡ entry
     → table_eq entry.table table ≡ false
-another table [] i entry none h at = absurd (omega (arith, h))
-another table (first ∷ entries) i entry none h at = by (table_eq first.table table) refl i h at none (another table entries)
-  where
-    by : (b : Bool) → table_eq first.table table ≡ b → (i : ℕ) → i < length (first ∷ entries) → get_or (first ∷ entries) i entry ≡ entry
-        → (b || list_any (λ other. table_eq other.table table) entries) ≡ false
-        → ((i : ℕ) (entry : TableRows) → list_any (λ other. table_eq other.table table) entries ≡ false → i < length entries → get_or entries i entry ≡ entry → table_eq entry.table table ≡ false)
-        → table_eq entry.table table ≡ false
-    by true t i h at none later = cc
-    by false t zero h at none later = ap (λ (e : TableRows). table_eq e.table table) (sym at) ∙ t
-    by false t (suc i) h at none later = later i entry none (omega (arith, h)) at
+another table entries i entry none h at = none_passes (λ (other : TableRows). table_eq other.table table) entries entry none (subst (Contains entries) at (Contains-get_or entries i entry h))
 
 -- the tables are apart, so the first with a name is at its place
 pub record AtPlace (entries : List TableRows) (batches : List Rows) (i : ℕ) (entry : TableRows) (rows : Rows) : Type 0 where
@@ -201,28 +179,31 @@ at_place (first ∷ entries) [] i entry rows apart h at k is = absurd (omega (ar
 at_place (first ∷ entries) (batch ∷ batches) zero entry rows apart h at k is =
     rw (← at, ← is)
     (record {
-      found = rw (table_itself first.table) refl;
-      appended = rw (table_itself first.table) (ap (λ l. record { table = first.table; rows = rows_then first.rows batch } ∷ l) (sym (no_more entries)));
+      found = rw (table_eq-itself first.table) refl;
+      appended = rw (table_eq-itself first.table) (ap (λ l. record { table = first.table; rows = rows_then first.rows batch } ∷ l) (sym (no_more entries)));
       passed = λ same. ap (λ rows. record { table = first.table; rows = rows } ∷ entries_with entries []) same ∙ ap (λ l. first ∷ l) (no_more entries);
     })
 at_place (first ∷ entries) (batch ∷ batches) (suc i) entry rows apart h at k is =
     let (alone, rest) = and_parts (not (list_any (λ other. table_eq other.table first.table) entries)) (are_apart entries) apart in
     let under : i < length entries = omega (arith, h) in
-    let other : table_eq first.table entry.table ≡ false = by (table_eq first.table entry.table) refl (another first.table entries i entry (not_true _ alone) under at) in
+    let other : table_eq first.table entry.table ≡ false =
+    same_answer _ false (λ t. sym (another first.table entries i entry (not-true _ alone) under at) ∙ ap (λ t. table_eq t first.table) (sym (same_table first.table entry.table t)) ∙ table_eq-itself first.table)
+    (λ no. absurd (false≢true no)) in
     let behind = at_place entries batches i entry rows rest under at (omega (arith, k)) is in
     record {
       found = rw other behind.found;
       appended = rw other (ap (λ l. record { table = first.table; rows = rows_then first.rows batch } ∷ l) behind.appended);
       passed = λ same. ap (λ l. record { table = first.table; rows = rows_then first.rows batch } ∷ l) (behind.passed same);
     }
-  where
-    not_true : (b : Bool) → not b ≡ true → b ≡ false
-    not_true true e = cc
-    not_true false e = refl
 
-    by : (b : Bool) → table_eq first.table entry.table ≡ b → table_eq entry.table first.table ≡ false → table_eq first.table entry.table ≡ false
-    by true t e = absurd (clash (ap (λ t. table_eq t first.table) (same_table first.table entry.table t)) e)
-      where
-        clash : table_eq first.table first.table ≡ table_eq entry.table first.table → table_eq entry.table first.table ≡ false → ⊥
-        clash a b = let c = table_itself first.table in cc
-    by false t e = t
+-- the entry at the place of a table
+pub entry_here : (tables : List Table) (i : ℕ) (table : Table) → i < length tables → table ≡ get_or tables i table → (i < length (map entry_of tables)) × (get_or (map entry_of tables) i (entry_of table) ≡ entry_of table)
+entry_here tables i table under is = (omega (arith, under, length-map tables entry_of), get_or-map entry_of tables i table ∙ ap entry_of (sym is))
+
+-- a table and its batch: they are of one kind, and the table's rows stand at its place
+pub turn_at : (tables : List Table) (batches : List Rows) (i : ℕ) (table : Table) (rows : Rows) → AreOfKinds (map entry_of tables) batches → are_apart (map entry_of tables) ≡ true
+    → i < length tables → table ≡ get_or tables i table → rows ≡ get_or batches i rows → IsOfKind (entry_of table) rows × AtPlace (map entry_of tables) batches i (entry_of table) rows
+turn_at tables batches i table rows kinds apart under at is =
+    let (within, here) = entry_here tables i table under at in
+    let too : i < length batches = omega (arith, within, AllZip-long IsOfKind (map entry_of tables) batches kinds) in
+    (pair_at IsOfKind (map entry_of tables) batches i (entry_of table) rows kinds within here (sym is), at_place (map entry_of tables) batches i (entry_of table) rows apart within here too (sym is))

@@ -1,14 +1,12 @@
 -- What a window adds to tables, one table after the other.
-use Rattle.dv_vault.proofs.Vocabulary.{◌≡◌, ℕ, zero, suc, ◌+◌, ◌<◌, ◌≤◌, Bool, true, List, [], ◌∷◌, ◌++◌, refl, sym, ◌∙◌, ap, arith, drop, drop-cons, get_or, length, map, subst, take, All, Err, IfOk, Result, AllZip, list_all, and_parts, map-append, take-append-drop, take_more, All-append}
-use Rattle.dv_vault.proofs.Vocabulary.{list_all-map, Window, Hashes, TableId, Mapping, is_table_of, tables_in, DeltaFault, Collision, Memory, HubRow, Rows, TableRows, HasNoClash, IfCollides, IsLeastClash, HubName, AdditionFault, AreApartBy, ClashesAt, FollowAll, fault_at, Follow, IsVaultOf}
-use Rattle.dv_vault.proofs.Vocabulary.{added_to, hashed_in, names_of_rows, AreOfLoad}
-use Rattle.dv_vault.proofs.BatchSteps.{pairs_push, whole}
+use Rattle.dv_vault.proofs.Vocabulary.{◌≡◌, ℕ, suc, ◌+◌, ◌<◌, ◌≤◌, Bool, true, List, [], ◌∷◌, ◌++◌, refl, sym, ◌∙◌, ap, drop, drop-cons, get_or, length, map, subst, take, Err, IfOk, Result, AllZip, list_all, map-append, take-append-drop}
+use Rattle.dv_vault.proofs.Vocabulary.{take_more, All-nil, All-push, Contains, Contains-get_or, passes_at, take_all, list_all-map, Window, Hashes, TableId, Mapping, is_table_of, tables_in, DeltaFault, Collision, Memory, HubRow, Rows}
+use Rattle.dv_vault.proofs.Vocabulary.{TableRows, HasNoClash, IfCollides, IsLeastClash, HubName, AdditionFault, AreApartBy, ClashesAt, FollowAll, fault_at, Follow, IsVaultOf, added_to, hashed_in, names_of_rows, AreOfLoad}
+use Rattle.dv_vault.proofs.BatchSteps.{pairs_push}
 
 -- an item at a place passes what all pass
 pub passes_here : {X : Type 0} (p : X → Bool) (xs : List X) (i : ℕ) (x : X) → list_all p xs ≡ true → i < length xs → get_or xs i x ≡ x → p x ≡ true
-passes_here p [] i x all under at = absurd (omega (arith, under))
-passes_here p (y ∷ xs) zero x all under at = let parts = and_parts (p y) (list_all p xs) all in ap p (sym at) ∙ parts.0
-passes_here p (y ∷ xs) (suc i) x all under at = let parts = and_parts (p y) (list_all p xs) all in passes_here p xs i x parts.1 (omega (arith, under)) at
+passes_here p xs i x all under at = passes_at p xs x all (subst (Contains xs) at (Contains-get_or xs i x under))
 
 -- the tables of a vault are those of its mapping
 pub vault_tables : (mapping : Mapping) (entries : List TableRows) → IsVaultOf mapping entries → list_all (λ (entry : TableRows). is_table_of mapping entry.table) entries ≡ true
@@ -16,19 +14,11 @@ vault_tables mapping entries is =
     sym (list_all-map (is_table_of mapping) (λ (entry : TableRows). entry.table) entries) ∙ ap (list_all (is_table_of mapping)) is ∙ tables_in mapping
 
 -- the names of hubs and the tables are told by others that are equal
-pub named_apart : (result : Result (List Rows) AdditionFault) (mapping : Mapping) (hashes : Hashes) (hubs hubs' : List (List HubRow)) (window : Window) (entries entries' : List TableRows)
-    → hubs ≡ hubs' → entries ≡ entries' → IfOk result (λ batches. AreApartBy mapping hashes (names_of_rows hubs) window entries)
-    → IfOk result (λ batches. AreApartBy mapping hashes (names_of_rows hubs') window entries')
-named_apart result mapping hashes hubs hubs' window entries entries' same those apart =
-    subst (λ l. IfOk result (λ batches. AreApartBy mapping hashes (names_of_rows hubs') window l)) those
-    (subst (λ l. IfOk result (λ batches. AreApartBy mapping hashes (names_of_rows l) window entries)) same apart)
-
-one : {X : Type 0} (P : X → Type 0) (x : X) → P x → All P (x ∷ [])
-one P x p zero d under = p
-one P x p (suc k) d under = absurd (omega (arith, under))
-
-none : {X : Type 0} (P : X → Type 0) → All P []
-none P k d under = absurd (omega (arith, under))
+pub named_apart : (result : Result (List Rows) AdditionFault) (mapping : Mapping) (hashes : Hashes) (hubs hubs' : List (List HubRow)) (window window' : Window) (entries entries' : List TableRows)
+    → hubs ≡ hubs' → window ≡ window' → entries ≡ entries' → IfOk result (λ batches. AreApartBy mapping hashes (names_of_rows hubs) window entries)
+    → IfOk result (λ batches. AreApartBy mapping hashes (names_of_rows hubs') window' entries')
+named_apart result mapping hashes hubs hubs' window window' entries entries' same is those apart =
+    subst (λ (P : Type 0). P) (λ i. IfOk result (λ batches. AreApartBy mapping hashes (names_of_rows (same i)) (is i) (those i))) apart
 
 module _ (mapping : Mapping) (hashes : Hashes) (names : List HubName) (window : Window) where
   -- the batches of tables
@@ -40,8 +30,8 @@ module _ (mapping : Mapping) (hashes : Hashes) (names : List HubName) (window : 
   pub at_first : SoFar [] []
   at_first = record {
     rows = refl;
-    apart = none (λ entry. HasNoClash (hashed_in mapping hashes names window entry));
-    follow = record { follow = tt; stamped = none (λ rows. AreOfLoad window.load rows) };
+    apart = All-nil (λ entry. HasNoClash (hashed_in mapping hashes names window entry));
+    follow = record { follow = tt; stamped = All-nil (λ rows. AreOfLoad window.load rows) };
   }
 
   one_more : (entries : List TableRows) (batches : List Rows) (entry : TableRows) (rows : Rows) → SoFar entries batches
@@ -52,16 +42,12 @@ module _ (mapping : Mapping) (hashes : Hashes) (names : List HubName) (window : 
         ap (λ (l : List Rows). l ++ rows ∷ []) so_far.rows
         ∙ ap (λ r. map (added_to mapping hashes window) entries ++ r ∷ []) is
         ∙ sym (map-append (added_to mapping hashes window) entries (entry ∷ []));
-    apart =
-        All-append (λ entry. HasNoClash (hashed_in mapping hashes names window entry)) entries (entry ∷ []) so_far.apart
-        (one (λ entry. HasNoClash (hashed_in mapping hashes names window entry)) entry apart);
+    apart = All-push (λ entry. HasNoClash (hashed_in mapping hashes names window entry)) entries entry so_far.apart apart;
     follow = record {
       follow =
           subst (λ l. AllZip Follow l (batches ++ rows ∷ [])) (sym (map-append (λ (entry : TableRows). entry.rows) entries (entry ∷ [])))
           (pairs_push Follow (map (λ (entry : TableRows). entry.rows) entries) batches entry.rows rows so_far.follow.follow follow);
-      stamped =
-          All-append (λ rows. AreOfLoad window.load rows) batches (rows ∷ []) so_far.follow.stamped
-          (one (λ rows. AreOfLoad window.load rows) rows stamped);
+      stamped = All-push (λ rows. AreOfLoad window.load rows) batches rows so_far.follow.stamped stamped;
     };
   }
 
@@ -75,7 +61,7 @@ module _ (mapping : Mapping) (hashes : Hashes) (names : List HubName) (window : 
       (one_more (take i entries) batches entry rows so_far is apart follow stamped))
 
   pub at_last : (entries : List TableRows) (i : ℕ) (batches : List Rows) → length entries ≤ i → SoFar (take i entries) batches → SoFar entries batches
-  at_last entries i batches all so_far = subst (λ l. SoFar l batches) (whole i entries all).0 so_far
+  at_last entries i batches all so_far = subst (λ l. SoFar l batches) (take_all i entries all) so_far
 
   -- the first table with a collision
   pub clashed : (entries : List TableRows) (i : ℕ) (batches : List Rows) (entry : TableRows) (result : Result Rows DeltaFault) (fault : DeltaFault) (table : TableId)

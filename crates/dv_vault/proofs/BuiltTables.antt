@@ -1,15 +1,8 @@
 -- The tables of a mapping in which every form is built are those that a vault keeps.
-use Rattle.dv_vault.proofs.Vocabulary.{◌≡◌, ℕ, zero, suc, ◌+◌, Bool, true, List, [], ◌∷◌, ◌++◌, Some, None, refl, ◌∙◌, map, length, slice_get, list_all, range_with_len, and_from, list_all-append, FeedDef, TableId, unbuilt, Mapping, effect_tables, feed_tables, sat_tables, tables, built_forms}
-use Rattle.dv_vault.proofs.Vocabulary.{BuiltFeed, is_kept, all_pass_both}
+use Rattle.dv_vault.proofs.Vocabulary.{◌≡◌, ℕ, zero, suc, ◌+◌, true, List, [], ◌∷◌, ◌++◌, Some, None, refl, map, length, slice_get, list_all, range_with_len, FeedDef, TableId, unbuilt, Mapping, effect_tables, feed_tables, sat_tables}
+use Rattle.dv_vault.proofs.Vocabulary.{tables, built_forms, BuiltFeed, is_kept, all_pass_both}
 use Rattle.dv_catalog.specs.declared.tables.TableId.TheVariants as ids
-
-hubs_kept : (places : List ℕ) → list_all is_kept (map (λ n. ids.Hub n) places) ≡ true
-hubs_kept [] = refl
-hubs_kept (n ∷ places) = hubs_kept places
-
-links_kept : (places : List ℕ) → list_all is_kept (map (λ n. ids.Link n) places) ≡ true
-links_kept [] = refl
-links_kept (n ∷ places) = links_kept places
+use Rattle.dv_vault.proofs.TablesApart.{all_numbers}
 
 sats_kept : (n : ℕ) (sub attrs : List (List ℕ)) → sub ≡ [] → list_all is_kept (sat_tables n sub attrs) ≡ true
 sats_kept n sub [] none = refl
@@ -34,5 +27,5 @@ tables_kept mapping e =
     let links : List TableId = map (λ n. ids.Link n) (range_with_len 0 (length mapping.links)) in
     let forms = built_forms mapping e in
     all_pass_both is_kept (hubs ++ links) (feed_tables 0 mapping.feeds)
-    (all_pass_both is_kept hubs links (hubs_kept (range_with_len 0 (length mapping.hubs))) (links_kept (range_with_len 0 (length mapping.links))))
+    (all_pass_both is_kept hubs links (all_numbers (λ n. ids.Hub n) is_kept (λ n. refl) (range_with_len 0 (length mapping.hubs))) (all_numbers (λ n. ids.Link n) is_kept (λ n. refl) (range_with_len 0 (length mapping.links))))
     (feeds_kept 0 mapping.feeds forms.feeds)

@@ -1,7 +1,8 @@
 -- What is read back from the vault, by what its tables answer.
-use Rattle.dv_vault.proofs.Vocabulary.{◌≡◌, ◌⊎◌, inl, inr, ℕ, zero, suc, ◌+◌, ◌<◌, ◌==◌, Bool, true, false, List, [], ◌∷◌, ◌++◌, Option, Some, None, Bor, refl, sym, ◌∙◌, ap, arith, get_or, length, take, if◌then◌else◌, slice_get, filter_map, option_map, option_map_or, option_to_list, nat_tests}
-use Rattle.dv_vault.proofs.Vocabulary.{take_more, filter_map-append, Key, NRow, Window, Hashes, sorted_by, FeedDef, LinkDef, Parent, Hub, Link, Mapping, link_hubs, parent_hubs, is_declared, built_forms, HubRow, LinkRow, SatRow, StatusRow, TableRows, feed_mart, attrs_read, content_read}
-use Rattle.dv_vault.proofs.Vocabulary.{content_read_by, hub_row_by, hub_rows_in, keys_read, link_row_by, link_rows_in, present_parents, refs_read, row_read, sat_rows, sat_rows_in, status_rows_in, valid_at, feed_tells, HasSealed, IsBuilt, RawVault, has_table, is_parent}
+use Rattle.dv_vault.proofs.Vocabulary.{ltb-true, filter_map_more, got_from, ◌≡◌, ◌⊎◌, inl, inr, ℕ, ◌+◌, ◌<◌, ◌==◌, Bool, true, false, List, [], ◌∷◌, ◌++◌, Option, Some, None, Bor, refl, sym, ◌∙◌, ap, arith, get_or, length, take}
+use Rattle.dv_vault.proofs.Vocabulary.{if◌then◌else◌, slice_get, filter_map, option_map, option_map_or, option_to_list, Key, NRow, Window, Hashes, sorted_by, FeedDef, LinkDef, Parent, Hub, Link, Mapping, link_hubs, parent_hubs, is_declared}
+use Rattle.dv_vault.proofs.Vocabulary.{built_forms, HubRow, LinkRow, SatRow, StatusRow, TableRows, feed_mart, attrs_read, content_read, content_read_by, hub_row_by, hub_rows_in, keys_read, link_row_by, link_rows_in, present_parents}
+use Rattle.dv_vault.proofs.Vocabulary.{refs_read, row_read, sat_rows, sat_rows_in, status_rows_in, valid_at, feed_tells, HasSealed, IsBuilt, RawVault, has_table, is_parent}
 use Rattle.dv_text.specs.Orders.{row_cmp}
 use Rattle.dv_catalog.specs.declared.tables.TableId.TheVariants as ids
 use Rattle.dv_vault.proofs.VaultFacts.{absent_rows, seen-twice}
@@ -18,18 +19,6 @@ or_twice f g (Some x) d = refl
 pub made_or : {X Y Z A : Type 0} (f : Y → Z) (g : X → Y) (h : A → Y) (o : Option X) (found : Option A) (d : Z) → option_map h found ≡ option_map g o
     → option_map_or (λ x. f (g x)) o d ≡ option_map_or (λ a. f (h a)) found d
 made_or f g h o found d e = or_twice f g o d ∙ ap (λ o. option_map_or f o d) (sym e) ∙ sym (or_twice f h found d)
-
--- one place has one thing
-pub one_there : {X : Type 0} (got : Option X) (a b : X) → got ≡ Some a → got ≡ Some b → a ≡ b
-one_there got a b first second = let same : Some a ≡ Some b = sym first ∙ second in cc
-
-some_there : {X : Type 0} (xs : List X) (i : ℕ) → i < length xs → (x : X) × (slice_get xs i ≡ Some x)
-some_there [] i under = absurd (omega (arith, under))
-some_there (x ∷ xs) zero under = (x, refl)
-some_there (x ∷ xs) (suc i) under = some_there xs i (omega (arith, under))
-
-pub feed_there : (mapping : Mapping) (feed : ℕ) → feed < length mapping.feeds → (definition : FeedDef) × (slice_get mapping.feeds feed ≡ Some definition)
-feed_there mapping feed under = some_there mapping.feeds feed under
 
 -- no keys of no hubs, nor by no hash keys
 pub no_keys : (mapping : Mapping) (tables : List TableRows) (hubs : List ℕ) (digests : List (List ℕ)) → (length hubs ≡ 0) ⊎ (length digests ≡ 0) → keys_read mapping tables hubs digests ≡ []
@@ -53,14 +42,10 @@ parent_there mapping (Link link) e = e
 
 -- a hub or a link that is a parent is in the mapping
 pub hub_within : (mapping : Mapping) (parent : Parent) (hub : ℕ) → is_parent mapping parent ≡ true → parent ≡ Hub hub → hub < length mapping.hubs
-hub_within mapping parent hub there is =
-    let declared : is_parent mapping (Hub hub) ≡ true = ap (is_parent mapping) (sym is) ∙ there in
-    grind (arith, nat_tests, declared)
+hub_within mapping parent hub there is = ltb-true hub (length mapping.hubs) (ap (is_parent mapping) (sym is) ∙ there)
 
 pub link_within : (mapping : Mapping) (parent : Parent) (link : ℕ) → is_parent mapping parent ≡ true → parent ≡ Link link → link < length mapping.links
-link_within mapping parent link there is =
-    let declared : is_parent mapping (Link link) ≡ true = ap (is_parent mapping) (sym is) ∙ there in
-    grind (arith, nat_tests, declared)
+link_within mapping parent link there is = ltb-true link (length mapping.links) (ap (is_parent mapping) (sym is) ∙ there)
 
 -- the reference list of a hub's or a link's row that was found
 pub refs_of_hub : (mapping : Mapping) (tables : List TableRows) (parent : Parent) (hub : ℕ) (digest : List ℕ) (rows : List HubRow) (found : Option (Bor Key)) (key : Bor Key) (refs : List Key)
@@ -89,16 +74,8 @@ refs_of_link mapping tables parent link digest rows found digests definition hub
 -- the rows of one parent more
 pub rows_more : {X Y : Type 0} (h : X → Option Y) (xs : List X) (i : ℕ) (x : X) (made more : List Y) (row : Option Y) → i < length xs → x ≡ get_or xs i x
     → made ≡ filter_map h (take i xs) → row ≡ h x → more ≡ made ++ option_to_list row → more ≡ filter_map h (take (i + 1) xs)
-rows_more {X} {Y} h xs i x made more row under at made_are row_is more_are =
-    more_are
-    ∙ ap (λ l. l ++ option_to_list row) made_are
-    ∙ ap (λ l. filter_map h (take i xs) ++ l) (ap option_to_list row_is ∙ one (h x) refl)
-    ∙ sym (filter_map-append h (take i xs) (x ∷ []))
-    ∙ ap (filter_map h) (ap (λ y. take i xs ++ y ∷ []) at ∙ sym (take_more xs i x under))
-  where
-    one : (o : Option Y) → h x ≡ o → option_to_list (h x) ≡ filter_map h (x ∷ [])
-    one None e = rw e refl
-    one (Some y) e = rw e refl
+rows_more h xs i x made more row under at made_are row_is more_are =
+    more_are ∙ (λ i. made_are i ++ option_to_list (row_is i)) ∙ ap (λ x. filter_map h (take i xs) ++ option_to_list (h x)) at ∙ sym (filter_map_more h xs i x under)
 
 -- the content of a feed of the mapping
 pub content_by : (mapping : Mapping) (tables : List TableRows) (feed date : ℕ) (definition : FeedDef) (rows : List NRow) (parents : List (List ℕ)) (statuses : List StatusRow)
@@ -113,7 +90,7 @@ content_by mapping tables feed date definition rows parents statuses got statuse
 pub mart_read : (hashes : Hashes) (sealed : List Window) (raw : RawVault) → HasSealed hashes sealed raw → IsBuilt raw.mapping → (feed : ℕ) → feed < length raw.mapping.feeds
     → (date : ℕ) → content_read raw.mapping raw.tables feed date ≡ feed_mart sealed feed date
 mart_read hashes sealed raw has built feed under date =
-    let (definition, got) = feed_there raw.mapping feed under in
+    let (definition, got) = got_from raw.mapping.feeds feed under in
     let plain = (built_forms raw.mapping built.built).feeds feed definition got in
     ap (λ (tables : List TableRows). content_read raw.mapping tables feed date) has.tables_are
     ∙ feed_tells raw.mapping hashes sealed feed definition built.valid has.valid got plain.no_sub date

@@ -1,11 +1,10 @@
 -- The vault of no windows.
-use Rattle.dv_vault.proofs.Vocabulary.{◌≡◌, ℕ, ◌+◌, Bool, true, false, List, [], ◌∷◌, refl, sym, ◌∙◌, ap, arith, map, if◌then◌else◌, sum_by-cons, Hashes, TableId, Mapping, tables, TableRows, no_rows, rows_in, table_eq, table_entry, rows_weight, tables_weight, IsVaultOf, are_empty, are_rows_kept}
-use Rattle.dv_vault.proofs.Vocabulary.{same_table}
+use Rattle.dv_vault.proofs.Vocabulary.{map-map, map-id, ◌≡◌, ℕ, ◌+◌, Bool, true, false, List, [], ◌∷◌, refl, sym, ◌∙◌, ap, arith, map, if◌then◌else◌, sum_by-cons, Hashes, TableId, Mapping, tables, TableRows, no_rows, rows_in, table_eq}
+use Rattle.dv_vault.proofs.Vocabulary.{table_entry, rows_weight, tables_weight, IsVaultOf, are_empty, are_rows_kept, same_table}
 use Rattle.dv_catalog.specs.declared.tables.TableId.TheVariants as ids
 
 pub empty_tables : (all : List TableId) → map (λ (entry : TableRows). entry.table) (map (λ id. record { table = id; rows = no_rows id }) all) ≡ all
-empty_tables [] = refl
-empty_tables (id ∷ all) = ap (λ (rest : List TableId). id ∷ rest) (empty_tables all)
+empty_tables all = map-map (λ (entry : TableRows). entry.table) (λ id. record { table = id; rows = no_rows id }) all ∙ map-id all
 
 pub empty_rows : (all : List TableId) (table : TableId) → rows_in table (map (λ id. record { table = id; rows = no_rows id }) all) ≡ no_rows table
 empty_rows [] table = refl

@@ -8,11 +8,11 @@ pub mod ContentFacts
 pub mod EmptyTables
 pub mod FeedLists
 pub mod FeedTables
-pub mod Gathered
 pub mod HubLists
 pub mod NamedHubs
 pub mod NoWindows
 pub mod SealedContents
+pub mod SortedOffers
 pub mod Stamped
 pub mod StoreSteps
 pub mod TableFacts

@@ -1,7 +1,8 @@
 -- The names of the hubs of a vault tell the keys of the hubs' rows.
-use Rattle.dv_vault.proofs.Vocabulary.{◌≡◌, ℕ, zero, suc, ◌+◌, ◌<◌, ◌≤◌, ◌==◌, Bool, true, false, List, [], ◌∷◌, ◌++◌, Option, Some, None, Bor, refl, sym, ◌∙◌, ap, arith, map, length, reverse, eq-eqb, cond, eqb-true, find, slice_get, enumerate_from, flat_map, range_with_len, option_map}
-use Rattle.dv_vault.proofs.Vocabulary.{option_or, IsItemAt, bytes_eq, nat_tests, find-append, slice_get-get_or, slice_get-map, slice_get_past, Key, Window, Hashes, Mapping, Indexed, HubRow, appended, HubName, is_named, key_named, hub_batch, hub_rows_in, vault, vault_hub, key_with, hub_names}
-use Rattle.dv_vault.proofs.Vocabulary.{names_of_hub, names_of_rows}
+use Rattle.dv_vault.proofs.Vocabulary.{option_or-none, hubs_in, length-map, length-range_with_len, get_or-map-range_with_len, ◌≡◌, ℕ, zero, suc, ◌+◌, ◌<◌, ◌==◌, Bool, true, false, List, [], ◌∷◌, ◌++◌, Option, Some, None, Bor, refl, sym}
+use Rattle.dv_vault.proofs.Vocabulary.{◌∙◌, ap, arith, map, length, reverse, eq-eqb, cond, find, slice_get, enumerate_from, flat_map, range_with_len, option_map, option_or, IsItemAt, bytes_eq, nat_tests, find-append, slice_get-get_or}
+use Rattle.dv_vault.proofs.Vocabulary.{slice_get-map, slice_get_past, Key, Window, Hashes, Mapping, Indexed, HubRow, appended, HubName, is_named, key_named, hub_batch, hub_rows_in, vault, vault_hub, key_with, hub_names, names_of_hub}
+use Rattle.dv_vault.proofs.Vocabulary.{names_of_rows}
 
 -- the names of one hub are those of its rows
 own_names : (hub : ℕ) (digest : List ℕ) (rows : List HubRow) → key_named hub digest (names_of_hub (hub, rows)) ≡ key_with digest rows
@@ -20,51 +21,15 @@ other_names hub other digest [] e = refl
 other_names hub other digest (row ∷ rows) e = rw e (other_names hub other digest rows e)
 
 not_same : (hub other : ℕ) → hub < other → (other == hub) ≡ false
-not_same hub other less = by (other == hub) refl
-  where
-    by : (b : Bool) → (other == hub) ≡ b → (other == hub) ≡ false
-    by false e = e
-    by true e = let same : other ≡ hub = eqb-true other hub e in absurd (omega (arith, same, less))
+not_same hub other less = grind (arith, nat_tests, less)
 
 -- a look among two lists of which only one can have the name
 named_first : (hub : ℕ) (digest : List ℕ) (a b : List HubName) → find (is_named hub digest) b ≡ None → key_named hub digest (a ++ b) ≡ key_named hub digest a
 named_first hub digest a b none =
-    ap (option_map (λ (name : HubName). name.key)) (find-append (is_named hub digest) a b ∙ ap (option_or (find (is_named hub digest) a)) none ∙ nothing_more (find (is_named hub digest) a))
-  where
-    nothing_more : (o : Option HubName) → option_or o None ≡ o
-    nothing_more None = refl
-    nothing_more (Some name) = refl
+    ap (option_map (λ (name : HubName). name.key)) (find-append (is_named hub digest) a b ∙ ap (option_or (find (is_named hub digest) a)) none ∙ option_or-none (find (is_named hub digest) a))
 
 named_behind : (hub : ℕ) (digest : List ℕ) (a b : List HubName) → find (is_named hub digest) a ≡ None → find (is_named hub digest) (a ++ b) ≡ find (is_named hub digest) b
 named_behind hub digest a b none = find-append (is_named hub digest) a b ∙ ap (λ (o : Option HubName). option_or o (find (is_named hub digest) b)) none
-
-module _ (rows_of : ℕ → List HubRow) (hub : ℕ) (digest : List ℕ) where
-  -- the names of so many hubs, counted from one
-  abbrev names_from : ℕ → ℕ → List HubName
-  names_from start count = flat_map names_of_hub (enumerate_from start (map rows_of (range_with_len start count)))
-
-  none_later : (count start : ℕ) → hub < start → find (is_named hub digest) (names_from start count) ≡ None
-  none_later zero start before = refl
-  none_later (suc count) start before =
-      named_behind hub digest (names_of_hub (start, rows_of start)) (names_from (start + 1) count) (other_names hub start digest (rows_of start) (not_same hub start before))
-      ∙ none_later count (start + 1) (omega (arith, before))
-
-  named_from : (count start : ℕ) → start ≤ hub → hub < start + count → key_named hub digest (names_from start count) ≡ key_with digest (rows_of hub)
-  named_from zero start from under = absurd (omega (arith, from, under))
-  named_from (suc count) start from under = by (start == hub) refl (named_from count (start + 1))
-    where
-      differ : (start == hub) ≡ false → start + 1 ≤ hub
-      differ e = grind (arith, nat_tests, from, e)
-
-      by : (b : Bool) → (start == hub) ≡ b → (start + 1 ≤ hub → hub < start + 1 + count → key_named hub digest (names_from (start + 1) count) ≡ key_with digest (rows_of hub))
-          → key_named hub digest (names_from start (suc count)) ≡ key_with digest (rows_of hub)
-      by true e later =
-          let same : start ≡ hub = eqb-true start hub e in
-          named_first hub digest (names_of_hub (start, rows_of start)) (names_from (start + 1) count) (none_later count (start + 1) (omega (arith, same)))
-          ∙ ap (λ n. key_named hub digest (names_of_hub (n, rows_of n))) same ∙ own_names hub digest (rows_of hub)
-      by false e later =
-          ap (option_map (λ (name : HubName). name.key)) (named_behind hub digest (names_of_hub (start, rows_of start)) (names_from (start + 1) count) (other_names hub start digest (rows_of start) e))
-          ∙ later (differ e) (omega (arith, under))
 
 -- ---- among the rows of hubs, which stand in declared order
 
@@ -81,11 +46,7 @@ none_behind hub digest start (rows ∷ hubs) before =
     ∙ none_behind hub digest (start + 1) hubs (omega (arith, before))
 
 not_before : (hub other : ℕ) → other < hub → (other == hub) ≡ false
-not_before hub other less = by (other == hub) refl
-  where
-    by : (b : Bool) → (other == hub) ≡ b → (other == hub) ≡ false
-    by false e = e
-    by true e = let same : other ≡ hub = eqb-true other hub e in absurd (omega (arith, same, less))
+not_before hub other less = grind (arith, nat_tests, less)
 
 named_at : (digest : List ℕ) (hubs : List (List HubRow)) (start hub i : ℕ) → hub ≡ start + i
     → key_named hub digest (flat_map names_of_hub (enumerate_from start hubs)) ≡ key_in digest (slice_get hubs i)
@@ -127,5 +88,8 @@ name_there hubs hub digest found there is e =
 pub hubs_named : (mapping : Mapping) (hashes : Hashes) (sealed : List Window) (hub : ℕ) (digest : List ℕ) → hub < length mapping.hubs
     → key_named hub digest (hub_names mapping (vault mapping hashes sealed)) ≡ key_with digest (appended (hub_batch mapping hashes hub) (reverse sealed))
 hubs_named mapping hashes sealed hub digest under =
-    named_from (λ hub. hub_rows_in hub (vault mapping hashes sealed)) hub digest (length mapping.hubs) 0 (omega arith) (omega (arith, under))
+    let rows_of = λ (hub : ℕ). hub_rows_in hub (vault mapping hashes sealed) in
+    let within : hub < length (hubs_in mapping (vault mapping hashes sealed)) = omega (arith, under, length-map (range_with_len 0 (length mapping.hubs)) rows_of, length-range_with_len 0 (length mapping.hubs)) in
+    named_in hub digest (hubs_in mapping (vault mapping hashes sealed))
+    ∙ ap (key_in digest) (slice_get-get_or (hubs_in mapping (vault mapping hashes sealed)) hub (rows_of hub) within ∙ ap Some (get_or-map-range_with_len rows_of 0 (length mapping.hubs) hub hub (rows_of hub) under (omega arith)))
     ∙ ap (key_with digest) (vault_hub mapping hashes sealed hub under)

@@ -1,7 +1,7 @@
 -- What is read back from the tables of a vault for a feed of a sealed window, at the window's load date.
-use Rattle.dv_vault.proofs.Vocabulary.{Contains, find, List, Some, [], ap, arith, false, inl, inr, map, nat_le, reverse, sym, true, ℕ, ◌<◌, ◌==◌, ◌∙◌, ◌∷◌, ◌≡◌, le-leb, nat_lt, and_parts, list_all, nat_tests, option_map, Contains-cons_cases, Contains-map, Contains-nil, member_of_filter_map}
-use Rattle.dv_vault.proofs.Vocabulary.{reverse_member, Hashes, ascends, is_staged, is_window, content_read, extract_of, Extract, content, history, newest_rows, up_to, tables, built_forms, feed_tells, TableRows, Staged, Window, HasSealed, IsBuilt, RawVault, passes_at, IsNewestFirst}
-use Rattle.dv_vault.proofs.Vocabulary.{history-newest_first, load_order, WindowParts, staged_rows, window_parts}
+use Rattle.dv_vault.proofs.Vocabulary.{eq-eqb, refl, Contains, find, List, Some, [], ap, arith, false, inl, inr, map, nat_le, reverse, sym, true, ℕ, ◌<◌, ◌==◌, ◌∙◌, ◌∷◌, ◌≡◌, le-leb, nat_lt, and_parts, list_all, nat_tests, option_map}
+use Rattle.dv_vault.proofs.Vocabulary.{Contains-cons_cases, Contains-map, Contains-nil, member_of_filter_map, reverse_member, Hashes, ascends, is_staged, is_window, content_read, extract_of, Extract, content, history, newest_rows, up_to}
+use Rattle.dv_vault.proofs.Vocabulary.{built_forms, feed_tells, TableRows, Staged, Window, HasSealed, IsBuilt, RawVault, passes_at, IsNewestFirst, history-newest_first, load_order, WindowParts, staged_rows, window_parts}
 use Rattle.dv_vault.proofs.VaultCollisions.{sealed_parts}
 
 not_reached : (a b : ℕ) → a < b → nat_le b a ≡ false
@@ -27,7 +27,7 @@ found_itself (first ∷ extracts) staged up has =
     let (before, rest) = and_parts (list_all (nat_lt first.feed) (map (λ staged. staged.feed) extracts)) (ascends (map (λ staged. staged.feed) extracts)) up in
     elim (Contains-cons_cases first extracts staged has) [
       | inl same ↦
-          let is : (first.feed == staged.feed) ≡ true = ap (λ (s : Staged). first.feed == s.feed) (sym same) ∙ itself first.feed in
+          let is : (first.feed == staged.feed) ≡ true = ap (λ (s : Staged). first.feed == s.feed) (sym same) ∙ eq-eqb first.feed first.feed refl in
           rw is (ap Some same)
       | inr more ↦
           let less = passes_at (nat_lt first.feed) (map (λ staged. staged.feed) extracts) staged.feed before (Contains-map (λ (s : Staged). s.feed) extracts staged more) in
@@ -35,9 +35,6 @@ found_itself (first ∷ extracts) staged up has =
           rw isnt (found_itself extracts staged rest more)
     ]
   where
-    itself : (n : ℕ) → (n == n) ≡ true
-    itself n = grind (arith, nat_tests)
-
     other : (a b : ℕ) → nat_lt a b ≡ true → (a == b) ≡ false
     other a b h = grind (arith, nat_tests)
 

@@ -1,10 +1,8 @@
 -- A store that takes batches, one table after the other.
-use Rattle.dv_vault.proofs.Vocabulary.{◌≡◌, ℕ, ◌+◌, ◌≤◌, ◌==◌, Bool, true, false, List, [], ◌∷◌, ◌++◌, Option, Some, None, refl, sym, ◌∙◌, ap, subst, arith, add-one, suc, take, Err, Result, if◌then◌else◌, eqb-true, Window, WindowHead, Rose, Told, TableId, KeeperError, Failed, Rows, Store}
-use Rattle.dv_vault.proofs.Vocabulary.{TableRows, KeeperCause, changed, HasTables, head_of, is_of_kind, row_count, rows_in, with_rows, with_seal, with_stage, IsStagedAt, entries_with, Became, IsOfKind, TakesRows, TakesWindow, TookRows, TookWindow, with_batch}
+use Rattle.dv_vault.proofs.Vocabulary.{same_Some, ◌≡◌, ℕ, ◌+◌, ◌≤◌, ◌==◌, Bool, true, false, List, [], ◌∷◌, ◌++◌, Option, Some, None, refl, sym, ◌∙◌, ap, subst, arith, add-one, suc, take, Err, Result, if◌then◌else◌, eqb-true, Window}
+use Rattle.dv_vault.proofs.Vocabulary.{WindowHead, Told, TableId, KeeperError, Failed, Rows, Store, TableRows, KeeperCause, changed, HasTables, head_of, is_of_kind, row_count, rows_in, with_rows, with_seal, with_stage, IsStagedAt}
+use Rattle.dv_vault.proofs.Vocabulary.{entries_with, Became, IsOfKind, TakesRows, TakesWindow, TookRows, TookWindow, with_batch}
 use Rattle.dv_vault.proofs.BatchSteps.{AtPlace, no_more, nothing_then, rows_stay}
-
-same_some : (a b : Store) → Some a ≡ Some b → a ≡ b
-same_some a b e = cc
 
 -- a change behind what a store became
 pub became_changed : (change : Store → Store) (R S : Store → Store → Type 0) → ((was now : Store) → R was now → S was (change now))
@@ -12,7 +10,7 @@ pub became_changed : (change : Store → Store) (R S : Store → Store → Type 
 became_changed change R S step before None after is b next e = cc
 became_changed change R S step before (Some m) after is b next e =
     let (was, at, r) = b m refl in
-    (was, at, subst (S was) (same_some (change m) next (sym is ∙ e)) (step was m r))
+    (was, at, subst (S was) (same_Some (change m) next (sym is ∙ e)) (step was m r))
 
 -- what a store became, and then became
 pub became_then : (R S T : Store → Store → Type 0) → ((a b c : Store) → R a b → S b c → T a c) → (before mid after : Option Store) → Became R before mid → Became S mid after → Became T before after
@@ -51,11 +49,8 @@ module _ (entries : List TableRows) (batches : List Rows) (i : ℕ) (entry : Tab
 
 -- ---- causes
 
-rises : (before mid now : ℕ) → before ≤ mid → Rose mid now → Rose before now
-rises before mid now le rose = omega (arith, le, rose)
-
 pub caused : {T U : Type 0} (before mid now : ℕ) (r : Result T KeeperError) (r' : Result U KeeperError) → before ≤ mid → KeeperCause mid now r → (r' ≡ Err Failed → r ≡ Err Failed) → KeeperCause before now r'
-caused before mid now r r' le cause same = record { later = omega (arith, le, cause.later); failed = λ e. rises before mid now le (cause.failed (same e)) }
+caused before mid now r r' le cause same = record { later = omega (arith, le, cause.later); failed = λ e. let rose = cause.failed (same e) in omega (arith, le, rose) }
 
 -- ---- a window
 

@@ -1,27 +1,38 @@
--- What the tables of feeds ask of a window, and what they get.
-use Rattle.dv_vault.proofs.Vocabulary.{◌≡◌, ℕ, ◌==◌, true, List, Option, Some, None, ap, sym, list_all, option_map, eqb-true, NRow, Staged, Window, Mapping, is_valid, attrs_fit, refs_fit, Rows, extract_of, is_window, found_member, staged_of, Bor, IfSome}
-use Rattle.dv_vault.proofs.WindowFacts.{staged_attrs_fit, staged_refs_fit}
+-- What the tables of feeds ask of a window with its hash keys, and what they get.
+use Rattle.dv_vault.proofs.Vocabulary.{◌≡◌, ℕ, ◌==◌, ◌∙◌, true, Option, Some, None, ap, find, sym, list_all, option_map, eqb-true, All-contains, Staged, Mapping, is_valid, attrs_fit, is_window, found_member, staged_of, Bor, Hashes, IfSome}
+use Rattle.dv_vault.proofs.Vocabulary.{HasKeys, Window, extract_at, HashedExtract, HashedWindow, IsHashedWindow}
+use Rattle.dv_vault.proofs.VaultFacts.{find-seen}
+use Rattle.dv_vault.proofs.WindowFacts.{staged_attrs_fit}
 
--- what a window has for a feed, and that its rows fit what they are hashed in
-pub record IsStagedFor (feed : ℕ) (window : Window) (staged : Staged) : Type 0 where
-  pub is_feed : staged.feed ≡ feed
-  pub refs_fit : list_all (λ row. refs_fit row.refs) staged.rows ≡ true
-  pub attrs_fit : list_all (λ row. attrs_fit row.attrs) staged.rows ≡ true
+-- what a window has for a feed: its extract, the hash keys of the rows, and that these fit what they are hashed in
+pub record IsExtractFor (hashes : Hashes) (feed : ℕ) (hashed : HashedWindow) (at : Option (Bor HashedExtract)) : Type 0 where
+  pub found : option_map (λ extract. extract.now.staged.now) at ≡ staged_of feed hashed.window.now
+  pub feed_is : IfSome at (λ extract. extract.now.staged.now.feed ≡ feed)
+  pub keys : IfSome at (λ extract. HasKeys hashes extract.now)
+  pub attrs_fit : IfSome at (λ extract. list_all (λ row. attrs_fit row.attrs) extract.now.staged.now.rows ≡ true)
 
-pub staged_for : (mapping : Mapping) → is_valid mapping ≡ true → (window : Window) → is_window mapping window ≡ true → (feed : ℕ) (staged : Staged) → staged_of feed window ≡ Some staged → IsStagedFor feed window staged
-staged_for mapping valid window whole feed staged found =
-    let (member, test) = found_member (λ (other : Staged). other.feed == feed) window.extracts staged found in
-    record {
-      is_feed = eqb-true _ _ test;
-      refs_fit = staged_refs_fit mapping valid window whole staged member;
-      attrs_fit = staged_attrs_fit mapping valid window whole staged member;
-    }
+pub extract_facts : (mapping : Mapping) → is_valid mapping ≡ true → (hashes : Hashes) (hashed : HashedWindow) → is_window mapping hashed.window.now ≡ true → IsHashedWindow hashes hashed
+    → (feed : ℕ) (found : Option (Bor HashedExtract)) → option_map (λ extract. extract.now) found ≡ find (λ extract. extract.staged.now.feed == feed) hashed.extracts → IsExtractFor hashes feed hashed found
+extract_facts mapping valid hashes hashed whole gathered feed found is = by found is
+  where
+    staged_is : staged_of feed hashed.window.now ≡ option_map (λ extract. extract.staged.now) (find (λ extract. extract.staged.now.feed == feed) hashed.extracts)
+    staged_is = ap (find (λ staged. staged.feed == feed)) (sym gathered.extracts_are) ∙ sym (find-seen (λ (extract : HashedExtract). extract.staged.now) (λ (staged : Staged). staged.feed == feed) hashed.extracts)
 
-pub staged_facts : (mapping : Mapping) → is_valid mapping ≡ true → (window : Window) → is_window mapping window ≡ true → (feed : ℕ) (found : Option (Bor Staged))
-    → option_map (λ staged. staged.now) found ≡ staged_of feed window
-    → IfSome found (λ staged. staged.now.feed ≡ feed) × IfSome found (λ staged. list_all (λ row. refs_fit row.refs) staged.now.rows ≡ true)
-    × IfSome found (λ staged. list_all (λ row. attrs_fit row.attrs) staged.now.rows ≡ true)
-staged_facts mapping valid window whole feed None found = (tt, tt, tt)
-staged_facts mapping valid window whole feed (Some staged) found =
-    let facts = staged_for mapping valid window whole feed staged.now (sym found) in
-    (facts.is_feed, facts.refs_fit, facts.attrs_fit)
+    by : (found : Option (Bor HashedExtract)) → option_map (λ extract. extract.now) found ≡ find (λ extract. extract.staged.now.feed == feed) hashed.extracts → IsExtractFor hashes feed hashed found
+    by None is = record { found = sym (staged_is ∙ ap (option_map (λ (extract : HashedExtract). extract.staged.now)) (sym is)); feed_is = tt; keys = tt; attrs_fit = tt }
+    by (Some extract) is =
+        let same : staged_of feed hashed.window.now ≡ Some extract.now.staged.now = staged_is ∙ ap (option_map (λ (extract : HashedExtract). extract.staged.now)) (sym is) in
+        let (member, test) = found_member (λ (other : HashedExtract). other.staged.now.feed == feed) hashed.extracts extract.now (sym is) in
+        let (staged_in, _) = found_member (λ (other : Staged). other.feed == feed) hashed.window.now.extracts extract.now.staged.now same in
+        record {
+          found = sym same;
+          feed_is = eqb-true _ _ test;
+          keys = All-contains (HasKeys hashes) hashed.extracts extract.now gathered.have_keys member;
+          attrs_fit = staged_attrs_fit mapping valid hashed.window.now whole extract.now.staged.now staged_in;
+        }
+
+-- the extract of a feed in a window, read from the window's rows or from those with their keys
+pub same_extract : (window : Window) (feed : ℕ) (found : Option (Bor HashedExtract)) → option_map (λ extract. extract.now.staged.now) found ≡ staged_of feed window
+    → option_map (λ extract. extract_at window.load extract.now.staged.now) found ≡ option_map (extract_at window.load) (staged_of feed window)
+same_extract window feed None is = ap (option_map (extract_at window.load)) is
+same_extract window feed (Some extract) is = ap (option_map (extract_at window.load)) is

@@ -1,6 +1,7 @@
 -- No raw table stands twice among the tables of a mapping.
-use Rattle.dv_vault.proofs.Vocabulary.{◌≡◌, ℕ, zero, suc, ◌+◌, ◌<◌, ◌==◌, Bool, true, false, not, ◌&&◌, List, [], ◌∷◌, ◌++◌, refl, sym, ◌∙◌, ap, arith, length, map, nat_lt, ◌||◌, list_all, list_any, range_with_len, and_from, and_parts, false≢true, nat_tests, list_any-append, FeedDef, TableId}
-use Rattle.dv_vault.proofs.Vocabulary.{Mapping, effect_tables, feed_tables, sat_tables, tables, TableRows, are_apart, table_eq, IsVaultOf, is_hub, is_link, same_table, all_pass_both}
+use Rattle.dv_vault.proofs.Vocabulary.{list_all-map, all_pass, none_pass, same_answer, passes_at, not-true, list_any-map, ◌≡◌, ℕ, zero, suc, ◌+◌, ◌<◌, ◌==◌, Bool, true, false, not, ◌&&◌, List, [], ◌∷◌, ◌++◌, refl, sym, ◌∙◌, ap, arith}
+use Rattle.dv_vault.proofs.Vocabulary.{length, map, nat_lt, ◌||◌, list_all, list_any, range_with_len, and_from, and_parts, false≢true, nat_tests, list_any-append, FeedDef, TableId, Mapping, effect_tables, feed_tables, sat_tables, tables}
+use Rattle.dv_vault.proofs.Vocabulary.{TableRows, are_apart, table_eq, IsVaultOf, is_hub, is_link, same_table, all_pass_both}
 use Rattle.dv_catalog.specs.declared.tables.TableId.TheVariants as ids
 
 -- no two tables are one
@@ -12,18 +13,8 @@ are_distinct (id ∷ ids) = not (list_any (λ other. table_eq other id) ids) && 
 
 -- a table that fails the test is none of those that pass it
 none_is : (test : TableId → Bool) (id : TableId) (all : List TableId) → test id ≡ false → list_all test all ≡ true → list_any (λ other. table_eq other id) all ≡ false
-none_is test id [] fails pass = refl
-none_is test id (other ∷ all) fails pass =
-    let (here, behind) = and_parts (test other) (list_all test all) pass in
-    by (table_eq other id) refl here (none_is test id all fails behind)
-  where
-    by : (b : Bool) → table_eq other id ≡ b → test other ≡ true → list_any (λ other. table_eq other id) all ≡ false → (b || list_any (λ other. table_eq other id) all) ≡ false
-    by true is here behind = absurd (false≢true (sym fails ∙ ap test (sym (same_table other id is)) ∙ here))
-    by false is here behind = behind
-
-fails_where_not : (b : Bool) → not b ≡ true → b ≡ false
-fails_where_not true e = absurd (false≢true e)
-fails_where_not false e = refl
+none_is test id all fails pass = none_pass (λ other. table_eq other id) all (λ other has.
+    same_answer _ false (λ t. sym fails ∙ ap test (sym (same_table other id t)) ∙ passes_at test all other pass has) (λ no. absurd (false≢true no)))
 
 distinct_both : (test : TableId → Bool) (first second : List TableId) → are_distinct first ≡ true → are_distinct second ≡ true → list_all (λ id. not (test id)) first ≡ true → list_all test second ≡ true
     → are_distinct (first ++ second) ≡ true
@@ -33,10 +24,14 @@ distinct_both test (id ∷ first) second apart others fail pass =
     let (here, behind) = and_parts (not (test id)) (list_all (λ id. not (test id)) first) fail in
     let none : list_any (λ other. table_eq other id) (first ++ second) ≡ false =
     list_any-append (λ other. table_eq other id) first second
-    ∙ (λ i. fails_where_not (list_any (λ other. table_eq other id) first) alone i || none_is test id second (fails_where_not (test id) here) pass i) in
+    ∙ (λ i. not-true (list_any (λ other. table_eq other id) first) alone i || none_is test id second (not-true (test id) here) pass i) in
     and_from _ _ (ap not none) (distinct_both test first second rest others behind pass)
 
 -- ---- hubs and links
+
+-- a test that a kind of table passes
+pub all_numbers : (kind : ℕ → TableId) (test : TableId → Bool) → ((n : ℕ) → test (kind n) ≡ true) → (places : List ℕ) → list_all test (map kind places) ≡ true
+all_numbers kind test each places = list_all-map test kind places ∙ all_pass (λ n. test (kind n)) places (λ n has. each n)
 
 module _ (kind : ℕ → TableId) (told : (m n : ℕ) → table_eq (kind m) (kind n) ≡ (m == n)) where
   none_later : (n start count : ℕ) → n < start → list_any (λ other. table_eq other (kind n)) (map kind (range_with_len start count)) ≡ false
@@ -48,10 +43,6 @@ module _ (kind : ℕ → TableId) (told : (m n : ℕ) → table_eq (kind m) (kin
   numbers_distinct : (start count : ℕ) → are_distinct (map kind (range_with_len start count)) ≡ true
   numbers_distinct start zero = refl
   numbers_distinct start (suc count) = and_from _ _ (ap not (none_later start (start + 1) count (omega arith))) (numbers_distinct (start + 1) count)
-
-  all_numbers : (test : TableId → Bool) → ((n : ℕ) → test (kind n) ≡ true) → (places : List ℕ) → list_all test (map kind places) ≡ true
-  all_numbers test each [] = refl
-  all_numbers test each (n ∷ places) = and_from _ _ (each n) (all_numbers test each places)
 
 -- ---- feeds
 
@@ -131,21 +122,19 @@ tables_distinct mapping =
     (distinct_both is_link hubs links
     (numbers_distinct (λ n. ids.Hub n) (λ m n. refl) 0 (length mapping.hubs))
     (numbers_distinct (λ n. ids.Link n) (λ m n. refl) 0 (length mapping.links))
-    (all_numbers (λ n. ids.Hub n) (λ m n. refl) (λ id. not (is_link id)) (λ n. refl) (range_with_len 0 (length mapping.hubs)))
-    (all_numbers (λ n. ids.Link n) (λ m n. refl) is_link (λ n. refl) (range_with_len 0 (length mapping.links))))
+    (all_numbers (λ n. ids.Hub n) (λ id. not (is_link id)) (λ n. refl) (range_with_len 0 (length mapping.hubs)))
+    (all_numbers (λ n. ids.Link n) is_link (λ n. refl) (range_with_len 0 (length mapping.links))))
     (feeds_distinct 0 mapping.feeds)
     (all_pass_both (λ id. not (of_feeds id)) hubs links
-    (all_numbers (λ n. ids.Hub n) (λ m n. refl) (λ id. not (of_feeds id)) (λ n. refl) (range_with_len 0 (length mapping.hubs)))
-    (all_numbers (λ n. ids.Link n) (λ m n. refl) (λ id. not (of_feeds id)) (λ n. refl) (range_with_len 0 (length mapping.links))))
+    (all_numbers (λ n. ids.Hub n) (λ id. not (of_feeds id)) (λ n. refl) (range_with_len 0 (length mapping.hubs)))
+    (all_numbers (λ n. ids.Link n) (λ id. not (of_feeds id)) (λ n. refl) (range_with_len 0 (length mapping.links))))
     (are_of_feeds 0 mapping.feeds)
-
-any_seen : (id : TableId) (entries : List TableRows) → list_any (λ other. table_eq other.table id) entries ≡ list_any (λ other. table_eq other id) (map (λ entry. entry.table) entries)
-any_seen id [] = refl
-any_seen id (entry ∷ entries) = ap (λ b. table_eq entry.table id || b) (any_seen id entries)
 
 by_tables : (entries : List TableRows) → are_apart entries ≡ are_distinct (map (λ entry. entry.table) entries)
 by_tables [] = refl
-by_tables (entry ∷ entries) = λ i. not (any_seen entry.table entries i) && by_tables entries i
+by_tables (entry ∷ entries) =
+    let here = sym (list_any-map (λ other. table_eq other entry.table) (λ (entry : TableRows). entry.table) entries) in
+    λ i. not (here i) && by_tables entries i
 
 -- the tables of a vault are apart
 pub vault_apart : (mapping : Mapping) (entries : List TableRows) → IsVaultOf mapping entries → are_apart entries ≡ true

@@ -1,10 +1,12 @@
 -- What a vault keeps to with an addition, and what it weighs then.
-use Rattle.dv_vault.proofs.Vocabulary.{◌≡◌, ℕ, ◌+◌, ◌-◌, ◌<◌, ◌≤◌, ◌==◌, Bool, true, false, List, [], ◌∷◌, ◌++◌, Option, Some, None, refl, sym, ◌∙◌, ap, subst, arith, length, map, nat_le, nat_lt, slice_get, All, Err, Ok, OnOk, Result, Vec, if◌then◌else◌, is_ok, sum_by, AllZip, list_all}
-use Rattle.dv_vault.proofs.Vocabulary.{option_map, option_map_or, with_items, and_from, and_parts, eqb-true, nat_tests, length-append, with_items_is, All-head, All-tail, list_all-append, sum_by-cons, slice_get_within, Staged, WindowHead, Rule, Mapping, Rows, Hubs, Links, Sats, Multis, Statuses}
-use Rattle.dv_vault.proofs.Vocabulary.{Effects, Pits, Bridges, TableRows, late_after, head_of, is_staged, row_count, rows_then, rows_weight, tables_weight, rows_add_up, Addition, Table, Fits, AreOfKinds, IsOfKind, Follow, IsVaultOf, RawVault, are_empty, are_heads_of, are_rows_kept, entries_with}
-use Rattle.dv_vault.proofs.Vocabulary.{entry_of, last_head, all_up_to-later, all_up_to-none, up_to-then, staged_rows, window_parts, AreOfLoad, are_up_to, is_up_to}
+use Rattle.dv_vault.proofs.Vocabulary.{ltb-true, list_all-map, all_pass_weaker, lt-ltb, ◌≡◌, ℕ, ◌+◌, ◌-◌, true, List, [], ◌∷◌, ◌++◌, Option, Some, None, refl, sym, ◌∙◌, ap, subst, arith, length, map, nat_lt, slice_get, All, Err, Ok, OnOk}
+use Rattle.dv_vault.proofs.Vocabulary.{Result, Vec, is_ok, sum_by, AllZip, list_all, option_map, option_map_or, with_items, and_from, and_parts, length-append, with_items_is, map-map, All-head, All-tail, list_all-append, sum_by-cons}
+use Rattle.dv_vault.proofs.Vocabulary.{slice_get_within, Staged, WindowHead, Mapping, Rows, Hubs, Links, Sats, Statuses, TableRows, late_after, head_of, is_staged, rows_then, rows_weight, tables_weight, rows_add_up, Addition, Table, Fits}
+use Rattle.dv_vault.proofs.Vocabulary.{AreOfKinds, IsOfKind, Follow, IsVaultOf, RawVault, are_empty, are_heads_of, are_rows_kept, entries_with, entry_of, last_head, all_up_to-later, all_up_to-none, up_to-then, staged_rows, window_parts}
+use Rattle.dv_vault.proofs.Vocabulary.{AreOfLoad, are_up_to, is_up_to}
 use Rattle.dv_records.specs.declared.stores.Rows.TheVariants as of
 use Rattle.dv_vault.specs.declared.tables.Table.TheVariants as table
+use Rattle.dv_vault.proofs.Afterwards.{later_than_last}
 
 -- ---- batches that follow the rows of tables are of their kinds
 
@@ -24,27 +26,19 @@ all_kinds (t ∷ tables) (rows ∷ batches) all = (of_kind t rows all.0, all_kin
 pub kinds : (entries : List TableRows) (batches : List Rows) (tables : List Table) → entries ≡ map entry_of tables → AllZip Follow (map (λ entry. entry.rows) entries) batches → AreOfKinds (map entry_of tables) batches
 kinds entries batches tables is follow = all_kinds tables batches (subst (λ (entries : List TableRows). AllZip Follow (map (λ entry. entry.rows) entries) batches) is follow)
 
-seen_twice : (tables : List Table) → map (λ (entry : TableRows). entry.rows) (map entry_of tables) ≡ map (λ t. (entry_of t).rows) tables
-seen_twice [] = refl
-seen_twice (t ∷ tables) = ap (λ (rest : List Rows). (entry_of t).rows ∷ rest) (seen_twice tables)
-
 pub follows : (entries : List TableRows) (batches : List Rows) (tables : List Table) → entries ≡ map entry_of tables → AllZip Follow (map (λ entry. entry.rows) entries) batches
     → AllZip Follow (map (λ t. (entry_of t).rows) tables) batches
 follows entries batches tables is follow =
-    subst (λ (all : List Rows). AllZip Follow all batches) (ap (map (λ (entry : TableRows). entry.rows)) is ∙ seen_twice tables) follow
+    subst (λ (all : List Rows). AllZip Follow all batches) (ap (map (λ (entry : TableRows). entry.rows)) is ∙ map-map (λ (entry : TableRows). entry.rows) entry_of tables) follow
 
 -- ---- the rows of the vault are no later
 
 pub rows_not_later : (heads : List WindowHead) (tables : List TableRows) (load : ℕ) → are_rows_kept heads tables ≡ true → late_after (last_head heads) load ≡ None → are_up_to load tables ≡ true
 rows_not_later heads tables load kept late = by (last_head heads) kept late
   where
-    passed : (last : ℕ) (b : Bool) → nat_le load last ≡ b → (if b then Some (Rule.Late last) else None) ≡ None → last ≤ load
-    passed last true t h = cc
-    passed last false t h = grind (arith, nat_tests, t)
-
     by : (last : Option ℕ) → option_map_or (λ last. are_up_to last tables) last (are_empty tables) ≡ true → late_after last load ≡ None → are_up_to load tables ≡ true
     by None empty e = all_up_to-none load tables empty
-    by (Some last) up e = all_up_to-later last load tables (passed last (nat_le load last) refl e) up
+    by (Some last) up e = let after = ltb-true last load (later_than_last last load e) in all_up_to-later last load tables (omega (arith, after)) up
 
 up_with : (load : ℕ) (entries : List TableRows) (batches : List Rows) → are_up_to load entries ≡ true → All (AreOfLoad load) batches → are_up_to load (entries_with entries batches) ≡ true
 up_with load [] batches up all = refl
@@ -69,15 +63,11 @@ last_pushed heads head =
 
 -- the feeds of a window are in the mapping
 feeds_there : (mapping : Mapping) (extracts : List Staged) → list_all (is_staged mapping) extracts ≡ true → list_all (λ feed. nat_lt feed (length mapping.feeds)) (map (λ staged. staged.feed) extracts) ≡ true
-feeds_there mapping [] all = refl
-feeds_there mapping (staged ∷ extracts) all =
-    let (here, behind) = and_parts (is_staged mapping staged) (list_all (is_staged mapping) extracts) all in
+feeds_there mapping extracts all =
+    list_all-map (λ feed. nat_lt feed (length mapping.feeds)) (λ (staged : Staged). staged.feed) extracts
+    ∙ all_pass_weaker (is_staged mapping) (λ (staged : Staged). nat_lt staged.feed (length mapping.feeds)) (λ staged here.
     let (definition, at, are) = staged_rows mapping staged here in
-    let within : staged.feed < length mapping.feeds = slice_get_within mapping.feeds staged.feed definition at in
-    and_from _ _ (under staged.feed (length mapping.feeds) within) (feeds_there mapping extracts behind)
-  where
-    under : (a b : ℕ) → a < b → nat_lt a b ≡ true
-    under a b less = grind (arith, nat_tests, less)
+    lt-ltb staged.feed (length mapping.feeds) (slice_get_within mapping.feeds staged.feed definition at)) extracts all
 
 -- ---- what an office keeps to
 

@@ -1,9 +1,9 @@
 -- A table of a vault whose lists clash is the hub or the link in which windows collide, and without a clash they don't.
-use Rattle.dv_vault.proofs.Vocabulary.{Contains, All, List, None, Option, Some, [], ap, length, map, nat_le, refl, reverse, subst, sym, true, ℕ, ◌++◌, ◌∙◌, ◌∷◌, ◌≡◌, and_parts, list_all, range_with_len, option_map, option_or, is_none, HasNoClash, IsLeastClash, Hashed, HubName, Contains-cons_here}
-use Rattle.dv_vault.proofs.Vocabulary.{Contains-nil, map_member, All-head, All-tail, Contains-append_right, All-cons, All-nil, Hashes, ascends, is_window, are_windows_valid, table_entry, vault, table_of, Mapping, feed_tables, tables, is_valid, map-append, reverse-append, reverse-reverse, Parent}
-use Rattle.dv_vault.proofs.Vocabulary.{Hub, Link, TableId, TableRows, Window, AreApart, AreApartBy, IsFirstClash, HasSealed, RawVault, hashed_in, hub_names, Pair, collision, collision_in, first_collision, parents, none_from, vault_weight, TellLists, collision_free, none_collide}
+use Rattle.dv_vault.proofs.Vocabulary.{Contains, All, List, None, Option, Some, [], ap, length, map, nat_le, refl, reverse, subst, sym, true, ◌++◌, ◌∙◌, ◌∷◌, ◌≡◌, and_parts, list_all, range_with_len, option_map, option_or, is_none}
+use Rattle.dv_vault.proofs.Vocabulary.{HasNoClash, IsLeastClash, Hashed, HubName, Contains-cons_here, Contains-nil, map_member, All-head, All-tail, Contains-append_right, All-cons, All-nil, Hashes, ascends, is_window, are_windows_valid}
+use Rattle.dv_vault.proofs.Vocabulary.{table_entry, vault, table_of, Mapping, feed_tables, tables, is_valid, map-append, map-map, reverse-append, reverse-reverse, Parent, Hub, Link, TableId, TableRows, Window, AreApart, AreApartBy}
+use Rattle.dv_vault.proofs.Vocabulary.{IsFirstClash, HasSealed, RawVault, hashed_in, hub_names, Pair, collision, collision_in, first_collision, parents, none_from, vault_weight, TellLists, collision_free, none_collide}
 use Rattle.dv_vault.proofs.Vocabulary.{next_least as hub_least, next_none as hub_none, hub_apart}
-use Rattle.dv_catalog.specs.declared.tables.TableId.TheVariants as ids
 use Rattle.dv_keys.proofs.LinkWindows.{next_least as link_least, next_none as link_none}
 use Rattle.dv_vault.proofs.FeedLists.{reversed_whole}
 use Rattle.dv_vault.proofs.FeedTables.{of_feeds}
@@ -17,20 +17,12 @@ turned_back sealed window =
 
 -- ---- the hubs and the links come first among the tables
 
-hubs_first : (ns : List ℕ) → map table_of (map (λ n. Hub n) ns) ≡ map (λ n. ids.Hub n) ns
-hubs_first [] = refl
-hubs_first (n ∷ ns) = ap (λ rest. ids.Hub n ∷ rest) (hubs_first ns)
-
-links_next : (ns : List ℕ) → map table_of (map (λ n. Link n) ns) ≡ map (λ n. ids.Link n) ns
-links_next [] = refl
-links_next (n ∷ ns) = ap (λ rest. ids.Link n ∷ rest) (links_next ns)
-
 pub parents_first : (mapping : Mapping) → tables mapping ≡ map table_of (parents mapping) ++ feed_tables 0 mapping.feeds
 parents_first mapping =
     let hubs = range_with_len 0 (length mapping.hubs) in
     let links = range_with_len 0 (length mapping.links) in
     ap (λ all. all ++ feed_tables 0 mapping.feeds)
-    (sym (map-append table_of (map (λ n. Hub n) hubs) (map (λ n. Link n) links) ∙ (λ i. hubs_first hubs i ++ links_next links i)))
+    (sym (map-append table_of (map (λ n. Hub n) hubs) (map (λ n. Link n) links) ∙ (λ i. map-map table_of (λ n. Hub n) hubs i ++ map-map table_of (λ n. Link n) links i)))
 
 -- what valid windows keep to
 pub record SealedParts (mapping : Mapping) (hashes : Hashes) (sealed : List Window) : Type 0 where
@@ -70,11 +62,9 @@ module _ (mapping : Mapping) (hashes : Hashes) (sealed : List Window) (window : 
 
   -- the tables of the vault: those of the hubs and the links, and those of the feeds
   split_vault : vault mapping hashes sealed ≡ map (λ parent. entry_at (table_of parent)) (parents mapping) ++ map entry_at (feed_tables 0 mapping.feeds)
-  split_vault = ap (map entry_at) (parents_first mapping) ∙ map-append entry_at (map table_of (parents mapping)) (feed_tables 0 mapping.feeds) ∙ ap (λ all. all ++ map entry_at (feed_tables 0 mapping.feeds)) (twice (parents mapping))
-    where
-      twice : (all : List Parent) → map entry_at (map table_of all) ≡ map (λ parent. entry_at (table_of parent)) all
-      twice [] = refl
-      twice (parent ∷ all) = ap (λ rest. entry_at (table_of parent) ∷ rest) (twice all)
+  split_vault =
+      ap (map entry_at) (parents_first mapping)
+      ∙ map-append entry_at (map table_of (parents mapping)) (feed_tables 0 mapping.feeds) ∙ ap (λ all. all ++ map entry_at (feed_tables 0 mapping.feeds)) (map-map entry_at table_of (parents mapping))
 
   bare_rest : (entry : TableRows) → Contains (map entry_at (feed_tables 0 mapping.feeds)) entry → lists_in entry ≡ []
   bare_rest entry has =

@@ -1,6 +1,7 @@
 -- Where the rows of a table stand among the tables of a vault.
-use Rattle.dv_vault.proofs.Vocabulary.{◌≡◌, ◌⊎◌, ℕ, ◌<◌, inl, inr, Bool, true, false, List, [], ◌∷◌, Option, Some, None, Bor, refl, sym, ◌∙◌, ap, subst, length, map, eq-eqb, ◌||◌, Contains, IfNone, IfSome, find, if◌then◌else◌, slice_get, option_map, eqb-true, false≢true, FeedDef, TableId}
-use Rattle.dv_vault.proofs.Vocabulary.{Mapping, tables, Indexed, Rows, TableRows, no_rows, rows_in, table_eq, found_member, some_passes, some_passes_at, Contains-map, map_member, has_hub, has_link, has_status, same_table, IsVaultOf, has_table}
+use Rattle.dv_vault.proofs.Vocabulary.{got_from, none_found_at, none_pass, table_eq-itself, ◌≡◌, ℕ, ◌<◌, Bool, true, false, List, [], ◌∷◌, Option, Some, None, Bor, refl, sym, ◌∙◌, ap, subst, length, map, ◌||◌, Contains, IfNone, IfSome}
+use Rattle.dv_vault.proofs.Vocabulary.{find, if◌then◌else◌, option_map, false≢true, TableId, Mapping, tables, Indexed, Rows, TableRows, no_rows, rows_in, table_eq, found_member, some_passes, some_passes_at, Contains-map, map_member}
+use Rattle.dv_vault.proofs.Vocabulary.{has_hub, has_link, has_status, same_table, IsVaultOf, has_table}
 use Rattle.dv_catalog.specs.declared.tables.TableId.TheVariants as ids
 
 pub found_rows : (id : TableId) (entries : List TableRows) (entry : TableRows) → find (λ other. table_eq other.table id) entries ≡ Some entry → rows_in id entries ≡ entry.rows
@@ -13,13 +14,7 @@ found_rows id (first ∷ entries) entry e = by (table_eq first.table id) (found_
     by false later e = later e
 
 pub found_none : (id : TableId) (entries : List TableRows) → find (λ other. table_eq other.table id) entries ≡ None → has_table id entries ≡ false
-found_none id [] e = refl
-found_none id (first ∷ entries) e = by (table_eq first.table id) (found_none id entries) e
-  where
-    by : (b : Bool) → (find (λ other. table_eq other.table id) entries ≡ None → has_table id entries ≡ false)
-        → (if b then Some first else find (λ other. table_eq other.table id) entries) ≡ None → (b || has_table id entries) ≡ false
-    by true later e = cc
-    by false later e = later e
+found_none id entries e = none_pass (λ (other : TableRows). table_eq other.table id) entries (λ entry has. none_found_at (λ (other : TableRows). table_eq other.table id) entries entry e has)
 
 pub found_table : (id : TableId) (entries : List TableRows) (entry : TableRows) → find (λ other. table_eq other.table id) entries ≡ Some entry → entry.table ≡ id
 found_table id entries entry e = same_table entry.table id (found_member (λ (other : TableRows). table_eq other.table id) entries entry e).1
@@ -78,18 +73,10 @@ absent_rows id (first ∷ entries) e = by (table_eq first.table id) (absent_rows
 
 -- ---- the tables of a mapping
 
-pub table_itself : (id : TableId) → table_eq id id ≡ true
-table_itself (ids.Hub n) = eq-eqb n n refl
-table_itself (ids.Link n) = eq-eqb n n refl
-table_itself (ids.Sat n) = eq-eqb n n refl
-table_itself (ids.Multi n) = eq-eqb n n refl
-table_itself (ids.Status n) = eq-eqb n n refl
-table_itself (ids.Effect n) = eq-eqb n n refl
-
 has_among : (id : TableId) (entries : List TableRows) → Contains (map (λ (entry : TableRows). entry.table) entries) id → has_table id entries ≡ true
 has_among id entries has =
     let (entry, member, is) = map_member (λ (entry : TableRows). entry.table) entries id has in
-    some_passes_at (λ (other : TableRows). table_eq other.table id) entries entry member (ap (λ table. table_eq table id) is ∙ table_itself id)
+    some_passes_at (λ (other : TableRows). table_eq other.table id) entries entry member (ap (λ table. table_eq table id) is ∙ table_eq-itself id)
 
 among_has : (id : TableId) (entries : List TableRows) → has_table id entries ≡ true → Contains (map (λ (entry : TableRows). entry.table) entries) id
 among_has id entries has =
@@ -116,5 +103,5 @@ module _ (mapping : Mapping) (entries : List TableRows) (is : IsVaultOf mapping 
   pub link_there : (link : ℕ) → link < length mapping.links → has_table (ids.Link link) entries ≡ true
   link_there link under = vault_has (ids.Link link) (has_link mapping link under)
 
-  pub status_there : (feed : ℕ) (definition : FeedDef) → slice_get mapping.feeds feed ≡ Some definition → has_table (ids.Status feed) entries ≡ true
-  status_there feed definition got = vault_has (ids.Status feed) (has_status mapping feed definition got)
+  pub status_there : (feed : ℕ) → feed < length mapping.feeds → has_table (ids.Status feed) entries ≡ true
+  status_there feed under = let (definition, got) = got_from mapping.feeds feed under in vault_has (ids.Status feed) (has_status mapping feed definition got)

@@ -80,7 +80,14 @@ pub use Rattle.dv_text.specs.declared.rows.Window.{Window}
 pub use Rattle.dv_text.specs.declared.rows.WindowHead.{WindowHead}
 pub use Rattle.dv_vault.specs.Additions.{AreApart, AreApartBy, ClashesAt, Fits, FollowAll, IsAddition, IsFirstClash, all_added, fault_at, raw_with, weight_with}
 pub use Rattle.dv_vault.specs.Keeping.{AreOfKinds, Became, HaveRoom, IsOfKind, TakesRows, TakesWindow, TookRows, TookWindow, with_batch}
-pub use Rattle.dv_vault.specs.Offered.{Offered, all_offered, delivery_to, kept, offer_cmp, offered_by, single_keys, stands_at}
+pub use Rattle.dv_vault.specs.HashedWindows.{IsHashedWindow}
+pub use Rattle.dv_vault.specs.Offered.{IsKeyOf, Offered, all_offered, delivery_to, hashed_as, kept, key_told, offer_cmp, offered_by, single_keys, stands_at, told_by}
+pub use Rattle.dv_vault.specs.declared.hashed_windows.HashedWindow.{HashedWindow}
+pub use Rattle.dv_digest.specs.declared.hashed_extracts.HashedExtract.{HashedExtract}
+pub use Rattle.dv_digest.specs.HashedExtracts.{HasKeys}
+pub use Rattle.dv_records.specs.declared.deliveries.HashedDelivery.{HashedDelivery}
+pub use Rattle.dv_records.specs.Deltas.{AreHashed, delivered}
+pub use Rattle.std.proofs.lemmas.Simd.{map-map}
 pub use Rattle.dv_vault.specs.Vaults.{Follow, HasSealed, IsBuilt, IsVaultOf, RawVault, added_to, are_empty, are_heads_of, are_rows_kept, entries_of, entries_with, entry_of, has_table, hashed_in, hub_names, hubs_in, is_hub, is_kept, is_link, is_parent, is_sat, is_status, last_head, names_of_hub}
 pub use Rattle.dv_vault.specs.Vaults.{names_of_hubs, names_of_rows, rows_of_hubs, spare_of, staged_of}
 pub use Rattle.dv_vault.specs.declared.additions.Addition.{Addition}
@@ -90,8 +97,8 @@ pub use Rattle.dv_vault.specs.declared.tables.Table.{Table}
 pub use Rattle.std.proofs.Common.{add-one, drop-cons}
 pub use Rattle.std.proofs.Math.ListN.{get_or-map}
 pub use Rattle.std.proofs.Math.Seq.{map-set_same}
-pub use Rattle.std.proofs.lemmas.List.{drop-set-lt, reverse-reverse, take_more_set, with_items_is}
-pub use Rattle.std.proofs.lemmas.List.Elements.{All-append, filter-append}
+pub use Rattle.std.proofs.lemmas.List.{drop-set-lt, flat_map_more, reverse-reverse, take_more_set, with_items_is}
+pub use Rattle.std.proofs.lemmas.List.Elements.{All-append, All-push, Contains-get_or, filter-append}
 pub use Rattle.std.proofs.lemmas.List.Folds.{fold-map, list_any-append}
 pub use Rattle.std.proofs.lemmas.Option.{slice_get_past}
 pub use Rattle.std.proofs.lemmas.Slice.Zip.{AllZip-long}
@@ -103,3 +110,14 @@ pub use Rattle.std.specs.Vec.{with_items}
 pub use Rattle.std.specs.Vec.Iter.{into_iter_items, into_iter_len}
 pub use Rattle.std.specs.declared.cmp.Ordering.{Ordering}
 pub use Rattle.std.specs.declared.cmp.Ordering.TheVariants.{Less}
+pub use Rattle.dv_records.specs.RawTables.{extract_at}
+pub use Rattle.dv_track.specs.FeedTables.{statuses_added}
+pub use Rattle.dv_text.proofs.Options.{drop_got, got_from, one_value, option_or-none}
+pub use Rattle.dv_text.proofs.Passing.{list_any-map, none_found_at, none_pass, none_passes, same_answer}
+pub use Rattle.std.proofs.lemmas.Bool.{lt-ltb, ltb-true, not-true}
+pub use Rattle.std.proofs.lemmas.List.{map-id, nil_from_length, take_all}
+pub use Rattle.dv_records.proofs.WellFormedTables.{table_eq-itself}
+pub use Rattle.std.proofs.lemmas.List.FromFn.{get_or-map-range_with_len, length-range_with_len}
+pub use Rattle.dv_text.proofs.Members.{filter_map_more}
+pub use Rattle.dv_keys.proofs.Batches.{filter_map_same}
+pub use Rattle.dv_keys.proofs.KeyDeltas.{map_filter}

@@ -48,10 +48,10 @@ module _ (mapping : Mapping) (valid : is_valid mapping ≡ true) where
       let few : nat_le (length key.parts) 4 ≡ true = le-leb (length key.parts) 4 (omega (arith, parts.shape, few_parts hub)) in
       (ap suc as_many, and_from _ _ (and_from _ _ few parts.short) rest)
 
-  row_refs_fit : (feed : FeedDef) (row : NRow) → HasForm mapping feed row → refs_fit row.refs ≡ true
-  row_refs_fit feed row form =
-      let (as_many, all) = fitting_refs (parent_hubs mapping feed.parent) row.refs form.fits in
-      and_from _ _ (le-leb (length row.refs) 4 (omega (arith, as_many, few_hubs feed.parent))) all
+  pub parent_refs_fit : (parent : Parent) (refs : List Key) → fit_hubs mapping (parent_hubs mapping parent) refs ≡ true → refs_fit refs ≡ true
+  parent_refs_fit parent refs fits =
+      let (as_many, all) = fitting_refs (parent_hubs mapping parent) refs fits in
+      and_from _ _ (le-leb (length refs) 4 (omega (arith, as_many, few_hubs parent))) all
 
   row_attrs_fit : (i : ℕ) (feed : FeedDef) → slice_get mapping.feeds i ≡ Some feed → (row : NRow) → HasForm mapping feed row → attrs_fit row.attrs ≡ true
   row_attrs_fit i feed got row form =
@@ -71,7 +71,7 @@ module _ (mapping : Mapping) (valid : is_valid mapping ≡ true) (window : Windo
   pub staged_refs_fit : list_all (λ row. refs_fit row.refs) staged.rows ≡ true
   staged_refs_fit =
       let (feed, got, are) = rows_of_staged mapping window e staged has in
-      all_pass (λ row. refs_fit row.refs) staged.rows (λ row row_in. row_refs_fit mapping valid feed row (are.forms row row_in))
+      all_pass (λ row. refs_fit row.refs) staged.rows (λ row row_in. parent_refs_fit mapping valid feed.parent row.refs (are.forms row row_in).fits)
 
   pub staged_attrs_fit : list_all (λ row. attrs_fit row.attrs) staged.rows ≡ true
   staged_attrs_fit =

@@ -1,9 +1,7 @@
 -- The tables of a vault with their rows, and what a window adds to each, told from the rows alone.
-use Rattle.std.specs.Prelude.{◌≡◌, ℕ, ◌-◌, ◌==◌, nat_le, nat_lt, Bool, true, false, List, [], ◌∷◌, ◌++◌, Option, None, Some, All, IsTrue, find, length, map, slice_get}
+use Rattle.std.specs.Prelude.{◌≡◌, ℕ, ◌-◌, ◌==◌, nat_lt, Bool, true, false, List, [], ◌∷◌, Option, None, find, length, map, slice_get}
 use Rattle.std.specs.List.{enumerate_from, flat_map, list_all, list_any, range_with_len}
-use Rattle.std.specs.List.Sorted.{IsStrictlySortedBy}
 use Rattle.std.specs.Option.{option_map, option_map_or}
-use Rattle.dv_text.specs.declared.rows.NRow.{NRow}
 use Rattle.dv_text.specs.declared.rows.Staged.{Staged}
 use Rattle.dv_text.specs.declared.rows.Window.{Window}
 use Rattle.dv_text.specs.declared.rows.WindowHead.{WindowHead}
@@ -19,11 +17,11 @@ use Rattle.dv_catalog.specs.Mappings.{is_valid}
 use Rattle.dv_catalog.specs.Tables.{tables}
 use Rattle.dv_records.specs.declared.raw_rows.HubRow.{HubRow}
 use Rattle.dv_records.specs.declared.stores.Rows.{Rows}
-use Rattle.dv_records.specs.declared.stores.Rows.TheVariants.{Hubs, Links, Sats, Multis, Statuses, Effects, Pits, Bridges}
+use Rattle.dv_records.specs.declared.stores.Rows.TheVariants.{Hubs, Links, Sats, Statuses}
 use Rattle.dv_records.specs.declared.stores.TableRows.{TableRows}
 use Rattle.dv_records.specs.Deliveries.{deliveries}
 use Rattle.dv_records.specs.Deltas.{Hashed}
-use Rattle.dv_records.specs.History.{Extract, all_refs, extract_of}
+use Rattle.dv_records.specs.History.{extract_of}
 use Rattle.dv_records.specs.HubNames.{HubName}
 use Rattle.dv_records.specs.ReadBack.{hub_rows_in}
 use Rattle.dv_records.specs.RawTables.{extract_added}

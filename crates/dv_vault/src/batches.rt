@@ -10,14 +10,16 @@ ghost use Rattle.dv_records.specs.States.{is_window};
 ghost use Rattle.dv_records.specs.Stores.{row_count};
 ghost use Rattle.dv_records.specs.Weights.{rows_weight};
 ghost use Rattle.dv_vault.specs.Additions as spec;
+ghost use Rattle.dv_vault.specs.HashedWindows.{IsHashedWindow};
 ghost use Rattle.dv_vault.specs.Vaults.{added_to, entry_of, hashed_in, names_of_hubs};
 
 use crate::additions::{AdditionFault, fault_of};
+use crate::hashed_windows::HashedWindow;
 use crate::hub_keys::HubKeys;
 use crate::tables::Table;
 use dv_catalog::Catalog;
 use dv_records::{Rows, weight};
-use dv_text::{KeyDigest, List, Memory, Window};
+use dv_text::{KeyDigest, List, Memory};
 use std::alloc::Global;
 
 // How many rows there are.
@@ -65,18 +67,19 @@ pub(crate) fn all_deltas<H: KeyDigest>(
     alloc: Global,
     tables: &[Table],
     names: &HubKeys<'_>,
-    window: &Window,
+    window: &HashedWindow<'_>,
     catalog: &Catalog,
     digest: &H,
 ) -> Result<List<Rows>, AdditionFault>
     requires tables { IsTrue (list_all (λ entry. is_table_of catalog.now entry.table) (map entry_of tables.now)) }
-    requires dated { IsTrue (are_up_to window.now.load (map entry_of tables.now)) }
+    requires dated { IsTrue (are_up_to window.now.window.now.load (map entry_of tables.now)) }
     requires valid { IsTrue (is_valid catalog.now) }
-    requires window { IsTrue (is_window catalog.now window.now) }
-    ensures rows { IfOk result (λ batches. batches ≡ map (added_to catalog.now (hashes_of H.digest_of H.size) window.now) (map entry_of tables.now)) }
-    ensures apart { IfOk result (λ batches. All (λ entry. HasNoClash (hashed_in catalog.now (hashes_of H.digest_of H.size) (names_of_hubs names.now) window.now entry)) (map entry_of tables.now)) }
-    ensures follow { IfOk result (spec.FollowAll window.now.load (map entry_of tables.now)) }
-    ensures clashes { IfErr result (spec.ClashesAt catalog.now (hashes_of H.digest_of H.size) (names_of_hubs names.now) window.now (map entry_of tables.now)) }
+    requires window { IsTrue (is_window catalog.now window.now.window.now) }
+    requires gathered { IsHashedWindow (hashes_of H.digest_of H.size) window.now }
+    ensures rows { IfOk result (λ batches. batches ≡ map (added_to catalog.now (hashes_of H.digest_of H.size) window.now.window.now) (map entry_of tables.now)) }
+    ensures apart { IfOk result (λ batches. All (λ entry. HasNoClash (hashed_in catalog.now (hashes_of H.digest_of H.size) (names_of_hubs names.now) window.now.window.now entry)) (map entry_of tables.now)) }
+    ensures follow { IfOk result (spec.FollowAll window.now.window.now.load (map entry_of tables.now)) }
+    ensures clashes { IfErr result (spec.ClashesAt catalog.now (hashes_of H.digest_of H.size) (names_of_hubs names.now) window.now.window.now (map entry_of tables.now)) }
 {
     let mut batches = List::new(alloc);
     for table in tables {

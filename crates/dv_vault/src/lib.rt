@@ -5,6 +5,7 @@
 mod additions;
 mod batches;
 mod contents;
+mod hashed_windows;
 mod hub_keys;
 mod keeping;
 mod named_hubs;
@@ -14,5 +15,6 @@ mod tables;
 mod vaults;
 
 pub use additions::{Addition, AdditionFault};
+pub use hashed_windows::{HashedWindow, gathered};
 pub use offers::deliveries;
 pub use vaults::Vault;

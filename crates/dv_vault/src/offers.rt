@@ -1,45 +1,49 @@
 // What a window delivers to a hub or a link. The reference lists that its rows bring are gathered as they
 // stand in the rows, and only those that are delivered are copied.
-ghost use Rattle.std.specs.Prelude.{◌≡◌, ◌∷◌, ◌++◌, [], IfOk, OnOk, map, slice_get};
+ghost use Rattle.std.specs.Prelude.{◌≡◌, ℕ, ◌∷◌, ◌++◌, [], IfOk, IsTrue, OnOk, Some, if◌then◌else◌, map, slice_get};
 ghost use Rattle.std.specs.List.{flat_map, list_all};
-ghost use Rattle.dv_text.specs.Keys as keys;
+ghost use Rattle.dv_text.specs.declared.rows.Key.{Key};
+ghost use Rattle.dv_text.specs.Keys.{hashes_of};
 ghost use Rattle.dv_text.specs.Sorting.{sorted_by};
 ghost use Rattle.dv_catalog.specs.declared.entries.Parent.TheVariants as parents;
 ghost use Rattle.dv_catalog.specs.Feeds as feeds;
+ghost use Rattle.dv_catalog.specs.Mappings.{is_valid};
+ghost use Rattle.dv_digest.specs.Fits as fits;
+ghost use Rattle.dv_digest.specs.HashedExtracts.{HasKeys};
 ghost use Rattle.dv_records.specs.Deliveries as spec;
+ghost use Rattle.dv_records.specs.Deltas.{AreHashed, delivered};
+ghost use Rattle.dv_records.specs.States.{is_window};
+ghost use Rattle.dv_vault.specs.HashedWindows.{IsHashedWindow};
 ghost use Rattle.dv_vault.specs.Offered as offered;
 
+use crate::hashed_windows::HashedWindow;
 use dv_catalog::{Catalog, Parent, TableId};
-use dv_records::Delivery;
-use dv_text::{Duplicate, Key, List, Memory, Staged, Window};
+use dv_digest::{HashedExtract, Room, hash_key, refs_fit};
+use dv_records::{Delivery, HashedDelivery};
+use dv_text::{Digest, Duplicate, Key, KeyDigest, List, Memory, are_missing};
 use std::alloc::Global;
 use std::slice::from_ref;
 
-// A reference list as a row has it, and the feed of the row.
+// A reference list as a row has it, the feed of the row, and the list's hash key, where the row's own is told.
 #[derive(Drop)]
 struct Offer<'a> {
     refs: &'a [Key],
     feed: u32,
-}
-
-fn is_missing(key: &Key) -> bool
-    ensures { result ≡ keys.is_missing key.now }
-{
-    key.parts.items().iter().all(|part| part.bytes().is_empty())
-}
-
-fn are_missing(refs: &[Key]) -> bool
-    ensures { result ≡ list_all keys.is_missing refs.now }
-{
-    refs.iter().all(|key| is_missing(key))
+    told: Option<&'a Digest>,
 }
 
 // Puts a reference list at the end, unless all its keys are missing.
-fn add<'a>(offers: &mut Vec<Offer<'a>>, refs: &'a [Key], feed: u32) -> Result<(), Memory>
-    ensures { OnOk result (map offered.offered_by offers.new.items ≡ map offered.offered_by offers.old.items ++ offered.kept feed (refs.now ∷ [])) }
+fn add<'a, H: KeyDigest>(
+    offers: &mut Vec<Offer<'a>>,
+    refs: &'a [Key],
+    feed: u32,
+    told: Option<&'a Digest>,
+) -> Result<(), Memory>
+    requires { offered.IsKeyOf (hashes_of H.digest_of H.size) (offered.told_by told) refs.now }
+    ensures { OnOk result (map (offered.offered_by (hashes_of H.digest_of H.size)) offers.new.items ≡ map (offered.offered_by (hashes_of H.digest_of H.size)) offers.old.items ++ offered.kept (hashes_of H.digest_of H.size) feed (refs.now ∷ [])) }
 {
     if !are_missing(refs) {
-        offers.push(Offer { refs, feed })?;
+        offers.push(Offer { refs, feed, told })?;
     }
     Ok(())
 }
@@ -51,45 +55,84 @@ fn stands_at(hubs: &[u32], place: usize, hub: u32) -> bool
     hubs.get(place).is_some_and(|other| *other == hub)
 }
 
+// The hash key of each key of a reference list: the list's own where it has one key.
+fn told_of_each<'a, H: KeyDigest>(refs: &[Key], told: Option<&'a Digest>) -> Option<&'a Digest>
+    requires { offered.IsKeyOf (hashes_of H.digest_of H.size) (offered.told_by told) refs.now }
+    ensures { (place : ℕ) (key : Key) → slice_get refs.now place ≡ Some key → offered.IsKeyOf (hashes_of H.digest_of H.size) (offered.told_by result) (key ∷ []) }
+{
+    if refs.len() == 1 { told } else { None }
+}
+
+// Puts a key at the end as a list of one, if it stands at the hub that is looked for.
+fn add_key<'a, H: KeyDigest>(
+    offers: &mut Vec<Offer<'a>>,
+    stands: bool,
+    key: &'a Key,
+    feed: u32,
+    told: Option<&'a Digest>,
+) -> Result<(), Memory>
+    requires { offered.IsKeyOf (hashes_of H.digest_of H.size) (offered.told_by told) (key.now ∷ []) }
+    ensures { OnOk result (map (offered.offered_by (hashes_of H.digest_of H.size)) offers.new.items ≡ map (offered.offered_by (hashes_of H.digest_of H.size)) offers.old.items ++ offered.kept (hashes_of H.digest_of H.size) feed (if stands then (key.now ∷ []) ∷ [] else [])) }
+{
+    if !stands {
+        return Ok(());
+    }
+    add::<H>(offers, from_ref(key), feed, told)
+}
+
 // Puts the keys of a hub among references, of which `hubs` are the hubs, at the end, each as a list of one.
-fn add_keys<'a>(
+fn add_keys<'a, H: KeyDigest>(
     offers: &mut Vec<Offer<'a>>,
     hub: u32,
     hubs: &[u32],
     refs: &'a [Key],
     feed: u32,
+    told: Option<&'a Digest>,
 ) -> Result<(), Memory>
-    ensures { OnOk result (map offered.offered_by offers.new.items ≡ map offered.offered_by offers.old.items ++ offered.kept feed (offered.single_keys hub hubs.now refs.now)) }
+    requires { (place : ℕ) (key : Key) → slice_get refs.now place ≡ Some key → offered.IsKeyOf (hashes_of H.digest_of H.size) (offered.told_by told) (key ∷ []) }
+    ensures { OnOk result (map (offered.offered_by (hashes_of H.digest_of H.size)) offers.new.items ≡ map (offered.offered_by (hashes_of H.digest_of H.size)) offers.old.items ++ offered.kept (hashes_of H.digest_of H.size) feed (offered.single_keys hub hubs.now refs.now)) }
 {
     for (place, key) in refs.iter().enumerate() {
-        if stands_at(hubs, place, hub) {
-            add(offers, from_ref(key), feed)?;
-        }
+        add_key::<H>(offers, stands_at(hubs, place, hub), key, feed, told)?;
     }
     Ok(())
 }
 
 // Puts the keys of a hub in a feed's rows at the end, where `hubs` are the hubs of the feed.
-fn add_hub_offers<'a>(
+fn add_hub_offers<'a, H: KeyDigest>(
     offers: &mut Vec<Offer<'a>>,
     hub: u32,
     hubs: &[u32],
-    staged: &'a Staged,
+    extract: &'a HashedExtract<'a>,
 ) -> Result<(), Memory>
-    ensures { OnOk result (map offered.offered_by offers.new.items ≡ map offered.offered_by offers.old.items ++ flat_map (λ row. offered.kept staged.now.feed (offered.single_keys hub hubs.now row.refs)) staged.now.rows) }
+    requires { HasKeys (hashes_of H.digest_of H.size) extract.now }
+    ensures { OnOk result (map (offered.offered_by (hashes_of H.digest_of H.size)) offers.new.items ≡ map (offered.offered_by (hashes_of H.digest_of H.size)) offers.old.items ++ flat_map (λ row. offered.kept (hashes_of H.digest_of H.size) extract.now.staged.now.feed (offered.single_keys hub hubs.now row.refs)) extract.now.staged.now.rows) }
 {
-    for row in staged.rows.items() {
-        add_keys(offers, hub, hubs, row.refs.items(), staged.feed)?;
+    let staged = extract.staged;
+    for (place, row) in staged.rows.items().iter().enumerate() {
+        let refs = row.refs.items();
+        let told = told_of_each::<H>(refs, extract.keys.items().get(place));
+        add_keys::<H>(offers, hub, hubs, refs, staged.feed, told)?;
     }
     Ok(())
 }
 
 // Puts the reference lists of a feed's rows at the end.
-fn add_link_offers<'a>(offers: &mut Vec<Offer<'a>>, staged: &'a Staged) -> Result<(), Memory>
-    ensures { OnOk result (map offered.offered_by offers.new.items ≡ map offered.offered_by offers.old.items ++ flat_map (λ row. offered.kept staged.now.feed (row.refs ∷ [])) staged.now.rows) }
+fn add_link_offers<'a, H: KeyDigest>(
+    offers: &mut Vec<Offer<'a>>,
+    extract: &'a HashedExtract<'a>,
+) -> Result<(), Memory>
+    requires { HasKeys (hashes_of H.digest_of H.size) extract.now }
+    ensures { OnOk result (map (offered.offered_by (hashes_of H.digest_of H.size)) offers.new.items ≡ map (offered.offered_by (hashes_of H.digest_of H.size)) offers.old.items ++ flat_map (λ row. offered.kept (hashes_of H.digest_of H.size) extract.now.staged.now.feed (row.refs ∷ [])) extract.now.staged.now.rows) }
 {
-    for row in staged.rows.items() {
-        add(offers, row.refs.items(), staged.feed)?;
+    let staged = extract.staged;
+    for (place, row) in staged.rows.items().iter().enumerate() {
+        add::<H>(
+            offers,
+            row.refs.items(),
+            staged.feed,
+            extract.keys.items().get(place),
+        )?;
     }
     Ok(())
 }
@@ -121,37 +164,40 @@ fn is_fed_by(catalog: &Catalog, link: u32, feed: u32) -> bool
 }
 
 // Puts what a feed's rows bring to a hub or a link at the end.
-fn add_offers<'a>(
+fn add_offers<'a, H: KeyDigest>(
     offers: &mut Vec<Offer<'a>>,
     catalog: &Catalog,
-    staged: &'a Staged,
+    extract: &'a HashedExtract<'a>,
     parent: Parent,
 ) -> Result<(), Memory>
-    ensures { OnOk result (map offered.offered_by offers.new.items ≡ map offered.offered_by offers.old.items ++ offered.kept staged.now.feed (spec.refs_from catalog.now parent staged.now)) }
+    requires { HasKeys (hashes_of H.digest_of H.size) extract.now }
+    ensures { OnOk result (map (offered.offered_by (hashes_of H.digest_of H.size)) offers.new.items ≡ map (offered.offered_by (hashes_of H.digest_of H.size)) offers.old.items ++ offered.kept (hashes_of H.digest_of H.size) extract.now.staged.now.feed (spec.refs_from catalog.now parent extract.now.staged.now)) }
 {
+    let feed = extract.staged.feed;
     match parent {
-        Parent::Hub(hub) => add_hub_offers(offers, hub, feed_hubs(catalog, staged.feed), staged),
+        Parent::Hub(hub) => add_hub_offers::<H>(offers, hub, feed_hubs(catalog, feed), extract),
         Parent::Link(link) => {
-            if !is_fed_by(catalog, link, staged.feed) {
+            if !is_fed_by(catalog, link, feed) {
                 return Ok(());
             }
-            add_link_offers(offers, staged)
+            add_link_offers::<H>(offers, extract)
         }
     }
 }
 
 // What the rows of a window bring to a hub or a link, feed by feed.
-fn all_offers<'a>(
+fn all_offers<'a, H: KeyDigest>(
     alloc: Global,
     catalog: &Catalog,
-    window: &'a Window,
+    window: &'a HashedWindow<'a>,
     parent: Parent,
 ) -> Result<Vec<Offer<'a>>, Memory>
-    ensures { IfOk result (λ offers. map offered.offered_by offers.items ≡ offered.all_offered catalog.now parent window.now.extracts) }
+    requires { IsHashedWindow (hashes_of H.digest_of H.size) window.now }
+    ensures { IfOk result (λ offers. map (offered.offered_by (hashes_of H.digest_of H.size)) offers.items ≡ offered.all_offered (hashes_of H.digest_of H.size) catalog.now parent window.now.window.now.extracts) }
 {
     let mut offers = Vec::new(alloc);
-    for staged in window.extracts.items() {
-        add_offers(&mut offers, catalog, staged, parent)?;
+    for extract in window.extracts.items() {
+        add_offers::<H>(&mut offers, catalog, extract, parent)?;
     }
     Ok(offers)
 }
@@ -176,17 +222,43 @@ fn copy_refs(alloc: Global, refs: &[Key]) -> Result<List<Key>, Memory>
     Ok(made)
 }
 
-// Offers as deliveries to a table.
-fn to_deliveries(alloc: Global, table: TableId, offers: &[Offer]) -> Result<List<Delivery>, Memory>
-    ensures { IfOk result (λ items. items ≡ map (offered.delivery_to table) (map offered.offered_by offers.now)) }
+// The hash key of a reference list: the one that is told, else it is worked out.
+fn key_of<H: KeyDigest>(
+    digest: &H,
+    told: Option<&Digest>,
+    refs: &List<Key>,
+    room: &mut Room,
+) -> Digest
+    requires { IsTrue (fits.refs_fit refs.now) }
+    ensures { result ≡ offered.key_told (hashes_of H.digest_of H.size) (offered.told_by told.entry) refs.now }
 {
+    if let Some(key) = told {
+        return *key;
+    }
+    let fit = refs_fit(refs);
+    prove!(fit);
+    hash_key(digest, refs, room)
+}
+
+// Offers as deliveries to a table.
+fn to_deliveries<H: KeyDigest>(
+    alloc: Global,
+    table: TableId,
+    offers: &[Offer],
+    digest: &H,
+) -> Result<List<HashedDelivery>, Memory>
+    requires { IsTrue (list_all (λ offer. fits.refs_fit offer.refs.now) offers.now) }
+    ensures { IfOk result (λ items. items ≡ map (offered.delivery_to table) (map (offered.offered_by (hashes_of H.digest_of H.size)) offers.now)) }
+{
+    let mut room = Room::new(alloc)?;
     let mut items = List::with_room(alloc, offers.len())?;
     for offer in offers {
         let refs = copy_refs(alloc, offer.refs)?;
-        items.push(Delivery {
-            table,
-            refs,
-            feed: offer.feed,
+        let key = key_of(digest, offer.told, &refs, &mut room);
+        let feed = offer.feed;
+        items.push(HashedDelivery {
+            delivery: Delivery { table, refs, feed },
+            digest: key,
         })?;
     }
     Ok(items)
@@ -202,16 +274,21 @@ fn table_of(parent: Parent) -> TableId
 }
 
 /// What a window delivers to a hub or a link: each reference list that its rows bring once, in order, by the
-/// first feed that brings it; a list whose keys are all missing is left out. A link's feed brings to each of
-/// its hubs the hub's key.
-pub fn deliveries(
+/// first feed that brings it, with its hash key; a list whose keys are all missing is left out. A link's feed
+/// brings to each of its hubs the hub's key. Conditions: it is a window of the mapping, and has its hash keys.
+pub fn deliveries<H: KeyDigest>(
     alloc: Global,
     catalog: &Catalog,
-    window: &Window,
+    window: &HashedWindow<'_>,
     parent: Parent,
-) -> Result<List<Delivery>, Memory>
-    ensures { IfOk result (λ items. items ≡ spec.deliveries catalog.now parent window.now) }
+    digest: &H,
+) -> Result<List<HashedDelivery>, Memory>
+    requires valid { IsTrue (is_valid catalog.now) }
+    requires window { IsTrue (is_window catalog.now window.now.window.now) }
+    requires gathered { IsHashedWindow (hashes_of H.digest_of H.size) window.now }
+    ensures items { IfOk result (λ items. delivered items ≡ spec.deliveries catalog.now parent window.now.window.now) }
+    ensures hashed { IfOk result (AreHashed (hashes_of H.digest_of H.size)) }
 {
-    let offers = first_offers(all_offers(alloc, catalog, window, parent)?)?;
-    to_deliveries(alloc, table_of(parent), &offers)
+    let offers = first_offers(all_offers::<H>(alloc, catalog, window, parent)?)?;
+    to_deliveries(alloc, table_of(parent), &offers, digest)
 }

@@ -2,22 +2,26 @@
 ghost use Rattle.std.specs.Prelude.{◌≡◌, ◌≤◌, ◌<◌, ◌==◌, [], false, find, IfNone, IfOk, IfSome, IsTrue, OnOk, length, option_map};
 ghost use Rattle.std.specs.List.{list_all};
 ghost use Rattle.dv_text.specs.Keys.{hashes_of};
-ghost use Rattle.dv_digest.specs.Fits.{attrs_fit, refs_fit};
+ghost use Rattle.dv_digest.specs.Fits.{attrs_fit};
+ghost use Rattle.dv_digest.specs.HashedExtracts.{HasKeys};
 ghost use Rattle.dv_catalog.specs.Mappings.{is_valid};
 ghost use Rattle.dv_catalog.specs.TableLookups.{is_table_of};
 ghost use Rattle.dv_records.specs.Deltas.{HasNoClash, IfCollides, IsLeastClash};
 ghost use Rattle.dv_records.specs.RowViews.{AreOfLoad, is_up_to};
 ghost use Rattle.dv_records.specs.States.{is_window};
 ghost use Rattle.dv_records.specs.Stores.{no_rows, row_count, rows_then};
+ghost use Rattle.dv_vault.specs.HashedWindows.{IsHashedWindow};
 ghost use Rattle.dv_vault.specs.Vaults as spec;
 ghost use Rattle.dv_vault.specs.Vaults.{Follow, added_to, entry_of, hashed_in, spare_of};
 
+use crate::hashed_windows::HashedWindow;
 use crate::offers::deliveries;
 use dv_catalog::{Catalog, Parent, TableId};
+use dv_digest::HashedExtract;
 use dv_keys::{HubTable, LinkTable};
 use dv_records::{DeltaFault, HubNames, RawTable, Rows};
 use dv_sat::SatTable;
-use dv_text::{KeyDigest, List, Memory, Staged, Stamp, Window};
+use dv_text::{KeyDigest, List, Memory, Stamp};
 use dv_track::StatusTable;
 use std::alloc::Global;
 
@@ -31,22 +35,27 @@ pub(crate) enum Table {
 }
 
 // The extract of a feed among extracts.
-fn staged_in(extracts: &[Staged], feed: u32) -> Option<&Staged>
-    ensures { option_map (λ staged. staged.now) result ≡ find (λ staged. staged.feed == feed) extracts.now }
+fn extract_in<'a>(extracts: &'a [HashedExtract<'a>], feed: u32) -> Option<&'a HashedExtract<'a>>
+    ensures { option_map (λ extract. extract.now) result ≡ find (λ extract. extract.staged.now.feed == feed) extracts.now }
 {
-    extracts.iter().find(|staged| staged.feed == feed)
+    extracts.iter().find(|extract| extract.staged.feed == feed)
 }
 
-// The extract of a feed in a window, whose rows fit what they are hashed in.
-fn staged_of<'a>(catalog: &Catalog, window: &'a Window, feed: u32) -> Option<&'a Staged>
+// The extract of a feed in a window, which has its hash keys, and whose rows fit what they are hashed in.
+fn extract_of<'a, H: KeyDigest>(
+    catalog: &Catalog,
+    window: &'a HashedWindow<'a>,
+    feed: u32,
+) -> Option<&'a HashedExtract<'a>>
     requires valid { IsTrue (is_valid catalog.now) }
-    requires window { IsTrue (is_window catalog.now window.now) }
-    ensures found { option_map (λ staged. staged.now) result ≡ spec.staged_of feed window.now }
-    ensures feed { IfSome result (λ staged. staged.now.feed ≡ feed) }
-    ensures fit { IfSome result (λ staged. IsTrue (list_all (λ row. refs_fit row.refs) staged.now.rows)) }
-    ensures attrs_fit { IfSome result (λ staged. IsTrue (list_all (λ row. attrs_fit row.attrs) staged.now.rows)) }
+    requires window { IsTrue (is_window catalog.now window.now.window.now) }
+    requires gathered { IsHashedWindow (hashes_of H.digest_of H.size) window.now }
+    ensures found { option_map (λ extract. extract.now.staged.now) result ≡ spec.staged_of feed window.now.window.now }
+    ensures feed { IfSome result (λ extract. extract.now.staged.now.feed ≡ feed) }
+    ensures keys { IfSome result (λ extract. HasKeys (hashes_of H.digest_of H.size) extract.now) }
+    ensures attrs_fit { IfSome result (λ extract. IsTrue (list_all (λ row. attrs_fit row.attrs) extract.now.staged.now.rows)) }
 {
-    staged_in(window.extracts.items(), feed)
+    extract_in(window.extracts.items(), feed)
 }
 
 // The rows that a window adds to a hub.
@@ -54,22 +63,23 @@ fn hub_rows<H: KeyDigest>(
     alloc: Global,
     hub: u32,
     table: &HubTable,
-    window: &Window,
+    window: &HashedWindow<'_>,
     catalog: &Catalog,
     digest: &H,
 ) -> Result<Rows, DeltaFault>
     requires hub { hub < length catalog.now.hubs }
     requires valid { IsTrue (is_valid catalog.now) }
-    requires window { IsTrue (is_window catalog.now window.now) }
-    requires dated { IsTrue (is_up_to window.now.load (Rows.Hubs table.now.rows)) }
-    ensures rows { IfOk result (λ rows. rows ≡ spec.added catalog.now (hashes_of H.digest_of H.size) window.now (TableId.Hub hub) (Rows.Hubs table.now.rows)) }
-    ensures apart { IfOk result (λ rows. HasNoClash (spec.hashed catalog.now (hashes_of H.digest_of H.size) [] window.now (TableId.Hub hub) (Rows.Hubs table.now.rows))) }
-    ensures collision { IfCollides result (IsLeastClash (spec.hashed catalog.now (hashes_of H.digest_of H.size) [] window.now (TableId.Hub hub) (Rows.Hubs table.now.rows))) }
+    requires window { IsTrue (is_window catalog.now window.now.window.now) }
+    requires gathered { IsHashedWindow (hashes_of H.digest_of H.size) window.now }
+    requires dated { IsTrue (is_up_to window.now.window.now.load (Rows.Hubs table.now.rows)) }
+    ensures rows { IfOk result (λ rows. rows ≡ spec.added catalog.now (hashes_of H.digest_of H.size) window.now.window.now (TableId.Hub hub) (Rows.Hubs table.now.rows)) }
+    ensures apart { IfOk result (λ rows. HasNoClash (spec.hashed catalog.now (hashes_of H.digest_of H.size) [] window.now.window.now (TableId.Hub hub) (Rows.Hubs table.now.rows))) }
+    ensures collision { IfCollides result (IsLeastClash (spec.hashed catalog.now (hashes_of H.digest_of H.size) [] window.now.window.now (TableId.Hub hub) (Rows.Hubs table.now.rows))) }
     ensures follow { IfOk result (λ rows. Follow (Rows.Hubs table.now.rows) rows) }
-    ensures stamped { IfOk result (λ rows. AreOfLoad window.now.load rows) }
+    ensures stamped { IfOk result (λ rows. AreOfLoad window.now.window.now.load rows) }
 {
-    let items = deliveries(alloc, catalog, window, Parent::Hub(hub))?;
-    let rows = table.delta(window.load, &items, catalog, digest)?;
+    let items = deliveries(alloc, catalog, window, Parent::Hub(hub), digest)?;
+    let rows = table.delta(window.window.load, &items, catalog, digest)?;
     Ok(Rows::Hubs(rows))
 }
 
@@ -79,22 +89,23 @@ fn link_rows<H: KeyDigest, N: HubNames>(
     link: u32,
     table: &LinkTable,
     names: &N,
-    window: &Window,
+    window: &HashedWindow<'_>,
     catalog: &Catalog,
     digest: &H,
 ) -> Result<Rows, DeltaFault>
     requires link { link < length catalog.now.links }
     requires valid { IsTrue (is_valid catalog.now) }
-    requires window { IsTrue (is_window catalog.now window.now) }
-    requires dated { IsTrue (is_up_to window.now.load (Rows.Links table.now.rows)) }
-    ensures rows { IfOk result (λ rows. rows ≡ spec.added catalog.now (hashes_of H.digest_of H.size) window.now (TableId.Link link) (Rows.Links table.now.rows)) }
-    ensures apart { IfOk result (λ rows. HasNoClash (spec.hashed catalog.now (hashes_of H.digest_of H.size) (N.names names.now) window.now (TableId.Link link) (Rows.Links table.now.rows))) }
-    ensures collision { IfCollides result (IsLeastClash (spec.hashed catalog.now (hashes_of H.digest_of H.size) (N.names names.now) window.now (TableId.Link link) (Rows.Links table.now.rows))) }
+    requires window { IsTrue (is_window catalog.now window.now.window.now) }
+    requires gathered { IsHashedWindow (hashes_of H.digest_of H.size) window.now }
+    requires dated { IsTrue (is_up_to window.now.window.now.load (Rows.Links table.now.rows)) }
+    ensures rows { IfOk result (λ rows. rows ≡ spec.added catalog.now (hashes_of H.digest_of H.size) window.now.window.now (TableId.Link link) (Rows.Links table.now.rows)) }
+    ensures apart { IfOk result (λ rows. HasNoClash (spec.hashed catalog.now (hashes_of H.digest_of H.size) (N.names names.now) window.now.window.now (TableId.Link link) (Rows.Links table.now.rows))) }
+    ensures collision { IfCollides result (IsLeastClash (spec.hashed catalog.now (hashes_of H.digest_of H.size) (N.names names.now) window.now.window.now (TableId.Link link) (Rows.Links table.now.rows))) }
     ensures follow { IfOk result (λ rows. Follow (Rows.Links table.now.rows) rows) }
-    ensures stamped { IfOk result (λ rows. AreOfLoad window.now.load rows) }
+    ensures stamped { IfOk result (λ rows. AreOfLoad window.now.window.now.load rows) }
 {
-    let items = deliveries(alloc, catalog, window, Parent::Link(link))?;
-    let rows = table.delta(window.load, &items, names, catalog, digest)?;
+    let items = deliveries(alloc, catalog, window, Parent::Link(link), digest)?;
+    let rows = table.delta(window.window.load, &items, names, catalog, digest)?;
     Ok(Rows::Links(rows))
 }
 
@@ -186,19 +197,20 @@ impl Table {
         &self,
         alloc: Global,
         names: &N,
-        window: &Window,
+        window: &HashedWindow<'_>,
         catalog: &Catalog,
         digest: &H,
     ) -> Result<Rows, DeltaFault>
         requires table { IsTrue (is_table_of catalog.now (entry_of self.now).table) }
         requires valid { IsTrue (is_valid catalog.now) }
-        requires window { IsTrue (is_window catalog.now window.now) }
-        requires dated { IsTrue (is_up_to window.now.load (entry_of self.now).rows) }
-        ensures rows { IfOk result (λ rows. rows ≡ added_to catalog.now (hashes_of H.digest_of H.size) window.now (entry_of self.now)) }
-        ensures apart { IfOk result (λ rows. HasNoClash (hashed_in catalog.now (hashes_of H.digest_of H.size) (N.names names.now) window.now (entry_of self.now))) }
-        ensures collision { IfCollides result (IsLeastClash (hashed_in catalog.now (hashes_of H.digest_of H.size) (N.names names.now) window.now (entry_of self.now))) }
+        requires window { IsTrue (is_window catalog.now window.now.window.now) }
+        requires gathered { IsHashedWindow (hashes_of H.digest_of H.size) window.now }
+        requires dated { IsTrue (is_up_to window.now.window.now.load (entry_of self.now).rows) }
+        ensures rows { IfOk result (λ rows. rows ≡ added_to catalog.now (hashes_of H.digest_of H.size) window.now.window.now (entry_of self.now)) }
+        ensures apart { IfOk result (λ rows. HasNoClash (hashed_in catalog.now (hashes_of H.digest_of H.size) (N.names names.now) window.now.window.now (entry_of self.now))) }
+        ensures collision { IfCollides result (IsLeastClash (hashed_in catalog.now (hashes_of H.digest_of H.size) (N.names names.now) window.now.window.now (entry_of self.now))) }
         ensures follow { IfOk result (λ rows. Follow (entry_of self.now).rows rows) }
-        ensures stamped { IfOk result (λ rows. AreOfLoad window.now.load rows) }
+        ensures stamped { IfOk result (λ rows. AreOfLoad window.now.window.now.load rows) }
     {
         match self {
             Table::Hub { hub, rows } => hub_rows(alloc, *hub, rows, window, catalog, digest),
@@ -206,12 +218,12 @@ impl Table {
                 link_rows(alloc, *link, rows, names, window, catalog, digest)
             }
             Table::Sat { feed, rows } => {
-                let staged = staged_of(catalog, window, *feed);
-                Ok(rows.additions(window.load, *feed, staged, catalog, digest)?)
+                let extract = extract_of::<H>(catalog, window, *feed);
+                Ok(rows.additions(window.window.load, *feed, extract, catalog, digest)?)
             }
             Table::Status { feed, rows } => {
-                let staged = staged_of(catalog, window, *feed);
-                Ok(rows.additions(window.load, *feed, staged, catalog, digest)?)
+                let extract = extract_of::<H>(catalog, window, *feed);
+                Ok(rows.additions(window.window.load, *feed, extract, catalog)?)
             }
         }
     }

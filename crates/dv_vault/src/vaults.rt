@@ -13,6 +13,7 @@ ghost use Rattle.dv_vault.specs.Vaults.{IsBuilt, are_heads_of, last_head};
 
 use crate::additions::{Addition, AdditionFault};
 use crate::batches::{all_deltas, count_all, weight_with};
+use crate::hashed_windows::gathered;
 use crate::hub_keys::hub_keys;
 use crate::raw_tables::RawTables;
 use dv_catalog::{Catalog, TableId};
@@ -144,15 +145,10 @@ impl Vault {
         ensures clashes { IfErr result (spec.Clashes (hashes_of H.digest_of H.size) self.now window.now) }
     {
         let alloc = self.heads.allocator();
-        let names = hub_keys(alloc, &self.catalog, &self.raw)?;
-        all_deltas(
-            alloc,
-            &self.raw.tables,
-            &names,
-            window,
-            &self.catalog,
-            digest,
-        )
+        let catalog = &self.catalog;
+        let names = hub_keys(alloc, catalog, &self.raw)?;
+        let hashed = gathered(alloc, catalog, window, digest)?;
+        all_deltas(alloc, &self.raw.tables, &names, &hashed, catalog, digest)
     }
 
     /// What a window adds to the vault. Where it makes a collision, the fault names the first table that has

@@ -1,5 +1,5 @@
-use Rattle.dv_vault.proofs.Vocabulary.{rules, ◌≡◌, ◌<◌, ◌∙◌, ap, arith, get_or, length, map, subst, sym, length-map, get_or-map, AllZip-long, IsOfKind, TakesRows, entry_of}
-use Rattle.dv_vault.proofs.BatchSteps.{AtPlace, at_place, pair_at, whole}
+use Rattle.dv_vault.proofs.Vocabulary.{rules, ◌≡◌, arith, map, subst, length-map, AllZip-long, take_all, IsOfKind, TakesRows, entry_of}
+use Rattle.dv_vault.proofs.BatchSteps.{turn_at}
 use Rattle.dv_vault.proofs.StoreSteps.{caused, stored_kind, took_more, took_none}
 use Rattle.dv_vault.proofs.keeping.append_all.Goals as goal
 
@@ -11,20 +11,13 @@ bounds-batches-i g c = omega (arith, AllZip-long IsOfKind (map entry_of c.args.t
 
 pub append_rows-requires-clause-given : goal.append_rows-requires-clause-given
 append_rows-requires-clause-given g c =
-    let under : c.loop-i.i < length (map entry_of c.args.tables.now) = omega (arith, length-map c.args.tables.now entry_of) in
-    let here : get_or (map entry_of c.args.tables.now) c.loop-i.i (entry_of c.index-tables-i.result) ≡ entry_of c.index-tables-i.result = get_or-map entry_of c.args.tables.now c.loop-i.i c.index-tables-i.result ∙ ap entry_of (sym c.index-tables-i.is) in
-    let kind : IsOfKind (entry_of c.index-tables-i.result) c.index-batches-i.result = pair_at IsOfKind (map entry_of c.args.tables.now) c.args.batches.now c.loop-i.i (entry_of c.index-tables-i.result) c.index-batches-i.result c.requires.kinds under here (sym c.index-batches-i.is) in
+    let (kind, at) = turn_at c.args.tables.now c.args.batches.now c.loop-i.i c.index-tables-i.result c.index-batches-i.result c.requires.kinds c.requires.apart (omega arith) c.index-tables-i.is c.index-batches-i.is in
     let named : c.id.result ≡ (entry_of c.index-tables-i.result).table = cc in
     rw named kind.more
 
 pub append_rows-requires-clause-stored : goal.append_rows-requires-clause-stored
 append_rows-requires-clause-stored g c =
-    let under : c.loop-i.i < length (map entry_of c.args.tables.now) = omega (arith, length-map c.args.tables.now entry_of) in
-    let too : c.loop-i.i < length c.args.batches.now = omega (arith, AllZip-long IsOfKind (map entry_of c.args.tables.now) c.args.batches.now c.requires.kinds) in
-    let here : get_or (map entry_of c.args.tables.now) c.loop-i.i (entry_of c.index-tables-i.result) ≡ entry_of c.index-tables-i.result = get_or-map entry_of c.args.tables.now c.loop-i.i c.index-tables-i.result ∙ ap entry_of (sym c.index-tables-i.is) in
-    let kind : IsOfKind (entry_of c.index-tables-i.result) c.index-batches-i.result = pair_at IsOfKind (map entry_of c.args.tables.now) c.args.batches.now c.loop-i.i (entry_of c.index-tables-i.result) c.index-batches-i.result c.requires.kinds under here (sym c.index-batches-i.is) in
-    let at : AtPlace (map entry_of c.args.tables.now) c.args.batches.now c.loop-i.i (entry_of c.index-tables-i.result) c.index-batches-i.result =
-    at_place (map entry_of c.args.tables.now) c.args.batches.now c.loop-i.i (entry_of c.index-tables-i.result) c.index-batches-i.result c.requires.apart under here too (sym c.index-batches-i.is) in
+    let (kind, at) = turn_at c.args.tables.now c.args.batches.now c.loop-i.i c.index-tables-i.result c.index-batches-i.result c.requires.kinds c.requires.apart (omega arith) c.index-tables-i.is c.index-batches-i.is in
     let named : c.id.result ≡ (entry_of c.index-tables-i.result).table = cc in
     stored_kind (map entry_of c.args.tables.now) c.args.batches.now c.loop-i.i (entry_of c.index-tables-i.result) c.index-batches-i.result at kind c.id.result named
     (g.K.Keeper.store c.args.keeper.now) (g.K.Keeper.store c.loop-i.keeper) c.loop-i.invariant.told
@@ -36,12 +29,7 @@ returns-in_err-append_rows-clause-cause g c =
 
 pub loop-i-preserved : goal.loop-i-preserved
 loop-i-preserved g c =
-    let under : c.loop-i.i < length (map entry_of c.args.tables.now) = omega (arith, length-map c.args.tables.now entry_of) in
-    let too : c.loop-i.i < length c.args.batches.now = omega (arith, AllZip-long IsOfKind (map entry_of c.args.tables.now) c.args.batches.now c.requires.kinds) in
-    let here : get_or (map entry_of c.args.tables.now) c.loop-i.i (entry_of c.index-tables-i.result) ≡ entry_of c.index-tables-i.result = get_or-map entry_of c.args.tables.now c.loop-i.i c.index-tables-i.result ∙ ap entry_of (sym c.index-tables-i.is) in
-    let kind : IsOfKind (entry_of c.index-tables-i.result) c.index-batches-i.result = pair_at IsOfKind (map entry_of c.args.tables.now) c.args.batches.now c.loop-i.i (entry_of c.index-tables-i.result) c.index-batches-i.result c.requires.kinds under here (sym c.index-batches-i.is) in
-    let at : AtPlace (map entry_of c.args.tables.now) c.args.batches.now c.loop-i.i (entry_of c.index-tables-i.result) c.index-batches-i.result =
-    at_place (map entry_of c.args.tables.now) c.args.batches.now c.loop-i.i (entry_of c.index-tables-i.result) c.index-batches-i.result c.requires.apart under here too (sym c.index-batches-i.is) in
+    let (kind, at) = turn_at c.args.tables.now c.args.batches.now c.loop-i.i c.index-tables-i.result c.index-batches-i.result c.requires.kinds c.requires.apart (omega arith) c.index-tables-i.is c.index-batches-i.is in
     let named : c.id.result ≡ (entry_of c.index-tables-i.result).table = cc in
     record {
       told = took_more (map entry_of c.args.tables.now) c.args.batches.now c.loop-i.i (entry_of c.index-tables-i.result) c.index-batches-i.result at kind c.id.result named
@@ -51,7 +39,7 @@ loop-i-preserved g c =
 
 pub returns-clause-told : goal.returns-clause-told
 returns-clause-told g c =
-    let (taken, dropped) = whole c.loop-i.i c.args.batches.now (omega (arith, AllZip-long IsOfKind (map entry_of c.args.tables.now) c.args.batches.now c.requires.kinds, length-map c.args.tables.now entry_of)) in
+    let taken = take_all c.loop-i.i c.args.batches.now (omega (arith, AllZip-long IsOfKind (map entry_of c.args.tables.now) c.args.batches.now c.requires.kinds, length-map c.args.tables.now entry_of)) in
     subst (λ l. TakesRows (map entry_of c.args.tables.now) l (g.K.Keeper.store c.args.keeper.now) (g.K.Keeper.store c.loop-i.keeper)) taken c.loop-i.invariant.told
 
 pub returns-clause-cause : goal.returns-clause-cause

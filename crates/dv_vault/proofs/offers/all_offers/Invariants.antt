@@ -1,5 +1,7 @@
-use Rattle.dv_vault.proofs.Vocabulary.{◌≡◌, map, take, all_offered, offered_by}
+use Rattle.dv_vault.proofs.Vocabulary.{◌≡◌, map, take, all_offered, hashes_of, offered_by}
 use Rattle.dv_vault.proofs.offers.all_offers.Given as goal
 
-abbrev pub invariant-loop-staged : goal.invariant-loop-staged
-invariant-loop-staged l = map offered_by l.offers.items ≡ all_offered l.catalog l.parent (take l.staged-index l.staged-items)
+abbrev pub invariant-loop-extract : goal.invariant-loop-extract
+invariant-loop-extract g l =
+    let hashes = hashes_of g.H.KeyDigest.digest_of g.H.KeyDigest.size in
+    map (offered_by hashes) l.offers.items ≡ all_offered hashes l.catalog l.parent (map (λ extract. extract.staged.now) (take l.extract-index l.extract-items))

@@ -1,9 +1,18 @@
-use Rattle.dv_vault.proofs.Vocabulary.{◌≡◌, List, subst, IfOk, Delivery}
-use Rattle.dv_vault.proofs.Gathered.{sorted_offers}
+use Rattle.dv_vault.proofs.Vocabulary.{◌≡◌, List, subst, hashes_of, IfOk, deliveries, HashedDelivery}
+use Rattle.dv_vault.proofs.SortedOffers.{all_hashed, offers_fit, sorted_offers}
 use Rattle.dv_vault.proofs.offers.deliveries.Goals as goal
 
+pub to_deliveries-requires-after_bounds : goal.to_deliveries-requires-after_bounds
+to_deliveries-requires-after_bounds g c κs within =
+    rw (c.deref.ensures.value, c.in_ok-offers.ensures)
+    (offers_fit c.args.catalog.now c.args.parent c.args.window.now.window.now c.requires.valid c.requires.window (hashes_of g.H.KeyDigest.digest_of g.H.KeyDigest.size) c.in_ok-all_offers.field-0.items c.in_ok-all_offers.ensures)
+
 pub returns : goal.returns
-returns c =
-    subst (λ (all : List Delivery). IfOk c.to_deliveries.result (λ items. items ≡ all))
-    (rw (c.table_of.ensures, c.deref.ensures.value, c.in_ok-offers.ensures) (sorted_offers c.args.catalog.now c.args.parent c.args.window.now c.in_ok-all_offers.field-0.items c.in_ok-all_offers.ensures))
-    c.to_deliveries.ensures
+returns g c =
+    let hashes = hashes_of g.H.KeyDigest.digest_of g.H.KeyDigest.size in
+    let window = c.args.window.now.window.now in
+    let (items, hashed) = all_hashed hashes (deliveries c.args.catalog.now c.args.parent window) c.to_deliveries.result
+    (subst (λ (all : List HashedDelivery). IfOk c.to_deliveries.result (λ items. items ≡ all))
+    (rw (c.table_of.ensures, c.deref.ensures.value, c.in_ok-offers.ensures) (sorted_offers c.args.catalog.now c.args.parent window hashes c.in_ok-all_offers.field-0.items c.in_ok-all_offers.ensures))
+    c.to_deliveries.ensures) in
+    record { items = items; hashed = hashed }

@@ -1,4 +1,4 @@
-use Rattle.dv_vault.proofs.Gathered.{link_declared}
+use Rattle.dv_vault.proofs.SortedOffers.{link_declared}
 use Rattle.dv_vault.proofs.offers.feed_hubs.Goals as goal
 
 pub link-requires : goal.link-requires

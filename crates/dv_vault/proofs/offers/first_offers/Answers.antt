@@ -1,5 +1,5 @@
 use Rattle.dv_vault.proofs.Vocabulary.{rules, ◌∙◌, always_returns_same, dedup_same, refs_eq, Offer, refs-tie, firsts-sort_dedup}
-use Rattle.dv_vault.proofs.Gathered.{offers_total}
+use Rattle.dv_vault.proofs.SortedOffers.{offers_total}
 use Rattle.dv_vault.proofs.offers.first_offers.Goals as goal
 
 pub returns : goal.returns

@@ -1,21 +1,22 @@
-use Rattle.dv_vault.proofs.Vocabulary.{nat_le, ◌∙◌, All-map, list_all-map, LinkRow, ◌≡◌, subst, sym, All, hashes_of, AreLinkItems, link_hashed, HasNoClash}
+use Rattle.dv_vault.proofs.Vocabulary.{nat_le, ◌∙◌, All-map, list_all-map, LinkRow, ◌≡◌, subst, sym, All, hashes_of, AreLinkItems, link_hashed, HasNoClash, delivered}
 use Rattle.dv_vault.proofs.Stamped.{link_delta_load}
 use Rattle.dv_vault.proofs.TableItems.{link_items}
 use Rattle.dv_vault.proofs.tables.link_rows.Goals as goal
 
 pub delta-requires-clause-items : goal.delta-requires-clause-items
 delta-requires-clause-items g c κs within =
-    subst (AreLinkItems c.args.catalog.now) (sym (c.in_ok-items.ensures {u = tt})) (link_items c.args.catalog.now c.args.window.now c.requires.window c.args.link c.requires.link)
+    subst (AreLinkItems c.args.catalog.now) (sym (c.in_ok-items.ensures {u = tt}).items) (link_items c.args.catalog.now c.args.window.now.window.now c.requires.window c.args.link c.requires.link)
 
 pub returns-clause-apart : goal.returns-clause-apart
 returns-clause-apart g c =
-    subst (λ items. HasNoClash (link_hashed c.args.catalog.now (hashes_of g.H.KeyDigest.digest_of g.H.KeyDigest.size) (g.N.HubNames.names c.args.names.now) c.args.table.now.rows items)) (c.in_ok-items.ensures {u = tt}) ((c.in_ok-rows.ensures {u = tt}).apart)
+    subst (λ items. HasNoClash (link_hashed c.args.catalog.now (hashes_of g.H.KeyDigest.digest_of g.H.KeyDigest.size) (g.N.HubNames.names c.args.names.now) c.args.table.now.rows items))
+    (c.in_ok-items.ensures {u = tt}).items ((c.in_ok-rows.ensures {u = tt}).apart)
 
 pub returns-clause-stamped : goal.returns-clause-stamped
 returns-clause-stamped g c =
-    All-map (λ load. load ≡ c.args.window.now.load) (λ (row : LinkRow). row.load) c.in_ok-rows.rows
-    (subst (All (λ (row : LinkRow). row.load ≡ c.args.window.now.load)) (sym ((c.in_ok-rows.ensures {u = tt}).rows))
-    (link_delta_load c.args.catalog.now (hashes_of g.H.KeyDigest.digest_of g.H.KeyDigest.size) c.args.window.now.load c.args.table.now.rows c.in_ok-items.items))
+    All-map (λ load. load ≡ c.args.window.now.window.now.load) (λ (row : LinkRow). row.load) c.in_ok-rows.rows
+    (subst (All (λ (row : LinkRow). row.load ≡ c.args.window.now.window.now.load)) (sym ((c.in_ok-rows.ensures {u = tt}).rows))
+    (link_delta_load c.args.catalog.now (hashes_of g.H.KeyDigest.digest_of g.H.KeyDigest.size) c.args.window.now.window.now.load c.args.table.now.rows (delivered c.in_ok-items.items)))
 
 pub delta-requires-clause-dated : goal.delta-requires-clause-dated
-delta-requires-clause-dated g c κs within = sym (list_all-map (λ load. nat_le load c.args.window.now.load) (λ (row : LinkRow). row.load) c.args.table.now.rows) ∙ c.requires.dated
+delta-requires-clause-dated g c κs within = sym (list_all-map (λ load. nat_le load c.args.window.now.window.now.load) (λ (row : LinkRow). row.load) c.args.table.now.rows) ∙ c.requires.dated

@@ -1,3 +1,5 @@
+use Rattle.dv_vault.proofs.Vocabulary.{◌∙◌, [], ap, hashes_of, source, extract_added, statuses_added, Statuses}
+use Rattle.dv_vault.proofs.TableFacts.{same_extract}
 use Rattle.dv_vault.proofs.tables.Table.delta.Goals as goal
 
 pub returns-in-Hub-clause-apart : goal.returns-in-Hub-clause-apart
@@ -5,3 +7,12 @@ returns-in-Hub-clause-apart g c = rw c.in-Hub.is c.hub_rows.ensures.apart
 
 pub returns-in-Link-clause-apart : goal.returns-in-Link-clause-apart
 returns-in-Link-clause-apart g c = rw c.in-Link.is c.link_rows.ensures.apart
+
+pub returns-in_ok-additions-in-Status-clause-rows : goal.returns-in_ok-additions-in-Status-clause-rows
+returns-in_ok-additions-in-Status-clause-rows g c =
+    let hashes = hashes_of g.H.KeyDigest.digest_of g.H.KeyDigest.size in
+    let extract = c.extract_of-extract-in-Status in
+    let same = same_extract c.args.window.now.window.now c.in-Status.feed extract.result extract.ensures.found in
+    rw c.in-Status.is
+    ((c.in_ok-additions-in-Status.ensures {u = tt}).rows hashes extract.ensures.keys
+    ∙ ap (extract_added (statuses_added hashes (source c.args.catalog.now c.in-Status.feed) (Statuses c.in-Status.rows.rows)) (Statuses [])) same)

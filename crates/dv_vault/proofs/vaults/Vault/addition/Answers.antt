@@ -1,4 +1,4 @@
-use Rattle.dv_vault.proofs.Vocabulary.{◌≡◌, ◌∙◌, ap, sym, ◌+◌, sum_by, rows_weight, tables_weight, RawVault}
+use Rattle.dv_vault.proofs.Vocabulary.{◌∙◌, ap, sym, ◌+◌, sum_by, rows_weight, tables_weight, RawVault}
 use Rattle.dv_vault.proofs.Taken.{weight_grows}
 use Rattle.dv_vault.proofs.vaults.Vault.addition.Goals as goal
 

@@ -11,11 +11,12 @@ all_deltas-requires-clause-tables g c κs within =
 pub all_deltas-requires-clause-dated : goal.all_deltas-requires-clause-dated
 all_deltas-requires-clause-dated g c κs within =
     let later : late_after (last_head c.self.inside.heads) c.args.window.now.load ≡ None = subst (λ (raw : RawVault). late_after (last_head raw.heads) c.args.window.now.load ≡ None) (sym c.self.view_is) c.requires.later in
-    ap (λ (tables : List Table). are_up_to c.args.window.now.load (map entry_of tables)) c.deref.ensures.value
+    (λ i. are_up_to ((c.in_ok-hashed.ensures {u = tt}).window i).load (map entry_of (c.deref.ensures.value i)))
     ∙ rows_not_later c.self.inside.heads (entries_of c.self.inside.raw) c.args.window.now.load c.self.invariant.2 later
 
 pub returns-clause-apart : goal.returns-clause-apart
 returns-clause-apart g c =
     subst (λ (raw : RawVault). IfOk c.all_deltas.result (λ batches. AreApart (hashes_of g.H.KeyDigest.digest_of g.H.KeyDigest.size) raw c.args.window.now)) c.self.view_is
     (named_apart c.all_deltas.result c.self.inside.catalog (hashes_of g.H.KeyDigest.digest_of g.H.KeyDigest.size) (rows_of_hubs c.in_ok-names.names) (hubs_in c.self.inside.catalog (entries_of c.self.inside.raw))
-    c.args.window.now (map entry_of c.deref.result.now) (entries_of c.self.inside.raw) (c.in_ok-names.ensures {u = tt}) (ap (map entry_of) c.deref.ensures.value) c.all_deltas.ensures.apart)
+    c.in_ok-hashed.hashed.window.now c.args.window.now
+    (map entry_of c.deref.result.now) (entries_of c.self.inside.raw) (c.in_ok-names.ensures {u = tt}) (c.in_ok-hashed.ensures {u = tt}).window (ap (map entry_of) c.deref.ensures.value) c.all_deltas.ensures.apart)

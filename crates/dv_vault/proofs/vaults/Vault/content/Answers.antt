@@ -1,16 +1,16 @@
-use Rattle.dv_vault.proofs.Vocabulary.{◌≡◌, ◌<◌, ◌∙◌, ap, length, subst, sym, content_read, IsBuilt, RawVault, entries_of}
+use Rattle.dv_vault.proofs.Vocabulary.{got_from, ◌<◌, ◌∙◌, ap, length, subst, sym, content_read, IsBuilt, RawVault, entries_of}
 use Rattle.dv_vault.proofs.VaultFacts.{status_there}
-use Rattle.dv_vault.proofs.ContentFacts.{content_by, feed_there, mart_read}
+use Rattle.dv_vault.proofs.ContentFacts.{content_by, mart_read}
 use Rattle.dv_vault.proofs.vaults.Vault.content.Goals as goal
 
 pub status-requires : goal.status-requires
 status-requires c =
-    let (definition, got) = feed_there c.self.inside.catalog c.args.feed (subst (λ (raw : RawVault). c.args.feed < length raw.mapping.feeds) (sym c.self.view_is) c.requires) in
-    status_there c.self.inside.catalog (entries_of c.self.inside.raw) c.self.invariant.0 c.args.feed definition got
+    status_there c.self.inside.catalog (entries_of c.self.inside.raw) c.self.invariant.0 c.args.feed
+    (subst (λ (raw : RawVault). c.args.feed < length raw.mapping.feeds) (sym c.self.view_is) c.requires)
 
 pub returns-clause-read : goal.returns-clause-read
 returns-clause-read c =
-    let (definition, got) = feed_there c.self.inside.catalog c.args.feed (subst (λ (raw : RawVault). c.args.feed < length raw.mapping.feeds) (sym c.self.view_is) c.requires) in
+    let (definition, got) = got_from c.self.inside.catalog.feeds c.args.feed (subst (λ (raw : RawVault). c.args.feed < length raw.mapping.feeds) (sym c.self.view_is) c.requires) in
     c.sorted_rows.ensures.value
     ∙ content_by c.self.inside.catalog (entries_of c.self.inside.raw) c.args.feed c.args.date definition c.in_ok-rows.rows c.items.result.now c.status.result.now.rows got c.status.ensures
     (c.items.ensures ∙ c.in_ok-parents.ensures {u = tt}) (c.in_ok-rows.ensures {u = tt} definition got)

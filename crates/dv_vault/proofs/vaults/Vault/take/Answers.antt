@@ -1,4 +1,4 @@
-use Rattle.dv_vault.proofs.Vocabulary.{◌≡◌, ◌++◌, ◌∷◌, List, [], ◌∙◌, ap, map, subst, sym, with_items, TableRows, head_of, rows_in, tables_weight, Fits, raw_with, TakesWindow, RawVault, entries_with, entry_of, Told}
+use Rattle.dv_vault.proofs.Vocabulary.{◌≡◌, ◌++◌, ◌∷◌, [], ◌∙◌, ap, map, subst, sym, with_items, TableRows, head_of, rows_in, tables_weight, Fits, RawVault, entries_with, entry_of}
 use Rattle.dv_vault.proofs.Taken.{entries_after, entries_now, follows, heads_still, kinds, rows_still, vault_still}
 use Rattle.dv_vault.proofs.TablesApart.{vault_apart}
 use Rattle.dv_vault.proofs.vaults.Vault.take.Goals as goal

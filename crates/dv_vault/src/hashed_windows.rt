@@ -1,0 +1,54 @@
+// A window with the hash keys of its rows, which its hubs, links, satellites and status tables are lent.
+ghost use Rattle.std.specs.Prelude.{◌≡◌, All, IfOk, IsTrue, map};
+ghost use Rattle.std.specs.List.{list_all};
+ghost use Rattle.dv_text.specs.Keys.{hashes_of};
+ghost use Rattle.dv_catalog.specs.Mappings.{is_valid};
+ghost use Rattle.dv_digest.specs.Fits.{refs_fit};
+ghost use Rattle.dv_digest.specs.HashedExtracts.{HasKeys};
+ghost use Rattle.dv_records.specs.States.{is_window};
+ghost use Rattle.dv_vault.specs.HashedWindows.{IsHashedWindow};
+
+use dv_catalog::Catalog;
+use dv_digest::HashedExtract;
+use dv_text::{KeyDigest, List, Memory, Staged, Window};
+use std::alloc::Global;
+
+/// A window with the hash keys of its extracts' rows, each worked out once.
+#[derive(Drop)]
+pub struct HashedWindow<'a> {
+    pub window: &'a Window,
+    pub extracts: List<HashedExtract<'a>>,
+}
+
+// Extracts, each with the hash keys of its rows.
+fn hash_all<'a, H: KeyDigest>(
+    alloc: Global,
+    extracts: &'a [Staged],
+    digest: &H,
+) -> Result<List<HashedExtract<'a>>, Memory>
+    requires { IsTrue (list_all (λ staged. list_all (λ row. refs_fit row.refs) staged.rows) extracts.now) }
+    ensures extracts { IfOk result (λ made. map (λ extract. extract.staged.now) made ≡ extracts.now) }
+    ensures keys { IfOk result (All (HasKeys (hashes_of H.digest_of H.size))) }
+{
+    let mut made = List::with_room(alloc, extracts.len())?;
+    for staged in extracts {
+        made.push(HashedExtract::of(alloc, staged, digest)?)?;
+    }
+    Ok(made)
+}
+
+/// The window with the hash keys of its extracts' rows. Condition: it is a window of the mapping.
+pub fn gathered<'a, H: KeyDigest>(
+    alloc: Global,
+    catalog: &Catalog,
+    window: &'a Window,
+    digest: &H,
+) -> Result<HashedWindow<'a>, Memory>
+    requires valid { IsTrue (is_valid catalog.now) }
+    requires window { IsTrue (is_window catalog.now window.now) }
+    ensures window { IfOk result (λ made. made.window.now ≡ window.now) }
+    ensures gathered { IfOk result (IsHashedWindow (hashes_of H.digest_of H.size)) }
+{
+    let extracts = hash_all(alloc, window.extracts.items(), digest)?;
+    Ok(HashedWindow { window, extracts })
+}
