@@ -3,7 +3,7 @@ ghost use Rattle.std.specs.List.{list_all};
 ghost use Rattle.dv_keys.specs.HubRows.{are_hub_rows};
 
 use crate::values::{
-    catalog, day, deliveries, is, key, put, put_digest, put_fault, put_texts, tiny,
+    catalog, day, deliveries, hashed, is, key, put, put_digest, put_fault, put_texts, tiny,
 };
 use dv_catalog::Parent;
 use dv_digest::{Md5Keys, TinyKeys};
@@ -37,10 +37,11 @@ fn delta<H: KeyDigest>(
     let catalog = catalog(alloc)?;
     let load = day(load)?;
     let items = deliveries(alloc, &catalog, Parent::Hub(hub), hub, keys)?;
+    let hashed = hashed(alloc, items, digest)?;
     if !are_up_to(table.rows(), load) {
         return Err("too late".into());
     }
-    Ok(table.delta(load, &items, &catalog, digest))
+    Ok(table.delta(load, &hashed, &catalog, digest))
 }
 
 fn append(table: &mut HubTable, rows: List<HubRow>) -> Result<(), Memory>

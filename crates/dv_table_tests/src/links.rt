@@ -2,7 +2,7 @@ ghost use Rattle.std.specs.Prelude.{◌≡◌, ◌++◌, IfOk, IsTrue, nat_le};
 ghost use Rattle.std.specs.List.{list_all};
 ghost use Rattle.dv_keys.specs.LinkRows.{are_link_rows};
 
-use crate::values::{catalog, day, deliveries, is, key, put, put_digest, put_fault, tiny};
+use crate::values::{catalog, day, deliveries, hashed, is, key, put, put_digest, put_fault, tiny};
 use dv_catalog::Parent;
 use dv_digest::{Md5Keys, TinyKeys};
 use dv_keys::LinkTable;
@@ -75,10 +75,11 @@ fn delta<H: KeyDigest>(
     let catalog = catalog(alloc)?;
     let load = day(load)?;
     let items = deliveries(alloc, &catalog, Parent::Link(0), feed, lists)?;
+    let hashed = hashed(alloc, items, digest)?;
     if !are_up_to(table.rows(), load) {
         return Err("too late".into());
     }
-    Ok(table.delta(load, &items, names, &catalog, digest))
+    Ok(table.delta(load, &hashed, names, &catalog, digest))
 }
 
 fn append(table: &mut LinkTable, rows: List<LinkRow>) -> Result<(), Memory>

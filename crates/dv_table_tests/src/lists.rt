@@ -1,13 +1,17 @@
 // Lists that are new beside one that is held, and deliveries that are tested.
 ghost use Rattle.std.specs.Prelude.{◌≡◌, IsTrue};
 ghost use Rattle.dv_catalog.specs.declared.entries.Parent.TheVariants as parents;
+ghost use Rattle.dv_text.specs.Keys.{hashes_of};
+ghost use Rattle.dv_records.specs.Deltas.{AreHashed, delivered};
 ghost use Rattle.dv_keys.specs.ItemTests as tests;
 
-use crate::values::{catalog, deliveries, is, offered, put_digest, put_fault, put_refs, single};
+use crate::values::{
+    catalog, deliveries, hashed, is, offered, put_digest, put_fault, put_refs, single,
+};
 use dv_catalog::{Catalog, Parent, TableId};
 use dv_digest::{Md5Keys, TinyKeys};
 use dv_keys::{HashedList, HoldsLists, are_items, new_lists};
-use dv_records::{Delivery, DeltaFault};
+use dv_records::{DeltaFault, HashedDelivery};
 use dv_text::{Digest, Duplicate, Key, KeyDigest, List, Memory};
 use std::alloc::Global;
 use std::test::Fail;
@@ -54,10 +58,11 @@ fn new_of<H: KeyDigest>(
     alloc: Global,
     table: &OneList,
     catalog: &Catalog,
-    items: &List<Delivery>,
+    items: &List<HashedDelivery>,
     digest: &H,
 ) -> Result<List<HashedList>, DeltaFault>
-    requires { IsTrue (tests.are_items catalog.now (parents.Hub 0) items.now) }
+    requires items { IsTrue (tests.are_items catalog.now (parents.Hub 0) (delivered items.now)) }
+    requires hashed { AreHashed (hashes_of H.digest_of H.size) items.now }
 {
     new_lists(alloc, items, table, catalog, digest)
 }
@@ -80,6 +85,7 @@ fn told<H: KeyDigest>(
     let catalog = catalog(alloc)?;
     let table = one_list(alloc, held, digest)?;
     let items = deliveries(alloc, &catalog, Parent::Hub(0), 0, keys)?;
+    let items = hashed(alloc, items, digest)?;
     let mut out = Vec::new(alloc);
     match new_of(alloc, &table, &catalog, &items, digest) {
         Ok(lists) => put_lists(alloc, &mut out, lists.items())?,

@@ -5,7 +5,7 @@ ghost use Rattle.dv_digest.specs.Fits as fits;
 ghost use Rattle.dv_sat.specs.SatRows as spec;
 
 use crate::values::{catalog, day, is, put, put_digest, put_texts, rows};
-use dv_digest::{Md5Keys, TinyKeys, attrs_fit, refs_fit};
+use dv_digest::{HashedExtract, Md5Keys, TinyKeys, attrs_fit, refs_fit};
 use dv_records::SatRow;
 use dv_sat::SatTable;
 use dv_text::{Digest, KeyDigest, List, Memory, NRow, Staged, Stamp};
@@ -54,7 +54,8 @@ fn delta<H: KeyDigest>(
     if !are_up_to(table.rows(), load) {
         return Err("too late".into());
     }
-    let rows = table.delta(load, extract, &catalog, digest)?;
+    let hashed = HashedExtract::of(alloc, extract, digest)?;
+    let rows = table.delta(load, &hashed, &catalog, digest)?;
     Ok(rows)
 }
 

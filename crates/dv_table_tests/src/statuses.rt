@@ -5,7 +5,7 @@ ghost use Rattle.dv_digest.specs.Fits as fits;
 ghost use Rattle.dv_track.specs.Tracks as track;
 
 use crate::values::{catalog, day, is, put, put_digest, rows};
-use dv_digest::{Md5Keys, TinyKeys, refs_fit};
+use dv_digest::{HashedExtract, Md5Keys, TinyKeys, refs_fit};
 use dv_records::{Code, StatusRow};
 use dv_text::{Digest, KeyDigest, List, Memory, NRow, Staged, Stamp};
 use dv_track::StatusTable;
@@ -48,7 +48,8 @@ fn delta<H: KeyDigest>(
     if !are_up_to(table.rows(), load) {
         return Err("too late".into());
     }
-    let rows = table.delta(load, extract, &catalog, digest)?;
+    let hashed = HashedExtract::of(alloc, extract, digest)?;
+    let rows = table.delta(load, &hashed, &catalog)?;
     Ok(rows)
 }
 

@@ -1,14 +1,15 @@
 // Values from text, and text of values.
-ghost use Rattle.std.specs.Prelude.{◌≡◌};
+ghost use Rattle.std.specs.Prelude.{◌≡◌, IfOk, IsTrue, map};
+ghost use Rattle.dv_text.specs.Keys.{hashes_of};
 ghost use Rattle.dv_keys.specs.ItemTests as tests;
-ghost use Rattle.std.specs.Prelude.{IfOk, IsTrue};
+ghost use Rattle.dv_records.specs.Deltas.{AreHashed, delivered};
 
 use dv_catalog::{Catalog, Parent, TableId};
-use dv_digest::hex_text;
+use dv_digest::{Room, hash_key, hex_text, refs_fit};
 use dv_keys::are_items;
 use dv_mapfile::read_catalog;
-use dv_records::{Delivery, DeltaFault};
-use dv_text::{Digest, Key, List, Memory, NRow, Stamp, Text};
+use dv_records::{Delivery, DeltaFault, HashedDelivery};
+use dv_text::{Digest, Key, KeyDigest, List, Memory, NRow, Stamp, Text};
 use std::alloc::Global;
 use std::test::Fail;
 
@@ -116,6 +117,48 @@ pub(crate) fn deliveries(
         return Err("no such items".into());
     }
     Ok(items)
+}
+
+fn hashed_one<H: KeyDigest>(
+    delivery: Delivery,
+    digest: &H,
+    room: &mut Room,
+) -> Result<HashedDelivery, Fail>
+    ensures { IfOk result (λ made. made ≡ record { delivery = delivery; digest = (hashes_of H.digest_of H.size).hash delivery.refs }) }
+{
+    if !refs_fit(&delivery.refs) {
+        return Err("too long a list".into());
+    }
+    let digest = hash_key(digest, &delivery.refs, room);
+    Ok(HashedDelivery { delivery, digest })
+}
+
+fn each_hashed<H: KeyDigest>(
+    alloc: Global,
+    items: List<Delivery>,
+    digest: &H,
+) -> Result<List<HashedDelivery>, Fail>
+    ensures { IfOk result (λ made. made ≡ map (λ item. record { delivery = item; digest = (hashes_of H.digest_of H.size).hash item.refs }) items) }
+{
+    let mut room = Room::new(alloc)?;
+    let mut made = List::new(alloc);
+    for delivery in items.into_vec() {
+        made.push(hashed_one(delivery, digest, &mut room)?)?;
+    }
+    Ok(made)
+}
+
+// Deliveries with their hash keys.
+pub(crate) fn hashed<H: KeyDigest>(
+    alloc: Global,
+    items: List<Delivery>,
+    digest: &H,
+) -> Result<List<HashedDelivery>, Fail>
+    ensures items { IfOk result (λ made. delivered made ≡ items) }
+    ensures hashed { IfOk result (λ made. AreHashed (hashes_of H.digest_of H.size) made) }
+{
+    let made = each_hashed(alloc, items, digest)?;
+    Ok(made)
 }
 
 // The row of a key and of attributes, which stand behind an equals sign, between bars.

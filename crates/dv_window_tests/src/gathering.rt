@@ -1,10 +1,12 @@
 use crate::judging::put_keys;
 use crate::mappings::{ACCOUNTS, ASSIGNMENTS, ORDERS, catalog, window};
 use dv_catalog::{Parent, TableId};
+use dv_digest::{Md5Keys, Room, hash_key, refs_fit};
 use dv_judge::stage_window;
-use dv_records::Delivery;
-use dv_vault::deliveries;
+use dv_records::{Delivery, HashedDelivery};
+use dv_vault::{deliveries, gathered};
 use std::alloc::AllocError;
+use std::process::Abort;
 use std::test::Fail;
 
 // Puts a delivery as the letter and the place of its table, its feed and its keys.
@@ -22,9 +24,15 @@ fn put_item(into: &mut Vec<u8>, rt: &impl AllocGlobal, item: &Delivery) -> Resul
     Ok(())
 }
 
-// What a window of two extracts delivers to a hub or a link.
+// Whether the hash key of a delivery is that of its references.
+fn is_hashed(item: &HashedDelivery, room: &mut Room) -> bool {
+    let refs = &item.delivery.refs;
+    refs_fit(refs) && item.digest == hash_key(&Md5Keys, refs, room)
+}
+
+// What a window of two extracts delivers to a hub or a link, each with its hash key.
 fn delivered(
-    rt: &impl AllocGlobal,
+    rt: &(impl AllocGlobal + Abort),
     mapping: &[u8],
     extracts: &[(&[u8], &[u8])],
     parent: Parent,
@@ -34,9 +42,12 @@ fn delivered(
     let window = stage_window(rt.alloc(), &catalog, &given)
         .ok()
         .ok_or("refused")?;
+    let hashed = gathered(rt.alloc(), &catalog, &window, &Md5Keys)?;
+    let mut room = Room::new(rt.alloc())?;
     let mut shown = Vec::new(rt.alloc());
-    for item in deliveries(rt.alloc(), &catalog, &window, parent)?.items() {
-        put_item(&mut shown, rt, item)?;
+    for item in deliveries(rt.alloc(), &catalog, &hashed, parent, &Md5Keys)?.items() {
+        assert!(rt; is_hashed(item, &mut room));
+        put_item(&mut shown, rt, &item.delivery)?;
     }
     Ok(shown)
 }
