@@ -1,11 +1,18 @@
+ghost use Rattle.std.specs.Prelude.{◌≡◌, ◌∷◌, [], IfOk, IsTrue, None};
+ghost use Rattle.dv_catalog.specs.FirstOf.{first_of};
+ghost use Rattle.dv_catalog.specs.Mappings.{is_valid};
+ghost use Rattle.dv_records.specs.Outcomes.{feed_twice, no_extracts, unknown_feed};
+ghost use Rattle.dv_records.specs.States.{is_window};
+
 use crate::judging::put_keys;
 use crate::mappings::{ACCOUNTS, ASSIGNMENTS, ORDERS, catalog, window};
-use dv_catalog::{Parent, TableId};
+use dv_catalog::{Catalog, Parent, TableId, WindowIn};
 use dv_digest::{Md5Keys, Room, hash_key, refs_fit};
-use dv_judge::stage_window;
+use dv_judge::{given_rule, stage_window};
 use dv_records::{Delivery, HashedDelivery};
+use dv_text::{Memory, Window};
 use dv_vault::{deliveries, gathered};
-use std::alloc::AllocError;
+use std::alloc::{AllocError, Global};
 use std::process::Abort;
 use std::test::Fail;
 
@@ -30,6 +37,30 @@ fn is_hashed(item: &HashedDelivery, room: &mut Room) -> bool {
     refs_fit(refs) && item.digest == hash_key(&Md5Keys, refs, room)
 }
 
+// Whether the extracts break no rule as they are given.
+fn is_given(alloc: Global, catalog: &Catalog, given: &WindowIn) -> Result<bool, Memory>
+    ensures { IfOk result (λ is. IsTrue is → first_of (no_extracts given.now ∷ unknown_feed catalog.now given.now ∷ feed_twice given.now ∷ []) ≡ None) }
+{
+    let rule = given_rule(alloc, catalog, given)?;
+    Ok(rule.is_none())
+}
+
+// The window that is given, which breaks no rule.
+#[tactic(auto, using(crate::proofs::Staged::staged_whole))]
+fn staged(alloc: Global, catalog: &Catalog, given: &WindowIn) -> Result<Window, Fail>
+    ensures valid { IsTrue (is_valid catalog.now) }
+    ensures whole { IfOk result (λ window. IsTrue (is_window catalog.now window)) }
+{
+    catalog.note_valid();
+    if !is_given(alloc, catalog, given)? {
+        return Err("refused".into());
+    }
+    match stage_window(alloc, catalog, given) {
+        Ok(window) => Ok(window),
+        Err(_) => Err("refused".into()),
+    }
+}
+
 // What a window of two extracts delivers to a hub or a link, each with its hash key.
 fn delivered(
     rt: &(impl AllocGlobal + Abort),
@@ -39,9 +70,7 @@ fn delivered(
 ) -> Result<Vec<u8>, Fail> {
     let catalog = catalog(rt, mapping)?;
     let given = window(rt, extracts)?;
-    let window = stage_window(rt.alloc(), &catalog, &given)
-        .ok()
-        .ok_or("refused")?;
+    let window = staged(rt.alloc(), &catalog, &given)?;
     let hashed = gathered(rt.alloc(), &catalog, &window, &Md5Keys)?;
     let mut room = Room::new(rt.alloc())?;
     let mut shown = Vec::new(rt.alloc());
