@@ -72,7 +72,7 @@ impl Catalog {
         }
     }
 
-    /// The allocator that the mapping keeps. Takes no memory.
+    /// The allocator that the mapping keeps: there is one, so no clause says which. Takes no memory.
     pub fn allocator(&self) -> Global {
         self.hubs.allocator()
     }

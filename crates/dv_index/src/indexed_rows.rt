@@ -59,7 +59,7 @@ impl<R: Placed> IndexedRows<R> {
         })
     }
 
-    /// The allocator that the table keeps. Takes no memory.
+    /// The allocator that the table keeps: there is one, so no clause says which. Takes no memory.
     pub fn allocator(&self) -> Global {
         *self.rows.allocator()
     }

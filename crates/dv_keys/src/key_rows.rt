@@ -37,7 +37,7 @@ impl<R: Placed> KeyRows<R> {
         Ok(KeyRows { indexed })
     }
 
-    /// The allocator that the table keeps. Takes no memory.
+    /// The allocator that the table keeps: there is one, so no clause says which. Takes no memory.
     pub(crate) fn allocator(&self) -> Global {
         self.indexed.allocator()
     }

@@ -58,6 +58,7 @@ impl SatTable {
         self.indexed.rows()
     }
 
+    /// The allocator that the table keeps: there is one, so no clause says which.
     pub(crate) fn allocator(&self) -> Global {
         self.indexed.allocator()
     }

@@ -53,7 +53,7 @@ impl<T> List<T> {
         vec
     }
 
-    /// The allocator that the list keeps. Takes no memory.
+    /// The allocator that the list keeps: there is one, so no clause says which. Takes no memory.
     pub fn allocator(&self) -> Global {
         *self.vec.allocator()
     }

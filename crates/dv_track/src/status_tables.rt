@@ -75,6 +75,7 @@ impl StatusTable {
         self.indexed.rows()
     }
 
+    /// The allocator that the table keeps: there is one, so no clause says which.
     pub(crate) fn allocator(&self) -> Global {
         self.indexed.allocator()
     }

@@ -61,6 +61,7 @@ impl Office {
         &self.vault
     }
 
+    /// The allocator that the office keeps: there is one, so no clause says which.
     pub(crate) fn allocator(&self) -> Global {
         self.dates.allocator()
     }
