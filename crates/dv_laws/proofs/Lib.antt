@@ -3,7 +3,6 @@ pub mod EffectTies
 pub mod HeaderSteps
 pub mod HubReconstruct
 pub mod MultiReadBack
-pub mod MultiReconstruct
 pub mod PeriodTies
 pub mod RunTies
 pub mod TableLaws

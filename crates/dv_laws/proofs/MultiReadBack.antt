@@ -5,7 +5,7 @@ use Rattle.dv_laws.proofs.Vocabulary.{reverse_member, some_passes_at, sorted_by-
 use Rattle.dv_laws.proofs.Vocabulary.{any_content_read, any_content_read_by, multi_content_read, multi_content_read_by, multi_rows_in, present_parents, rows_read, status_rows_in, all_valid_at, described_row, HasOneRowPerSub, last_rows}
 use Rattle.dv_laws.proofs.Vocabulary.{rows_of, are_windows_valid, vault, rows_of_extract, content_ascends, content_delivered, feed_apart, present_has, row_present, row_refs, content_extract, feed_tells, load_order, unknown_unstaged}
 use Rattle.dv_laws.proofs.Vocabulary.{vault_multi, not-true}
-use Rattle.dv_laws.proofs.MultiReconstruct.{multi_tells}
+use Rattle.dv_records.proofs.MultiReconstruct.{multi_tells}
 
 -- ---- the last rows
 

@@ -13,6 +13,7 @@ pub mod LinkPlaces
 pub mod Loads
 pub mod Marts
 pub mod MemoryKeepers
+pub mod MultiPlaces
 pub mod Outcomes
 pub mod RawTables
 pub mod ReadBack

@@ -10,6 +10,7 @@ mod keepers;
 mod link_places;
 mod mart_rows;
 mod memory_keepers;
+mod multi_places;
 mod pages;
 mod raw_rows;
 mod raw_tables;

@@ -5,11 +5,11 @@ pub sat_total : IsTotalOrder sat_cmp
 sat_total = on_total (λ (row : SatRow). row.parent) nat_list_cmp_total
 
 -- a row that is there where a test fails, or where it passes, is the one that was made
-if_not : (test : Bool) (new row : SatRow) → (if test then None else Some new) ≡ Some row → new ≡ row
+pub if_not : {R : Type 0} (test : Bool) (new row : R) → (if test then None else Some new) ≡ Some row → new ≡ row
 if_not true new row e = cc
 if_not false new row e = cc
 
-pub if_so : (test : Bool) (new row : SatRow) → (if test then Some new else None) ≡ Some row → new ≡ row
+pub if_so : {R : Type 0} (test : Bool) (new row : R) → (if test then Some new else None) ≡ Some row → new ≡ row
 if_so true new row e = cc
 if_so false new row e = cc
 

@@ -22,3 +22,27 @@ pub use Rattle.std.proofs.lemmas.List.Elements.{All-map}
 pub use Rattle.std.proofs.lemmas.List.Kept.{IsStrictlySortedBy-filter}
 unfoldable pub use Rattle.std.specs.List.Sorted.{IsStrictlySortedBy}
 pub use Rattle.std.specs.declared.cmp.Ordering.TheVariants.{Less}
+pub use Rattle.std.proofs.Common.{◌+◌, ◌≤◌, length, drop, append-nil, filter}
+pub use Rattle.dv_text.proofs.Passing.{filter-all, filter-none}
+pub use Rattle.std.proofs.lemmas.List.Elements.{filter-append}
+pub use Rattle.dv_index.proofs.Vocabulary.{IsPartitionPoint, IsPartitionedBy, IsSortedBy, length-drop}
+pub use Rattle.std.proofs.Common.{◌<◌}
+pub use Rattle.std.specs.declared.cmp.Ordering.{Ordering}
+pub use Rattle.std.specs.declared.cmp.Ordering.TheVariants.{Equal, Greater}
+pub use Rattle.dv_records.proofs.Vocabulary.{false≢true, ordering_then}
+pub use Rattle.std.proofs.lemmas.Map.Keys.{Less-from_sorted}
+pub use Rattle.std.specs.Ordering.{ordering_reverse}
+pub use Rattle.std.proofs.Common.{get_or}
+pub use Rattle.dv_records.proofs.Vocabulary.{refs_cmp, refs_exact, refs_total}
+pub use Rattle.std.proofs.lemmas.Cmp.{tied_itself}
+pub use Rattle.std.proofs.lemmas.Cmp.{nat_cmp_total, then_total}
+pub use Rattle.dv_records.proofs.Vocabulary.{and_from, and_parts, both_tied, bytes_eq-Decides, eq-eqb, eqb-true, nat_cmp, nat_cmp-IsAntisymmetric, slice_cmp-IsAntisymmetric}
+pub use Rattle.dv_records.specs.MultiPlaces.{multi_place}
+pub use Rattle.dv_sat.specs.MultiRows.{multi_order}
+pub use Rattle.dv_records.specs.declared.raw_rows.MultiRow.{MultiRow}
+pub use Rattle.dv_index.specs.Places.{Place}
+pub use Rattle.dv_records.proofs.Vocabulary.{digest_cmp}
+pub use Rattle.dv_sat.specs.MultiRows.{multi_change, multi_delta}
+pub use Rattle.dv_records.specs.Satellites.{multi_batch, multi_cmp, multi_row}
+pub use Rattle.std.proofs.Common.{map}
+pub use Rattle.dv_records.proofs.Vocabulary.{◌↔◌}

@@ -2,8 +2,13 @@
 #![tactic(auto)]
 
 mod feed_tables;
+mod multi_changes;
+mod multi_feed_tables;
+mod multi_tables;
+mod runs;
 mod sat_changes;
 mod sat_tables;
 mod sorting;
 
+pub use multi_tables::MultiTable;
 pub use sat_tables::SatTable;

@@ -2,7 +2,7 @@
 ghost use Rattle.std.specs.Prelude.{◌≡◌, IfOk};
 ghost use Rattle.dv_text.specs.Sorting.{sorted_by};
 
-use dv_records::SatRow;
+use dv_records::{MultiRow, SatRow};
 use dv_text::{List, Memory};
 use std::cmp::Ordering;
 
@@ -33,6 +33,21 @@ impl Batched for SatRow {
     }
 
     ghost total = { on_total (λ (row : row_type.SatRow). row.parent) nat_list_cmp_total };
+}
+
+impl Batched for MultiRow {
+    ghost use Rattle.dv_records.specs.Satellites.{multi_cmp};
+    ghost use Rattle.dv_records.proofs.SatelliteTies.{multi_total};
+
+    ghost batch_cmp = { multi_cmp };
+
+    fn compared(&self, other: &MultiRow) -> Ordering {
+        self.parent
+            .cmp(&other.parent)
+            .then_with(|| self.sub.cmp(&other.sub))
+    }
+
+    ghost total = { multi_total };
 }
 
 /// The rows in the order of a batch; of those that tie, the first.

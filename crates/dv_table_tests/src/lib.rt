@@ -1,4 +1,4 @@
-//! Tests of the tables of hubs, links, satellites and statuses. Each scenario is a line of text and tells a text:
+//! Tests of the tables of hubs, links, satellites, multi-active satellites and statuses. Each scenario is a line of text and tells a text:
 //! so a test has one call and one comparison.
 #![tactic(auto)]
 
@@ -8,6 +8,8 @@ mod hubs;
 mod links;
 #[cfg(test)]
 mod lists;
+#[cfg(test)]
+mod multis;
 #[cfg(test)]
 mod sats;
 #[cfg(test)]

@@ -1,8 +1,15 @@
 -- The multi-active satellite rows of a feed say at each date which rows a list had when it was last there.
-use Rattle.dv_laws.proofs.Vocabulary.{Contains, nat_le, find, ◌&&◌, bytes_eq, ◌≡◌, ◌↔◌, ℕ, ◌==◌, inl, inr, Bool, List, [], Option, Some, None, refl, sym, ◌∙◌, ap, subst, reverse, map, eq-eqb, eqb-true, ◌⊎◌, and_from, and_parts}
-use Rattle.dv_laws.proofs.Vocabulary.{bytes_eq-Decides, Key, NRow, Window, Hashes, filtered_members, map_member, Contains-map, Contains-nil, Multi, Mapping, source as source_of, MultiRow, Multis, appended, IsApart, Extract, all_refs}
-use Rattle.dv_laws.proofs.Vocabulary.{delivered_refs, history, up_to, IsInLoadOrder, lists_of, multi_rows, all_valid_at, described_row, loaded_with, HasOneRowPerSub, last_rows, multi_batch, multi_cmp, rows_of, IsMultiBatch, IsOnePerSub}
-use Rattle.dv_laws.proofs.Vocabulary.{table_after, AreValid, of_list, valid_rows, feed_rows, IsOwn, apart-reversed, IsNewestFirst, history-newest_first, history_member, multi_tied}
+use Rattle.dv_records.specs.Reconstruction.{all_valid_at, described_row, loaded_with, HasOneRowPerSub}
+use Rattle.dv_records.specs.declared.stores.Rows.TheVariants.{Multis}
+use Rattle.dv_records.proofs.Vocabulary.{Contains, nat_le, find, ◌&&◌, bytes_eq, ◌≡◌, ◌↔◌, ℕ, ◌==◌, inl, inr, Bool, List, [], Option, Some, None, refl, sym, ◌∙◌, ap, subst, reverse, map, eq-eqb, eqb-true, ◌⊎◌, and_from}
+use Rattle.dv_records.proofs.Vocabulary.{and_parts, bytes_eq-Decides, Key, NRow, Window, Hashes, filtered_members, map_member, Contains-map, Contains-nil, Multi, Mapping, MultiRow, appended, IsApart, Extract, all_refs, delivered_refs, history, up_to, IsInLoadOrder, lists_of, multi_rows, last_rows, multi_batch, multi_cmp, rows_of, IsMultiBatch}
+use Rattle.dv_records.proofs.Vocabulary.{IsOnePerSub, table_after}
+use Rattle.dv_catalog.specs.Feeds.{source as source_of}
+use Rattle.dv_records.proofs.ChangedRows.{AreValid, of_list, valid_rows}
+use Rattle.dv_records.proofs.FeedSteps.{feed_rows}
+use Rattle.dv_records.proofs.LastChange.{IsOwn, apart-reversed}
+use Rattle.dv_records.proofs.Reversing.{IsNewestFirst, history-newest_first, history_member}
+use Rattle.dv_records.proofs.SatelliteTies.{multi_tied}
 
 module _ (hashes : Hashes) (source : List ℕ) (refs : List Key) (date : ℕ) where
   -- the multi-active row of an extract's row
@@ -15,7 +22,7 @@ module _ (hashes : Hashes) (source : List ℕ) (refs : List Key) (date : ℕ) wh
   abbrev with_load : MultiRow → MultiRow → Bool
   with_load last row = bytes_eq row.parent (hashes.hash refs) && row.load == last.load
 
-  tells : (all : List Extract) → IsNewestFirst (λ (extract : Extract). extract.load) all → ((extract : Extract) → Contains all extract → IsOnePerSub extract.rows) → IsApart hashes (lists_of all) → IsOwn hashes refs all
+  pub tells : (all : List Extract) → IsNewestFirst (λ (extract : Extract). extract.load) all → ((extract : Extract) → Contains all extract → IsOnePerSub extract.rows) → IsApart hashes (lists_of all) → IsOwn hashes refs all
       → (said : NRow) → Contains (map (described_row refs) (all_valid_at (appended (multi_batch hashes source) all) (hashes.hash refs) date)) said ↔ Contains (last_rows (up_to date all) refs) said
   tells all order single apart own said =
       by

@@ -1,0 +1,229 @@
+ghost use Rattle.std.specs.Prelude.{◌≡◌, ◌≤◌, ◌<◌, ◌++◌, ◌==◌, All, IfOk, IsTrue, OnOk, length, map};
+ghost use Rattle.std.specs.List.{filter_map, list_all};
+ghost use Rattle.std.specs.List.Sorted.{IsStrictlySortedBy};
+ghost use Rattle.std.specs.Cmp.Lexicographic.{pointwise};
+ghost use Rattle.dv_text.specs.Keys.{hashes_of, row_eq};
+ghost use Rattle.dv_text.specs.Orders.{row_cmp};
+ghost use Rattle.dv_digest.specs.Fits as fits;
+ghost use Rattle.dv_digest.specs.HashedExtracts.{HasKeys};
+ghost use Rattle.dv_catalog.specs.Feeds.{source};
+ghost use Rattle.dv_records.specs.Reconstruction.{all_valid_at, described_row};
+ghost use Rattle.dv_sat.specs.MultiRows.{are_up_to, multi_change, multi_delta, multi_order, IsMultiBatchAfter};
+ghost use Rattle.dv_sat.specs.MultiRows as spec;
+
+use crate::multi_changes::{are_described, new_multi_row};
+use crate::runs::{rows_of_list, rows_with};
+use crate::sat_changes::{add, diff};
+use crate::sorting::in_batch_order;
+use dv_catalog::{Catalog, record_source};
+use dv_digest::{HashedExtract, Room};
+use dv_index::IndexedRows;
+use dv_records::MultiRow;
+use dv_text::{Digest, KeyDigest, List, Memory, NRow, Stamp, Text};
+use std::alloc::Global;
+use std::marker::Model;
+
+/// The multi-active satellite of a feed: the rows that described each parent, one for each sub, and from when on
+/// (Linstedt and Olschimke 2015, chapter 5, on multi-active satellites). Contracts see it as its rows, and for how
+/// many more there is room. The rows ascend by load date, then by parent, then by sub.
+#[derive(Drop)]
+pub struct MultiTable {
+    indexed: IndexedRows<MultiRow>,
+}
+
+impl Model for MultiTable {
+    ghost use Rattle.std.specs.List.Sorted.{IsStrictlySortedBy};
+    ghost use Rattle.dv_index.specs.Places.{Indexed};
+    ghost use Rattle.dv_records.specs.declared.raw_rows.MultiRow.{MultiRow};
+    ghost use Rattle.dv_sat.specs.MultiRows.{multi_order};
+
+    ghost Value = { Indexed MultiRow };
+
+    ghost view = { λ table. table.indexed };
+
+    ghost invariant = { λ table. IsStrictlySortedBy multi_order table.indexed.rows };
+}
+
+impl MultiTable {
+    /// The table of these rows. Condition: they ascend strictly by load date, then by parent, then by sub.
+    pub fn from_rows(alloc: Global, rows: List<MultiRow>) -> Result<MultiTable, Memory>
+        requires { IsStrictlySortedBy multi_order rows }
+        ensures { IfOk result (λ table. table.rows ≡ rows) }
+    {
+        let indexed = IndexedRows::from_rows(alloc, rows)?;
+        Ok(MultiTable { indexed })
+    }
+
+    /// The rows, in their order. Takes no memory.
+    pub fn rows(&self) -> &[MultiRow]
+        ensures value { result.now ≡ self.now.rows }
+        ensures kept { IsStrictlySortedBy multi_order self.now.rows }
+    {
+        self.indexed.rows()
+    }
+
+    pub(crate) fn allocator(&self) -> Global {
+        self.indexed.allocator()
+    }
+
+    /// Does nothing: a call tells a proof that the rows ascend.
+    pub(crate) fn note_order(&self)
+        ensures { IsStrictlySortedBy multi_order self.now.rows }
+    {
+        let _rows = self.indexed.rows();
+    }
+
+    /// Makes room for so many more rows. The rows stay as they are, also for want of memory.
+    pub fn reserve(&mut self, more: u64) -> Result<(), Memory>
+        ensures rows { self.new.rows ≡ self.old.rows }
+        ensures room { OnOk result (more ≤ self.new.spare) }
+    {
+        self.indexed.reserve(more)
+    }
+
+    /// Appends rows. Conditions: there is room for them, and all rows ascend strictly by load date, then by
+    /// parent, then by sub. Takes no memory.
+    pub fn apply(&mut self, rows: List<MultiRow>)
+        requires room { length rows ≤ self.old.spare }
+        requires order { IsStrictlySortedBy multi_order (self.old.rows ++ rows) }
+        ensures { self.new.rows ≡ self.old.rows ++ rows }
+    {
+        self.indexed.apply(rows);
+    }
+
+    /// The rows that are valid for a parent at a date, by sub: those with the load date of its last row that is not
+    /// later; none where there is no such row. Takes no memory.
+    pub fn at(&self, parent: &Digest, date: Stamp) -> &[MultiRow]
+        ensures { result.now ≡ all_valid_at self.now.rows parent.now date }
+    {
+        match self.indexed.latest(parent, date) {
+            Some(last) => rows_with(self.indexed.rows(), parent, last.load),
+            None => &[],
+        }
+    }
+
+    // Whether the last row has a load date: no row has it where that one hasn't.
+    fn has_load(&self, load: Stamp) -> bool
+        requires { IsTrue (are_up_to self.now.rows load) }
+        ensures value { result ≡ spec.has_load self.now.rows load }
+        ensures ascending { IsStrictlySortedBy multi_order self.now.rows }
+    {
+        match self.indexed.rows().last() {
+            Some(row) => row.load == load,
+            None => false,
+        }
+    }
+
+    // Whether the rows that are valid for a parent at a date are all those of a row's reference list among rows.
+    fn are_same(&self, parent: &Digest, date: Stamp, staged: &[NRow], row: &NRow) -> bool
+        requires { IsStrictlySortedBy row_cmp staged.now }
+        ensures { result ≡ spec.are_same (all_valid_at self.now.rows parent.now date) staged.now row.now }
+    {
+        are_described(
+            self.at(parent, date),
+            &row.refs,
+            rows_of_list(staged, &row.refs),
+        )
+    }
+
+    // The row that an extract's row adds, where the parent is the hash key of its reference list.
+    fn change<H: KeyDigest>(
+        &self,
+        load: Stamp,
+        source: &Text,
+        staged: &[NRow],
+        row: &NRow,
+        parent: &Digest,
+        digest: &H,
+        room: &mut Room,
+    ) -> Result<Option<MultiRow>, Memory>
+        requires ascending { IsStrictlySortedBy row_cmp staged.now }
+        requires key { parent.now ≡ (hashes_of H.digest_of H.size).hash row.now.refs }
+        requires attrs_fit { IsTrue (fits.attrs_fit row.now.attrs) }
+        ensures { IfOk result (λ made. made ≡ multi_change (hashes_of H.digest_of H.size) source.now self.now.rows load staged.now row.now) }
+    {
+        if self.are_same(parent, load, staged, row) {
+            return Ok(None);
+        }
+        let diff = diff(digest, &row.attrs, room);
+        let made = new_multi_row(*parent, load, source, diff, row)?;
+        Ok(Some(made))
+    }
+
+    // The rows that an extract's rows add, in the order of these.
+    fn changes<H: KeyDigest>(
+        &self,
+        load: Stamp,
+        source: &Text,
+        rows: &[NRow],
+        keys: &[Digest],
+        digest: &H,
+    ) -> Result<Vec<MultiRow>, Memory>
+        requires ascending { IsStrictlySortedBy row_cmp rows.now }
+        requires keys { keys.now ≡ map (λ row. (hashes_of H.digest_of H.size).hash row.refs) rows.now }
+        requires attrs_fit { IsTrue (list_all (λ row. fits.attrs_fit row.attrs) rows.now) }
+        ensures { IfOk result (λ made. made.items ≡ filter_map (multi_change (hashes_of H.digest_of H.size) source.now self.now.rows load rows.now) rows.now) }
+    {
+        let mut room = Room::new(self.allocator())?;
+        let mut made = Vec::new(self.allocator());
+        for (row, key) in rows.iter().zip(keys) {
+            let change = self.change(load, source, rows, row, key, digest, &mut room)?;
+            add(&mut made, change)?;
+        }
+        Ok(made)
+    }
+
+    /// The rows that an extract adds, by hash key, then by sub: all rows of each reference list whose rows are other
+    /// ones than those that are valid for its parent at the load date; none where the table has a row of this load
+    /// date. They have the load date, and the table's rows followed by them ascend. Over the table of a feed's
+    /// extracts before it, they are the extract's batch, where the extracts have one row for each reference list and
+    /// sub, and no two of these lists have one hash key. Conditions: the feed is in the mapping, the extract has its
+    /// hash keys, its rows ascend, the attributes are no longer than those of staged rows, and no row of the table is
+    /// later than the load date.
+    pub fn delta<H: KeyDigest>(
+        &self,
+        load: Stamp,
+        extract: &HashedExtract<'_>,
+        catalog: &Catalog,
+        digest: &H,
+    ) -> Result<List<MultiRow>, Memory>
+        requires feed { extract.now.staged.now.feed < length catalog.now.feeds }
+        requires keys { HasKeys (hashes_of H.digest_of H.size) extract.now }
+        requires ascending { IsStrictlySortedBy row_cmp extract.now.staged.now.rows }
+        requires attrs_fit { IsTrue (list_all (λ row. fits.attrs_fit row.attrs) extract.now.staged.now.rows) }
+        requires not_later { IsTrue (are_up_to self.now.rows load) }
+        ensures delta { IfOk result (λ rows. rows ≡ multi_delta (hashes_of H.digest_of H.size) (source catalog.now extract.now.staged.now.feed) self.now.rows load extract.now.staged.now.rows) }
+        ensures stamped { IfOk result (All (λ row. row.load ≡ load)) }
+        ensures follows { IfOk result (λ rows. IsStrictlySortedBy multi_order (self.now.rows ++ rows)) }
+        ensures batch { IfOk result (IsMultiBatchAfter (hashes_of H.digest_of H.size) (source catalog.now extract.now.staged.now.feed) self.now.rows (record { load = load; rows = extract.now.staged.now.rows })) }
+    {
+        let rows = self.delta_rows(load, extract, catalog, digest)?;
+        Ok(rows)
+    }
+
+    fn delta_rows<H: KeyDigest>(
+        &self,
+        load: Stamp,
+        extract: &HashedExtract<'_>,
+        catalog: &Catalog,
+        digest: &H,
+    ) -> Result<List<MultiRow>, Memory>
+        requires feed { extract.now.staged.now.feed < length catalog.now.feeds }
+        requires keys { HasKeys (hashes_of H.digest_of H.size) extract.now }
+        requires ascending { IsStrictlySortedBy row_cmp extract.now.staged.now.rows }
+        requires attrs_fit { IsTrue (list_all (λ row. fits.attrs_fit row.attrs) extract.now.staged.now.rows) }
+        requires not_later { IsTrue (are_up_to self.now.rows load) }
+        ensures value { IfOk result (λ rows. rows ≡ multi_delta (hashes_of H.digest_of H.size) (source catalog.now extract.now.staged.now.feed) self.now.rows load extract.now.staged.now.rows) }
+        ensures order { IsStrictlySortedBy multi_order self.now.rows }
+    {
+        if self.has_load(load) {
+            return Ok(List::new(self.allocator()));
+        }
+        let staged = extract.staged;
+        let source = record_source(self.allocator(), catalog.feed(staged.feed))?;
+        let rows = staged.rows.items();
+        let changes = self.changes(load, &source, rows, extract.keys.items(), digest)?;
+        let rows = in_batch_order(changes)?;
+        Ok(rows)
+    }
+}
