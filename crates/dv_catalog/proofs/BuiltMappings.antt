@@ -7,7 +7,7 @@ absent : (lacks : Bool) (key : List ℕ) → key_if (not lacks) key ≡ None →
 absent true key e = refl
 absent false key e = let no : Some key ≡ None = e in cc
 
--- a list of columns or driving keys that is no form
+-- a list of driving keys that is no form
 no_form : {X : Type 0} (xs : List X) (key : List ℕ) → key_if (not (length xs == 0)) key ≡ None → xs ≡ []
 no_form xs key e = nil_from_length xs (eqb-true (length xs) 0 (absent (length xs == 0) key e))
 
@@ -27,14 +27,10 @@ no_path (path ∷ paths) e = let no : Some (codes "name") ≡ None = built_at un
 
 -- a feed in which every form is built
 pub record BuiltFeed (feed : FeedDef) : Type 0 where
-  pub no_sub : feed.sub ≡ []
   pub no_driver : feed.driver ≡ []
 
 built_feed : (feed : FeedDef) → unbuilt_feed feed ≡ None → BuiltFeed feed
-built_feed feed e =
-    let (sub, more) = or_none (key_if (not (length feed.sub == 0)) (codes "sub")) _ e in
-    let (driver, none) = or_none (key_if (not (length feed.driver == 0)) (codes "driver")) _ more in
-    record { no_sub = no_form feed.sub (codes "sub") sub; no_driver = no_form feed.driver (codes "driver") driver }
+built_feed feed e = record { no_driver = no_form feed.driver (codes "driver") e }
 
 -- a mapping in which every form is built
 pub record BuiltForms (mapping : Mapping) : Type 0 where

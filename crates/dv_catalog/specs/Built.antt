@@ -14,9 +14,9 @@ use Rattle.dv_catalog.specs.Shapes.{place_of}
 abbrev pub key_if : Bool → List ℕ → Option (List ℕ)
 key_if stands key = if stands then Some key else None
 
--- a feed with columns that tell several rows of one parent apart is not built, nor one with driving keys
+-- a feed with driving keys is not built
 abbrev pub unbuilt_feed : FeedDef → Option (List ℕ)
-unbuilt_feed feed = first_of (key_if (not (length feed.sub == 0)) (codes "sub") ∷ key_if (not (length feed.driver == 0)) (codes "driver") ∷ [])
+unbuilt_feed feed = key_if (not (length feed.driver == 0)) (codes "driver")
 
 -- no path is built
 abbrev pub unbuilt_path : PathDef → Option (List ℕ)
