@@ -2,7 +2,6 @@ pub mod Ascending
 pub mod EffectTies
 pub mod HeaderSteps
 pub mod HubReconstruct
-pub mod MultiReadBack
 pub mod PeriodTies
 pub mod RunTies
 pub mod TableLaws

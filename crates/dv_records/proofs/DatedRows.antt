@@ -141,3 +141,9 @@ module _ {X : Type 0} (load : X → ℕ) (batch : List Extract → Extract → L
           let at : load row ≡ newest.load = eqb-true (load row) newest.load same in
           let early = table_before newest.load older (newest_first (newest ∷ older) order).0 row member in
           absurd (omega (arith, at, early))
+
+  -- nor is one later than it
+  pub none_later : (older : List Extract) (newest : Extract) → AreNewestFirst (newest ∷ older) → list_all (λ row. nat_le (load row) newest.load) (appended batch older) ≡ true
+  none_later older newest order =
+      all_pass (λ row. nat_le (load row) newest.load) (appended batch older)
+      (λ row member. le-leb (load row) newest.load (omega (arith, table_before newest.load older (newest_first (newest ∷ older) order).0 row member)))

@@ -13,6 +13,7 @@ pub mod KnownLists
 pub mod KnownRefs
 pub mod LastChange
 pub mod LinkTables
+pub mod MultiReadBack
 pub mod MultiReconstruct
 pub mod NewestRows
 pub mod ParentTables

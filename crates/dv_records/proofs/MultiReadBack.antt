@@ -1,10 +1,36 @@
 -- The content of a feed with a sub, and so that of any feed, is read back from the tables of the vault.
-use Rattle.dv_laws.proofs.Vocabulary.{flat_map, option_map_or, Contains, slice_get, ◌≡◌, ◌↔◌, ℕ, ◌==◌, Bool, true, false, List, [], ◌∷◌, Option, Some, None, refl, sym, ◌∙◌, ap, subst, map, length, reverse, eqb-true, nil_from_length, Key}
-use Rattle.dv_laws.proofs.Vocabulary.{NRow, Window, row_cmp-IsAntisymmetric, Hashes, refs_eq, refs_eq-Decides, row_total, Contains-cons_here, filter_map_member, filtered_members, flat_map_member, Contains-flat_map, Contains-nil}
-use Rattle.dv_laws.proofs.Vocabulary.{reverse_member, some_passes_at, sorted_by-members, FeedDef, Mapping, is_valid, valid_feed, Multis, TableRows, Extract, content, delivered_refs, delivers, extract_of, history, newest_rows, up_to}
-use Rattle.dv_laws.proofs.Vocabulary.{any_content_read, any_content_read_by, multi_content_read, multi_content_read_by, multi_rows_in, present_parents, rows_read, status_rows_in, all_valid_at, described_row, HasOneRowPerSub, last_rows}
-use Rattle.dv_laws.proofs.Vocabulary.{rows_of, are_windows_valid, vault, rows_of_extract, content_ascends, content_delivered, feed_apart, present_has, row_present, row_refs, content_extract, feed_tells, load_order, unknown_unstaged}
-use Rattle.dv_laws.proofs.Vocabulary.{vault_multi, not-true}
+use Rattle.std.specs.List.{flat_map}
+use Rattle.std.specs.Option.{option_map_or}
+use Rattle.std.specs.Prelude.{Contains, slice_get}
+use Rattle.std.proofs.Common.{◌≡◌, ◌↔◌, ℕ, ◌==◌, Bool, true, false, List, [], ◌∷◌, Option, Some, None, refl, sym, ◌∙◌, ap, subst, map, length, reverse, eqb-true}
+use Rattle.std.proofs.lemmas.List.{nil_from_length}
+use Rattle.dv_text.specs.declared.rows.Key.{Key}
+use Rattle.dv_text.specs.declared.rows.NRow.{NRow}
+use Rattle.dv_text.specs.declared.rows.Window.{Window}
+use Rattle.dv_text.specs.Exact.{row_cmp-IsAntisymmetric}
+use Rattle.dv_text.specs.Keys.{Hashes, refs_eq}
+use Rattle.dv_text.proofs.Deciding.{refs_eq-Decides, row_total}
+use Rattle.dv_text.proofs.Members.{Contains-cons_here, filter_map_member, filtered_members, flat_map_member, Contains-flat_map, Contains-nil, reverse_member}
+use Rattle.dv_text.proofs.Passing.{some_passes_at}
+use Rattle.dv_text.proofs.SortedLists.{sorted_by-members}
+use Rattle.dv_catalog.specs.declared.entries.FeedDef.{FeedDef}
+use Rattle.dv_catalog.specs.Entries.{Mapping}
+use Rattle.dv_catalog.specs.Mappings.{is_valid}
+use Rattle.dv_catalog.proofs.ValidReads.{valid_feed}
+use Rattle.dv_records.specs.declared.stores.Rows.TheVariants.{Multis}
+use Rattle.dv_records.specs.declared.stores.TableRows.{TableRows}
+use Rattle.dv_records.specs.History.{Extract, content, delivered_refs, delivers, extract_of, history, newest_rows, up_to}
+use Rattle.dv_records.specs.ReadBack.{any_content_read, any_content_read_by, multi_content_read, multi_content_read_by, multi_rows_in, present_parents, rows_read, status_rows_in}
+use Rattle.dv_records.specs.Reconstruction.{all_valid_at, described_row, HasOneRowPerSub}
+use Rattle.dv_records.specs.Satellites.{last_rows, rows_of}
+use Rattle.dv_records.specs.States.{are_windows_valid}
+use Rattle.dv_records.specs.Vault.{vault}
+use Rattle.dv_records.proofs.FeedContents.{rows_of_extract, content_ascends, content_delivered, feed_apart, present_has, row_present, row_refs}
+use Rattle.dv_records.proofs.NewestRows.{content_extract}
+use Rattle.dv_records.proofs.ReadBack.{feed_tells}
+use Rattle.dv_records.proofs.ValidWindows.{load_order, unknown_unstaged}
+use Rattle.dv_records.proofs.VaultRows.{vault_multi}
+use Rattle.std.proofs.lemmas.Bool.{not-true}
 use Rattle.dv_records.proofs.MultiReconstruct.{multi_tells}
 
 -- ---- the last rows

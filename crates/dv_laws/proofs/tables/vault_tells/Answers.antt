@@ -1,4 +1,4 @@
-use Rattle.dv_laws.proofs.MultiReadBack.{multi_feed_tells, vault_tells as all_tell}
+use Rattle.dv_records.proofs.MultiReadBack.{multi_feed_tells, vault_tells as all_tell}
 use Rattle.dv_laws.proofs.Vocabulary.{feed_tells}
 use Rattle.dv_laws.proofs.tables.vault_tells.Goals as goal
 
