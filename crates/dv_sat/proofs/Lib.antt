@@ -1,5 +1,6 @@
 pub mod MultiDeltaBatch
 pub mod MultiFollowing
+pub mod MultiHistories
 pub mod PointWise
 pub mod RowPlacing
 pub mod SatDeltaBatch

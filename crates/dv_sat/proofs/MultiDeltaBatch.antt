@@ -15,7 +15,7 @@ use Rattle.std.specs.List.{AllByRecursion}
 
 module _ (hashes : Hashes) (source : List ℕ) where
   -- a row of a batch has its extract's load date
-  row_load : (older : List Extract) (newest : Extract) (row : MultiRow) → Contains (multi_batch hashes source older newest) row → row.load ≡ newest.load
+  pub row_load : (older : List Extract) (newest : Extract) (row : MultiRow) → Contains (multi_batch hashes source older newest) row → row.load ≡ newest.load
   row_load older newest =
       batch_stamped (λ (row : MultiRow). row.load) multi_cmp (multi_row hashes source older newest) newest.load
       (λ thing row e. sym (ap (λ (r : MultiRow). r.load) (if_so (is_changed older newest thing.refs) _ row e))) newest.rows
