@@ -9,7 +9,11 @@ use Rattle.dv_catalog.specs.declared.tables.TableId.TheVariants as ids
 use Rattle.dv_keys.proofs.LinkWindows.{next_delta as link_delta_is}
 use Rattle.dv_track.proofs.DeltaBatch.{delta_is_batch as status_delta_is}
 use Rattle.dv_vault.proofs.Afterwards.{loads_ascend}
-use Rattle.dv_vault.proofs.FeedLists.{feed_lists_apart, feed_newest_first, feed_plain, reversed_whole}
+use Rattle.dv_sat.proofs.MultiHistories.{next_is_batch as multi_delta_is}
+use Rattle.dv_sat.specs.MultiRows.{multi_delta, IsTold}
+use Rattle.dv_records.specs.Satellites.{multi_batch}
+use Rattle.dv_records.specs.declared.stores.Rows.TheVariants.{Multis}
+use Rattle.dv_vault.proofs.FeedLists.{feed_lists_apart, feed_newest_first, feed_plain, feed_told, reversed_whole}
 use Rattle.dv_vault.proofs.FeedTables.{OfFeed, of_feeds}
 use Rattle.dv_vault.proofs.VaultCollisions.{apart_is_free, parents_first, sealed_parts, sealed_told, turned_back, unturned}
 
@@ -96,6 +100,15 @@ module _ (mapping : Mapping) (hashes : Hashes) (sealed : List Window) (window : 
         next_batch Sats feed (sat_batch hashes (source mapping feed)) (λ rows load staged. sat_delta hashes (source mapping feed) rows load staged)
         (λ newest e. sat_delta_is hashes (source mapping feed) (history feed older) newest (order_with newest e) (apart_with newest e) (plain_with none newest e)) (extract_of feed window) refl
 
+    told_with : (newest : Extract) → extract_of feed window ≡ Some newest → (extract : Extract) → Contains (newest ∷ history feed older) extract → IsTold extract.rows
+    told_with newest e extract has =
+        feed_told mapping hashes feed definition at (window ∷ older) all_whole extract (subst (λ (extracts : List Extract). Contains extracts extract) (sym (grown newest e)) has)
+
+    multi_added : added_at (ids.Multi feed) ≡ batch_of_table (ids.Multi feed)
+    multi_added =
+        next_batch Multis feed (multi_batch hashes (source mapping feed)) (λ rows load staged. multi_delta hashes (source mapping feed) rows load staged)
+        (λ newest e. multi_delta_is hashes (source mapping feed) (history feed older) newest (order_with newest e) (apart_with newest e) (told_with newest e)) (extract_of feed window) refl
+
     status_added : added_at (ids.Status feed) ≡ batch_of_table (ids.Status feed)
     status_added =
         next_batch Statuses feed (status_batch hashes (source mapping feed)) (λ rows load staged. status_delta hashes (source mapping feed) rows load (all_refs staged))
@@ -110,7 +123,7 @@ module _ (mapping : Mapping) (hashes : Hashes) (sealed : List Window) (window : 
       let at : slice_get mapping.feeds feed ≡ Some definition = ap (slice_get mapping.feeds) same ∙ got in
       record {
         sat = λ none kept. sat_added feed definition at none;
-        multi = λ kept. absurd (false≢true kept);
+        multi = λ kept. multi_added feed definition at;
         status = λ kept. status_added feed definition at;
         effect = λ kept. absurd (false≢true kept);
       }

@@ -4,10 +4,10 @@ use Rattle.dv_vault.proofs.Vocabulary.{tables, built_forms, BuiltFeed, is_kept, 
 use Rattle.dv_catalog.specs.declared.tables.TableId.TheVariants as ids
 use Rattle.dv_vault.proofs.TablesApart.{all_numbers}
 
-sats_kept : (n : ℕ) (sub attrs : List (List ℕ)) → sub ≡ [] → list_all is_kept (sat_tables n sub attrs) ≡ true
-sats_kept n sub [] none = refl
-sats_kept n [] (a ∷ attrs) none = refl
-sats_kept n (s ∷ sub) (a ∷ attrs) none = cc
+sats_kept : (n : ℕ) (sub attrs : List (List ℕ)) → list_all is_kept (sat_tables n sub attrs) ≡ true
+sats_kept n sub [] = refl
+sats_kept n [] (a ∷ attrs) = refl
+sats_kept n (s ∷ sub) (a ∷ attrs) = refl
 
 effects_kept : (n : ℕ) (driver : List ℕ) → driver ≡ [] → list_all is_kept (effect_tables n driver) ≡ true
 effects_kept n [] none = refl
@@ -18,7 +18,7 @@ feeds_kept n [] built = refl
 feeds_kept n (feed ∷ feeds) built =
     let here = built zero feed refl in
     all_pass_both is_kept (sat_tables n feed.sub feed.attrs ++ ids.Status n ∷ effect_tables n feed.driver) (feed_tables (n + 1) feeds)
-    (all_pass_both is_kept (sat_tables n feed.sub feed.attrs) (ids.Status n ∷ effect_tables n feed.driver) (sats_kept n feed.sub feed.attrs here.no_sub) (effects_kept n feed.driver here.no_driver))
+    (all_pass_both is_kept (sat_tables n feed.sub feed.attrs) (ids.Status n ∷ effect_tables n feed.driver) (sats_kept n feed.sub feed.attrs) (effects_kept n feed.driver here.no_driver))
     (feeds_kept (n + 1) feeds (λ i other got. built (suc i) other got))
 
 pub tables_kept : (mapping : Mapping) → unbuilt mapping ≡ None → list_all is_kept (tables mapping) ≡ true

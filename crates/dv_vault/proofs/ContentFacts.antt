@@ -3,7 +3,12 @@ use Rattle.dv_vault.proofs.Vocabulary.{ltb-true, filter_map_more, got_from, ◌�
 use Rattle.dv_vault.proofs.Vocabulary.{if◌then◌else◌, slice_get, filter_map, option_map, option_map_or, option_to_list, Key, NRow, Window, Hashes, sorted_by, FeedDef, LinkDef, Parent, Hub, Link, Mapping, link_hubs, parent_hubs, is_declared}
 use Rattle.dv_vault.proofs.Vocabulary.{built_forms, HubRow, LinkRow, SatRow, StatusRow, TableRows, feed_mart, attrs_read, content_read, content_read_by, hub_row_by, hub_rows_in, keys_read, link_row_by, link_rows_in, present_parents}
 use Rattle.dv_vault.proofs.Vocabulary.{refs_read, row_read, sat_rows, sat_rows_in, status_rows_in, valid_at, feed_tells, HasSealed, IsBuilt, RawVault, has_table, is_parent}
+use Rattle.dv_vault.proofs.Vocabulary.{flat_map, flat_map_more, is_valid, map, take_more}
 use Rattle.dv_text.specs.Orders.{row_cmp}
+use Rattle.dv_records.specs.ReadBack.{any_content_read, any_content_read_by, multi_content_read, multi_content_read_by, rows_read}
+use Rattle.dv_records.specs.Reconstruction.{described_row}
+use Rattle.dv_records.proofs.MultiReadBack.{vault_tells}
+use Rattle.dv_vault.specs.Contents.{parents_read}
 use Rattle.dv_catalog.specs.declared.tables.TableId.TheVariants as ids
 use Rattle.dv_vault.proofs.VaultFacts.{absent_rows, seen-twice}
 
@@ -77,20 +82,40 @@ pub rows_more : {X Y : Type 0} (h : X → Option Y) (xs : List X) (i : ℕ) (x :
 rows_more h xs i x made more row under at made_are row_is more_are =
     more_are ∙ (λ i. made_are i ++ option_to_list (row_is i)) ∙ ap (λ x. filter_map h (take i xs) ++ option_to_list (h x)) at ∙ sym (filter_map_more h xs i x under)
 
+-- the rows of one parent more, of which there may be several
+pub all_more : {X Y : Type 0} (h : X → List Y) (xs : List X) (i : ℕ) (x : X) (made more row : List Y) → i < length xs → x ≡ get_or xs i x
+    → made ≡ flat_map h (take i xs) → row ≡ h x → more ≡ made ++ row → more ≡ flat_map h (take (i + 1) xs)
+all_more h xs i x made more row under at made_are row_is more_are =
+    more_are ∙ (λ i. made_are i ++ row_is i) ∙ flat_map_more h [] (take i xs) x ∙ ap (λ x. flat_map h (take i xs ++ x ∷ [])) at ∙ ap (flat_map h) (sym (take_more xs i x under))
+
+-- no rows of a parent, where there is no multi-active satellite
+pub absent_rows_read : (mapping : Mapping) (tables : List TableRows) (definition : FeedDef) (feed date : ℕ) (digest : List ℕ) → has_table (ids.Multi feed) tables ≡ false
+    → rows_read mapping tables definition feed date digest ≡ []
+absent_rows_read mapping tables definition feed date digest absent = rw (absent_rows (ids.Multi feed) tables absent) (by (refs_read mapping tables definition.parent digest))
+  where
+    by : (found : Option (List Key)) → option_map_or (λ refs. map (described_row refs) []) found [] ≡ []
+    by None = refl
+    by (Some refs) = refl
+
 -- the content of a feed of the mapping
 pub content_by : (mapping : Mapping) (tables : List TableRows) (feed date : ℕ) (definition : FeedDef) (rows : List NRow) (parents : List (List ℕ)) (statuses : List StatusRow)
     → slice_get mapping.feeds feed ≡ Some definition → statuses ≡ status_rows_in feed tables → parents ≡ present_parents statuses date
-    → rows ≡ filter_map (row_read mapping tables definition feed date) parents → sorted_by row_cmp rows ≡ content_read mapping tables feed date
+    → rows ≡ parents_read mapping tables definition feed date parents → sorted_by row_cmp rows ≡ any_content_read mapping tables feed date
 content_by mapping tables feed date definition rows parents statuses got statuses_are parents_are rows_are =
     ap (sorted_by row_cmp)
-    (rows_are ∙ ap (filter_map (row_read mapping tables definition feed date)) (parents_are ∙ ap (λ (rows : List StatusRow). present_parents rows date) statuses_are))
-    ∙ ap (λ (found : Option FeedDef). content_read_by mapping tables found feed date) (sym got)
+    (rows_are ∙ ap (parents_read mapping tables definition feed date) (parents_are ∙ ap (λ (rows : List StatusRow). present_parents rows date) statuses_are))
+    ∙ by (length definition.sub == 0)
+    ∙ ap (λ (found : Option FeedDef). any_content_read_by mapping tables found feed date) (sym got)
+  where
+    by : (plain : Bool)
+        → sorted_by row_cmp (if plain then filter_map (row_read mapping tables definition feed date) (present_parents (status_rows_in feed tables) date)
+        else flat_map (rows_read mapping tables definition feed date) (present_parents (status_rows_in feed tables) date))
+        ≡ (if plain then content_read mapping tables feed date else multi_content_read mapping tables feed date)
+    by true = ap (λ (found : Option FeedDef). content_read_by mapping tables found feed date) (sym got)
+    by false = ap (λ (found : Option FeedDef). multi_content_read_by mapping tables found feed date) (sym got)
 
 -- it is the feed's mart, where the vault has sealed windows
-pub mart_read : (hashes : Hashes) (sealed : List Window) (raw : RawVault) → HasSealed hashes sealed raw → IsBuilt raw.mapping → (feed : ℕ) → feed < length raw.mapping.feeds
-    → (date : ℕ) → content_read raw.mapping raw.tables feed date ≡ feed_mart sealed feed date
-mart_read hashes sealed raw has built feed under date =
-    let (definition, got) = got_from raw.mapping.feeds feed under in
-    let plain = (built_forms raw.mapping built.built).feeds feed definition got in
-    ap (λ (tables : List TableRows). content_read raw.mapping tables feed date) has.tables_are
-    ∙ feed_tells raw.mapping hashes sealed feed definition built.valid has.valid got plain.no_sub date
+pub mart_read : (hashes : Hashes) (sealed : List Window) (raw : RawVault) → HasSealed hashes sealed raw → is_valid raw.mapping ≡ true → (feed date : ℕ)
+    → any_content_read raw.mapping raw.tables feed date ≡ feed_mart sealed feed date
+mart_read hashes sealed raw has valid feed date =
+    ap (λ (tables : List TableRows). any_content_read raw.mapping tables feed date) has.tables_are ∙ vault_tells raw.mapping hashes sealed valid has.valid feed date

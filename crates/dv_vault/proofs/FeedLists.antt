@@ -3,6 +3,7 @@
 use Rattle.dv_vault.proofs.Vocabulary.{AllByRecursion, list_all, Bool, List, None, Some, [], ap, length, map, reverse, subst, sym, true, ℕ, ◌∙◌, ◌∷◌, ◌≡◌, Contains, slice_get, Contains-cons_here, Contains-cons_there, reverse_member, Hashes, ascends, is_window, Mapping, FeedDef, NRow, Window}
 use Rattle.dv_vault.proofs.Vocabulary.{IsStrictlySortedBy, Less, nat_cmp, AreNewestFirst, Extract, history, lists_of, IsApart, collision_in, all_pass, passes_at, nat_cmp_is, nil_from_length, reverse-reverse, collision_free, IsPlain, lists_apart, rows_valid, lists_reversed, AllBefore}
 use Rattle.dv_vault.proofs.Vocabulary.{IsNewestFirst, history-newest_first, in_order}
+use Rattle.dv_sat.specs.MultiRows.{IsTold}
 
 -- windows keep what each keeps, turned round
 pub reversed_whole : {X : Type 0} (p : X → Bool) (xs : List X) → list_all p xs ≡ true → list_all p (reverse xs) ≡ true
@@ -15,6 +16,12 @@ module _ (mapping : Mapping) (hashes : Hashes) (feed : ℕ) (definition : FeedDe
       let rows = rows_valid mapping hashes windows whole feed definition at extract has in
       let no_sub : (row : NRow) → Contains extract.rows row → row.sub ≡ [] = λ row row_in. nil_from_length row.sub ((rows.forms row row_in).subs ∙ ap length none) in
       record { ascending = rows.ascending; single = λ a b a_in b_in refs. rows.single a b a_in b_in refs (no_sub a a_in ∙ sym (no_sub b b_in)); no_sub = no_sub }
+
+  -- and in any feed there is one row for each list and sub
+  pub feed_told : (extract : Extract) → Contains (history feed windows) extract → IsTold extract.rows
+  feed_told extract has =
+      let rows = rows_valid mapping hashes windows whole feed definition at extract has in
+      record { ascending = rows.ascending; single = rows.single }
 
   -- where nothing collides in the feed's hub or link, no two lists of the feed have one hash key
   pub feed_lists_apart : collision_in mapping hashes (reverse windows) definition.parent ≡ None → IsApart hashes (lists_of (history feed windows))

@@ -2,6 +2,9 @@
 use Rattle.dv_vault.proofs.Vocabulary.{eq-eqb, refl, Contains, find, List, Some, [], ap, arith, false, inl, inr, map, nat_le, reverse, sym, true, ℕ, ◌<◌, ◌==◌, ◌∙◌, ◌∷◌, ◌≡◌, le-leb, nat_lt, and_parts, list_all, nat_tests, option_map}
 use Rattle.dv_vault.proofs.Vocabulary.{Contains-cons_cases, Contains-map, Contains-nil, member_of_filter_map, reverse_member, Hashes, ascends, is_staged, is_window, content_read, extract_of, Extract, content, history, newest_rows, up_to}
 use Rattle.dv_vault.proofs.Vocabulary.{built_forms, feed_tells, TableRows, Staged, Window, HasSealed, IsBuilt, RawVault, passes_at, IsNewestFirst, history-newest_first, load_order, WindowParts, staged_rows, window_parts}
+use Rattle.dv_vault.proofs.Vocabulary.{is_valid}
+use Rattle.dv_records.specs.ReadBack.{any_content_read}
+use Rattle.dv_records.proofs.MultiReadBack.{vault_tells}
 use Rattle.dv_vault.proofs.VaultCollisions.{sealed_parts}
 
 not_reached : (a b : ℕ) → a < b → nat_le b a ≡ false
@@ -38,7 +41,7 @@ found_itself (first ∷ extracts) staged up has =
     other : (a b : ℕ) → nat_lt a b ≡ true → (a == b) ≡ false
     other a b h = grind (arith, nat_tests)
 
-module _ (hashes : Hashes) (sealed : List Window) (raw : RawVault) (has_sealed : HasSealed hashes sealed raw) (built : IsBuilt raw.mapping) (window : Window) (there : Contains sealed window) where
+module _ (hashes : Hashes) (sealed : List Window) (raw : RawVault) (has_sealed : HasSealed hashes sealed raw) (valid : is_valid raw.mapping ≡ true) (window : Window) (there : Contains sealed window) where
   parts : WindowParts raw.mapping window
   parts = window_parts raw.mapping window (passes_at (is_window raw.mapping) sealed window (sealed_parts raw.mapping hashes sealed has_sealed.valid).whole there)
 
@@ -51,10 +54,8 @@ module _ (hashes : Hashes) (sealed : List Window) (raw : RawVault) (has_sealed :
       at_extract (history staged.feed (reverse sealed)) extract (history-newest_first staged.feed sealed (load_order raw.mapping hashes sealed has_sealed.valid))
       (member_of_filter_map (extract_of staged.feed) (reverse sealed) window extract ((reverse_member sealed window).1 there) extract_is)
 
-  pub sealed_rows : (staged : Staged) → Contains window.extracts staged → content_read raw.mapping raw.tables staged.feed window.load ≡ staged.rows
+  pub sealed_rows : (staged : Staged) → Contains window.extracts staged → any_content_read raw.mapping raw.tables staged.feed window.load ≡ staged.rows
   sealed_rows staged has =
-      let (definition, at, rows) = staged_rows raw.mapping staged (passes_at (is_staged raw.mapping) window.extracts staged parts.staged has) in
-      let no_sub = ((built_forms raw.mapping built.built).feeds staged.feed definition at).no_sub in
-      ap (λ (tables : List TableRows). content_read raw.mapping tables staged.feed window.load) has_sealed.tables_are
-      ∙ feed_tells raw.mapping hashes sealed staged.feed definition built.valid has_sealed.valid at no_sub window.load
+      ap (λ (tables : List TableRows). any_content_read raw.mapping tables staged.feed window.load) has_sealed.tables_are
+      ∙ vault_tells raw.mapping hashes sealed valid has_sealed.valid staged.feed window.load
       ∙ content_at staged has

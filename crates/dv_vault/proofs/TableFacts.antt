@@ -1,14 +1,17 @@
 -- What the tables of feeds ask of a window with its hash keys, and what they get.
 use Rattle.dv_vault.proofs.Vocabulary.{◌≡◌, ℕ, ◌==◌, ◌∙◌, true, Option, Some, None, ap, find, sym, list_all, option_map, eqb-true, All-contains, Staged, Mapping, is_valid, attrs_fit, is_window, found_member, staged_of, Bor, Hashes, IfSome}
 use Rattle.dv_vault.proofs.Vocabulary.{HasKeys, Window, extract_at, HashedExtract, HashedWindow, IsHashedWindow}
+use Rattle.dv_vault.proofs.Vocabulary.{IsStrictlySortedBy}
+use Rattle.dv_text.specs.Orders.{row_cmp}
 use Rattle.dv_vault.proofs.VaultFacts.{find-seen}
-use Rattle.dv_vault.proofs.WindowFacts.{staged_attrs_fit}
+use Rattle.dv_vault.proofs.WindowFacts.{staged_ascend, staged_attrs_fit}
 
--- what a window has for a feed: its extract, the hash keys of the rows, and that these fit what they are hashed in
+-- what a window has for a feed: its extract, the hash keys of the rows, their order, and that they fit what they are hashed in
 pub record IsExtractFor (hashes : Hashes) (feed : ℕ) (hashed : HashedWindow) (at : Option (Bor HashedExtract)) : Type 0 where
   pub found : option_map (λ extract. extract.now.staged.now) at ≡ staged_of feed hashed.window.now
   pub feed_is : IfSome at (λ extract. extract.now.staged.now.feed ≡ feed)
   pub keys : IfSome at (λ extract. HasKeys hashes extract.now)
+  pub ascending : IfSome at (λ extract. IsStrictlySortedBy row_cmp extract.now.staged.now.rows)
   pub attrs_fit : IfSome at (λ extract. list_all (λ row. attrs_fit row.attrs) extract.now.staged.now.rows ≡ true)
 
 pub extract_facts : (mapping : Mapping) → is_valid mapping ≡ true → (hashes : Hashes) (hashed : HashedWindow) → is_window mapping hashed.window.now ≡ true → IsHashedWindow hashes hashed
@@ -19,7 +22,7 @@ extract_facts mapping valid hashes hashed whole gathered feed found is = by foun
     staged_is = ap (find (λ staged. staged.feed == feed)) (sym gathered.extracts_are) ∙ sym (find-seen (λ (extract : HashedExtract). extract.staged.now) (λ (staged : Staged). staged.feed == feed) hashed.extracts)
 
     by : (found : Option (Bor HashedExtract)) → option_map (λ extract. extract.now) found ≡ find (λ extract. extract.staged.now.feed == feed) hashed.extracts → IsExtractFor hashes feed hashed found
-    by None is = record { found = sym (staged_is ∙ ap (option_map (λ (extract : HashedExtract). extract.staged.now)) (sym is)); feed_is = tt; keys = tt; attrs_fit = tt }
+    by None is = record { found = sym (staged_is ∙ ap (option_map (λ (extract : HashedExtract). extract.staged.now)) (sym is)); feed_is = tt; keys = tt; ascending = tt; attrs_fit = tt }
     by (Some extract) is =
         let same : staged_of feed hashed.window.now ≡ Some extract.now.staged.now = staged_is ∙ ap (option_map (λ (extract : HashedExtract). extract.staged.now)) (sym is) in
         let (member, test) = found_member (λ (other : HashedExtract). other.staged.now.feed == feed) hashed.extracts extract.now (sym is) in
@@ -28,6 +31,7 @@ extract_facts mapping valid hashes hashed whole gathered feed found is = by foun
           found = sym same;
           feed_is = eqb-true _ _ test;
           keys = All-contains (HasKeys hashes) hashed.extracts extract.now gathered.have_keys member;
+          ascending = staged_ascend mapping valid hashed.window.now whole extract.now.staged.now staged_in;
           attrs_fit = staged_attrs_fit mapping valid hashed.window.now whole extract.now.staged.now staged_in;
         }
 

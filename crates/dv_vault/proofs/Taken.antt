@@ -14,6 +14,7 @@ of_kind : (t : Table) (rows : Rows) → Follow (entry_of t).rows rows → IsOfKi
 of_kind (table.Hub n t) (of.Hubs rows) follow = record { rows = refl; more = refl }
 of_kind (table.Link n t) (of.Links rows) follow = record { rows = refl; more = refl }
 of_kind (table.Sat n t) (of.Sats rows) follow = record { rows = refl; more = refl }
+of_kind (table.Multi n t) (of.Multis rows) follow = record { rows = refl; more = refl }
 of_kind (table.Status n t) (of.Statuses rows) follow = record { rows = refl; more = refl }
 of_kind t rows follow = absurd follow
 
@@ -99,6 +100,7 @@ follow_adds : (rows more : Rows) → Follow rows more → rows_weight (rows_then
 follow_adds (of.Hubs rows) (of.Hubs more) follow = (rows_add_up (of.Hubs rows) (of.Hubs more) refl).weight
 follow_adds (of.Links rows) (of.Links more) follow = (rows_add_up (of.Links rows) (of.Links more) refl).weight
 follow_adds (of.Sats rows) (of.Sats more) follow = (rows_add_up (of.Sats rows) (of.Sats more) refl).weight
+follow_adds (of.Multis rows) (of.Multis more) follow = (rows_add_up (of.Multis rows) (of.Multis more) refl).weight
 follow_adds (of.Statuses rows) (of.Statuses more) follow = (rows_add_up (of.Statuses rows) (of.Statuses more) refl).weight
 follow_adds rows more follow = absurd follow
 

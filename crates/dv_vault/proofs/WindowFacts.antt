@@ -3,6 +3,8 @@ use Rattle.dv_vault.proofs.Vocabulary.{◌≡◌, ℕ, suc, ◌+◌, ◌<◌, �
 use Rattle.dv_vault.proofs.Vocabulary.{and_from, and_parts, eqb-true, Key, NRow, Staged, Window, is_missing, Contains-cons_cases, Contains-nil, filtered_members, map_member, flat_map_member, FeedDef, HubDef, LinkDef, Parent, Hub, Link, Mapping, feed_hubs, hubs_by, is_fed_by, keys_at, parent_eq}
 use Rattle.dv_vault.proofs.Vocabulary.{link_hubs, parent_hubs, parts_of, is_valid, valid_feed, valid_hub, valid_link, attrs_fit, refs_fit, texts_fit, Delivery, deliveries, offers_of, refs_from, table_of, all_refs, fit_hubs, fits_hub, is_field, is_key_part, is_staged, is_window, deliveries_member}
 use Rattle.dv_vault.proofs.Vocabulary.{first_offer-member, all_pass, all_pass_weaker, passes_at, AreRows, HasForm, field_text, key_form, key_part, staged_rows, window_parts}
+use Rattle.dv_text.specs.Orders.{row_cmp}
+use Rattle.dv_vault.proofs.Vocabulary.{IsStrictlySortedBy}
 
 -- ---- texts and keys
 
@@ -77,6 +79,9 @@ module _ (mapping : Mapping) (valid : is_valid mapping ≡ true) (window : Windo
   staged_attrs_fit =
       let (feed, got, are) = rows_of_staged mapping window e staged has in
       all_pass (λ row. attrs_fit row.attrs) staged.rows (λ row row_in. row_attrs_fit mapping valid staged.feed feed got row (are.forms row row_in))
+
+  pub staged_ascend : IsStrictlySortedBy row_cmp staged.rows
+  staged_ascend = let (feed, got, are) = rows_of_staged mapping window e staged has in are.ascending
 
 -- ---- deliveries to a hub
 

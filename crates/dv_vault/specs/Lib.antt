@@ -1,4 +1,5 @@
 pub mod Additions
+pub mod Contents
 pub mod HashedWindows
 pub mod Keeping
 pub mod NamesApart

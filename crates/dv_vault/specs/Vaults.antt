@@ -17,7 +17,7 @@ use Rattle.dv_catalog.specs.Mappings.{is_valid}
 use Rattle.dv_catalog.specs.Tables.{tables}
 use Rattle.dv_records.specs.declared.raw_rows.HubRow.{HubRow}
 use Rattle.dv_records.specs.declared.stores.Rows.{Rows}
-use Rattle.dv_records.specs.declared.stores.Rows.TheVariants.{Hubs, Links, Sats, Statuses}
+use Rattle.dv_records.specs.declared.stores.Rows.TheVariants.{Hubs, Links, Multis, Sats, Statuses}
 use Rattle.dv_records.specs.declared.stores.TableRows.{TableRows}
 use Rattle.dv_records.specs.Deliveries.{deliveries}
 use Rattle.dv_records.specs.Deltas.{Hashed}
@@ -33,6 +33,7 @@ use Rattle.dv_keys.specs.HubDeltas.{hub_delta, hub_hashed}
 use Rattle.dv_keys.specs.LinkDeltas.{link_delta, link_hashed}
 use Rattle.dv_keys.specs.RawTables.{HubsFollow, LinksFollow}
 use Rattle.dv_sat.specs.FeedTables.{Follow as SatsFollow, sats_added}
+use Rattle.dv_sat.specs.MultiFeedTables.{Follow as MultisFollow, multis_added}
 use Rattle.dv_track.specs.FeedTables.{Follow as StatusesFollow, statuses_added}
 use Rattle.dv_vault.specs.declared.named_hubs.HubKeys.{HubKeys}
 use Rattle.dv_vault.specs.declared.tables.Table.{Table}
@@ -44,6 +45,7 @@ abbrev pub entry_of : Table → TableRows
 entry_of (table.Hub hub rows) = record { table = ids.Hub hub; rows = Hubs rows.rows }
 entry_of (table.Link link rows) = record { table = ids.Link link; rows = Links rows.rows }
 entry_of (table.Sat feed rows) = record { table = ids.Sat feed; rows = Sats rows.rows }
+entry_of (table.Multi feed rows) = record { table = ids.Multi feed; rows = Multis rows.rows }
 entry_of (table.Status feed rows) = record { table = ids.Status feed; rows = Statuses rows.rows }
 
 -- for how many more rows it has room
@@ -51,6 +53,7 @@ abbrev pub spare_of : Table → ℕ
 spare_of (table.Hub hub rows) = rows.spare
 spare_of (table.Link link rows) = rows.spare
 spare_of (table.Sat feed rows) = rows.spare
+spare_of (table.Multi feed rows) = rows.spare
 spare_of (table.Status feed rows) = rows.spare
 
 -- ---- hub keys
@@ -89,8 +92,8 @@ abbrev pub is_kept : TableId → Bool
 is_kept (ids.Hub n) = true
 is_kept (ids.Link n) = true
 is_kept (ids.Sat n) = true
+is_kept (ids.Multi n) = true
 is_kept (ids.Status n) = true
-is_kept (ids.Multi n) = false
 is_kept (ids.Effect n) = false
 
 -- the kinds of tables
@@ -105,6 +108,10 @@ is_link table = false
 abbrev pub is_sat : TableId → Bool
 is_sat (ids.Sat n) = true
 is_sat table = false
+
+abbrev pub is_multi : TableId → Bool
+is_multi (ids.Multi n) = true
+is_multi table = false
 
 abbrev pub is_status : TableId → Bool
 is_status (ids.Status n) = true
@@ -128,6 +135,7 @@ added mapping hashes window (ids.Hub hub) (Hubs rows) =
 added mapping hashes window (ids.Link link) (Links rows) =
     Links (link_delta mapping hashes window.load rows (deliveries mapping (Link link) window))
 added mapping hashes window (ids.Sat feed) (Sats rows) = extract_added (sats_added hashes (source mapping feed) (Sats rows)) (Sats []) (extract_of feed window)
+added mapping hashes window (ids.Multi feed) (Multis rows) = extract_added (multis_added hashes (source mapping feed) (Multis rows)) (Multis []) (extract_of feed window)
 added mapping hashes window (ids.Status feed) (Statuses rows) = extract_added (statuses_added hashes (source mapping feed) (Statuses rows)) (Statuses []) (extract_of feed window)
 added mapping hashes window table rows = no_rows table
 
@@ -150,6 +158,7 @@ abbrev pub Follow : Rows → Rows → Type 0
 Follow (Hubs rows) more = HubsFollow (Hubs rows) more
 Follow (Links rows) more = LinksFollow (Links rows) more
 Follow (Sats rows) more = SatsFollow (Sats rows) more
+Follow (Multis rows) more = MultisFollow (Multis rows) more
 Follow (Statuses rows) more = StatusesFollow (Statuses rows) more
 Follow rows more = ⊥
 

@@ -10,8 +10,10 @@ ghost use Rattle.dv_catalog.specs.declared.entries.FeedDef.{FeedDef};
 ghost use Rattle.dv_catalog.specs.Mappings.{is_valid};
 ghost use Rattle.dv_records.specs.Marts.{feed_mart};
 ghost use Rattle.dv_records.specs.ReadBack as spec;
+ghost use Rattle.dv_vault.specs.Contents.{parents_read};
 ghost use Rattle.dv_vault.specs.Vaults.{HasSealed, IsVaultOf, entries_of, is_parent};
 
+use crate::multi_contents::multi_rows_read;
 use crate::raw_tables::RawTables;
 use crate::vaults::Vault;
 use dv_catalog::{Catalog, FeedDef, Parent};
@@ -67,8 +69,8 @@ fn keys_read(
     Ok(keys)
 }
 
-// The reference list of a parent; none where no row has its hash key.
-fn refs_read(
+/// The reference list of a parent; none where no row has its hash key.
+pub(crate) fn refs_read(
     alloc: Global,
     catalog: &Catalog,
     raw: &RawTables,
@@ -123,7 +125,7 @@ fn attrs_read(
     }
 }
 
-// The row of a parent.
+// The row of a parent, of a feed without a sub.
 fn row_read(
     alloc: Global,
     catalog: &Catalog,
@@ -159,7 +161,7 @@ fn add(rows: &mut List<NRow>, row: Option<NRow>) -> Result<(), Memory>
     }
 }
 
-// The rows of parents.
+// The rows of parents, of a feed without a sub.
 fn rows_read(
     alloc: Global,
     catalog: &Catalog,
@@ -181,18 +183,39 @@ fn rows_read(
     Ok(rows)
 }
 
+// The rows of parents, of a feed with a sub or without.
+fn rows_of_parents(
+    alloc: Global,
+    catalog: &Catalog,
+    raw: &RawTables,
+    feed: u32,
+    parents: &[Digest],
+    date: Stamp,
+) -> Result<List<NRow>, Memory>
+    requires valid { IsTrue (is_valid catalog.now) }
+    requires feed { feed < length catalog.now.feeds }
+    requires raw { IsVaultOf catalog.now (entries_of raw.now) }
+    ensures { IfOk result (λ rows. (definition : FeedDef) → slice_get catalog.now.feeds feed ≡ Some definition → rows ≡ parents_read catalog.now (entries_of raw.now) definition feed date parents.now) }
+{
+    if catalog.feed(feed).sub.items().is_empty() {
+        rows_read(alloc, catalog, raw, feed, parents, date)
+    } else {
+        multi_rows_read(alloc, catalog, raw, feed, parents, date)
+    }
+}
+
 impl Vault {
     /// The rows of a feed in the last sealed window that has the feed and is not later than the date, read
-    /// back from the tables, by references, then attributes. Condition: the feed is in the mapping.
+    /// back from the tables, by references, then sub, then attributes. Condition: the feed is in the mapping.
     pub fn content(&self, feed: u32, date: Stamp) -> Result<List<NRow>, Memory>
         requires { feed < length self.now.mapping.feeds }
-        ensures read { IfOk result (λ rows. rows ≡ spec.content_read self.now.mapping self.now.tables feed date) }
+        ensures read { IfOk result (λ rows. rows ≡ spec.any_content_read self.now.mapping self.now.tables feed date) }
         ensures told { IfOk result (λ rows. (hashes : Hashes) (sealed : list_of Window) → HasSealed hashes sealed self.now → rows ≡ feed_mart sealed feed date) }
     {
         let (catalog, raw) = (&self.catalog, &self.raw);
         let alloc = self.heads.allocator();
         let parents = raw.status(feed).parents(date)?;
-        let rows = rows_read(alloc, catalog, raw, feed, parents.items(), date)?;
+        let rows = rows_of_parents(alloc, catalog, raw, feed, parents.items(), date)?;
         Ok(sorted_rows(rows))
     }
 }

@@ -8,6 +8,7 @@ mod contents;
 mod hashed_windows;
 mod hub_keys;
 mod keeping;
+mod multi_contents;
 mod named_hubs;
 mod offers;
 mod raw_tables;

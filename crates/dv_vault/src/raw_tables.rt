@@ -1,7 +1,7 @@
 ghost use Rattle.std.specs.Prelude.{◌≡◌, false, IfNone, IfOk, IfSome, IsTrue, find, map, option_map};
 ghost use Rattle.std.specs.List.{list_all};
 ghost use Rattle.dv_catalog.specs.Tables.{tables};
-ghost use Rattle.dv_records.specs.ReadBack.{hub_rows_in, link_rows_in, sat_rows_in, status_rows_in};
+ghost use Rattle.dv_records.specs.ReadBack.{hub_rows_in, link_rows_in, multi_rows_in, sat_rows_in, status_rows_in};
 ghost use Rattle.dv_records.specs.Stores.{no_rows, table_eq};
 ghost use Rattle.dv_vault.specs.Vaults.{entries_of, entry_of};
 ghost use Rattle.dv_vault.specs.Vaults as spec;
@@ -9,7 +9,7 @@ ghost use Rattle.dv_vault.specs.Vaults as spec;
 use crate::tables::Table;
 use dv_catalog::{Catalog, TableId};
 use dv_keys::{HubTable, LinkTable};
-use dv_sat::SatTable;
+use dv_sat::{MultiTable, SatTable};
 use dv_text::Memory;
 use dv_track::StatusTable;
 use std::alloc::Global;
@@ -114,6 +114,16 @@ impl RawTables {
         ensures none { IfNone result (spec.has_table (TableId.Sat feed) (entries_of self.now) ≡ false) }
     {
         self.table(TableId::Sat(feed))?.as_sat()
+    }
+
+    /// The multi-active satellite of the feed at a place in declared order; none where the feed has none. Takes no
+    /// memory.
+    pub(crate) fn multi(&self, feed: u32) -> Option<&MultiTable>
+        ensures some { IfSome result (λ table. table.now.rows ≡ multi_rows_in feed (entries_of self.now)) }
+        ensures there { IfSome result (λ table. IsTrue (spec.has_table (TableId.Multi feed) (entries_of self.now))) }
+        ensures none { IfNone result (spec.has_table (TableId.Multi feed) (entries_of self.now) ≡ false) }
+    {
+        self.table(TableId::Multi(feed))?.as_multi()
     }
 
     /// The status table of the feed at a place in declared order. Condition: it is among them. Takes no memory.

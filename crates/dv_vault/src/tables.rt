@@ -1,7 +1,9 @@
 // A raw table of the vault, of any kind, and what a window adds to it.
 ghost use Rattle.std.specs.Prelude.{◌≡◌, ◌≤◌, ◌<◌, ◌==◌, [], false, find, IfNone, IfOk, IfSome, IsTrue, OnOk, length, option_map};
 ghost use Rattle.std.specs.List.{list_all};
+ghost use Rattle.std.specs.List.Sorted.{IsStrictlySortedBy};
 ghost use Rattle.dv_text.specs.Keys.{hashes_of};
+ghost use Rattle.dv_text.specs.Orders.{row_cmp};
 ghost use Rattle.dv_digest.specs.Fits.{attrs_fit};
 ghost use Rattle.dv_digest.specs.HashedExtracts.{HasKeys};
 ghost use Rattle.dv_catalog.specs.Mappings.{is_valid};
@@ -20,7 +22,7 @@ use dv_catalog::{Catalog, Parent, TableId};
 use dv_digest::HashedExtract;
 use dv_keys::{HubTable, LinkTable};
 use dv_records::{DeltaFault, HubNames, RawTable, Rows};
-use dv_sat::SatTable;
+use dv_sat::{MultiTable, SatTable};
 use dv_text::{KeyDigest, List, Memory, Stamp};
 use dv_track::StatusTable;
 use std::alloc::Global;
@@ -31,6 +33,7 @@ pub(crate) enum Table {
     Hub { hub: u32, rows: HubTable },
     Link { link: u32, rows: LinkTable },
     Sat { feed: u32, rows: SatTable },
+    Multi { feed: u32, rows: MultiTable },
     Status { feed: u32, rows: StatusTable },
 }
 
@@ -41,7 +44,7 @@ fn extract_in<'a>(extracts: &'a [HashedExtract<'a>], feed: u32) -> Option<&'a Ha
     extracts.iter().find(|extract| extract.staged.feed == feed)
 }
 
-// The extract of a feed in a window, which has its hash keys, and whose rows fit what they are hashed in.
+// The extract of a feed in a window, which has its hash keys, and whose rows ascend and fit what they are hashed in.
 fn extract_of<'a, H: KeyDigest>(
     catalog: &Catalog,
     window: &'a HashedWindow<'a>,
@@ -53,6 +56,7 @@ fn extract_of<'a, H: KeyDigest>(
     ensures found { option_map (λ extract. extract.now.staged.now) result ≡ spec.staged_of feed window.now.window.now }
     ensures feed { IfSome result (λ extract. extract.now.staged.now.feed ≡ feed) }
     ensures keys { IfSome result (λ extract. HasKeys (hashes_of H.digest_of H.size) extract.now) }
+    ensures ascending { IfSome result (λ extract. IsStrictlySortedBy row_cmp extract.now.staged.now.rows) }
     ensures attrs_fit { IfSome result (λ extract. IsTrue (list_all (λ row. attrs_fit row.attrs) extract.now.staged.now.rows)) }
 {
     extract_in(window.extracts.items(), feed)
@@ -128,11 +132,15 @@ impl Table {
                 feed,
                 rows: SatTable::from_rows(alloc, List::new(alloc))?,
             }),
+            TableId::Multi(feed) => Ok(Table::Multi {
+                feed,
+                rows: MultiTable::from_rows(alloc, List::new(alloc))?,
+            }),
             TableId::Status(feed) => Ok(Table::Status {
                 feed,
                 rows: StatusTable::from_rows(alloc, List::new(alloc))?,
             }),
-            TableId::Multi(_) | TableId::Effect(_) => unreachable!(),
+            TableId::Effect(_) => unreachable!(),
         }
     }
 
@@ -143,6 +151,7 @@ impl Table {
             Table::Hub { hub, .. } => TableId::Hub(*hub),
             Table::Link { link, .. } => TableId::Link(*link),
             Table::Sat { feed, .. } => TableId::Sat(*feed),
+            Table::Multi { feed, .. } => TableId::Multi(*feed),
             Table::Status { feed, .. } => TableId::Status(*feed),
         }
     }
@@ -176,6 +185,17 @@ impl Table {
     {
         match self {
             Table::Sat { rows, .. } => Some(rows),
+            _ => None,
+        }
+    }
+
+    /// The table, if it is a multi-active satellite.
+    pub(crate) fn as_multi(&self) -> Option<&MultiTable>
+        ensures some { IfSome result (λ table. (entry_of self.now).rows ≡ Rows.Multis table.now.rows) }
+        ensures none { IfNone result (spec.is_multi (entry_of self.now).table ≡ false) }
+    {
+        match self {
+            Table::Multi { rows, .. } => Some(rows),
             _ => None,
         }
     }
@@ -221,6 +241,10 @@ impl Table {
                 let extract = extract_of::<H>(catalog, window, *feed);
                 Ok(rows.additions(window.window.load, *feed, extract, catalog, digest)?)
             }
+            Table::Multi { feed, rows } => {
+                let extract = extract_of::<H>(catalog, window, *feed);
+                Ok(rows.additions(window.window.load, *feed, extract, catalog, digest)?)
+            }
             Table::Status { feed, rows } => {
                 let extract = extract_of::<H>(catalog, window, *feed);
                 Ok(rows.additions(window.window.load, *feed, extract, catalog)?)
@@ -237,6 +261,7 @@ impl Table {
             Table::Hub { rows, .. } => rows.reserve(more),
             Table::Link { rows, .. } => rows.reserve(more),
             Table::Sat { rows, .. } => rows.reserve(more),
+            Table::Multi { rows, .. } => rows.reserve(more),
             Table::Status { rows, .. } => rows.reserve(more),
         }
     }
@@ -251,6 +276,7 @@ impl Table {
             Table::Hub { rows, .. } => rows.append(more),
             Table::Link { rows, .. } => rows.append(more),
             Table::Sat { rows, .. } => rows.append(more),
+            Table::Multi { rows, .. } => rows.append(more),
             Table::Status { rows, .. } => rows.append(more),
         }
     }

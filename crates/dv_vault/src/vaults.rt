@@ -3,7 +3,7 @@ ghost use Rattle.dv_text.specs.Keys.{hashes_of};
 ghost use Rattle.dv_catalog.specs.Built.{unbuilt};
 ghost use Rattle.dv_catalog.specs.Tables.{tables};
 ghost use Rattle.dv_records.specs.Outcomes.{late_after};
-ghost use Rattle.dv_records.specs.ReadBack.{hub_rows_in, link_rows_in, sat_rows_in, status_rows_in};
+ghost use Rattle.dv_records.specs.ReadBack.{hub_rows_in, link_rows_in, multi_rows_in, sat_rows_in, status_rows_in};
 ghost use Rattle.dv_records.specs.States.{is_window};
 ghost use Rattle.dv_records.specs.Stores.{no_rows};
 ghost use Rattle.dv_records.specs.Weights.{tables_weight};
@@ -19,7 +19,7 @@ use crate::raw_tables::RawTables;
 use dv_catalog::{Catalog, TableId};
 use dv_keys::{HubTable, LinkTable};
 use dv_records::Rows;
-use dv_sat::SatTable;
+use dv_sat::{MultiTable, SatTable};
 use dv_text::{KeyDigest, List, Memory, Stamp, Window, WindowHead};
 use dv_track::StatusTable;
 use std::alloc::Global;
@@ -121,6 +121,16 @@ impl Vault {
         ensures absent { IfNone result (Contains (tables self.now.mapping) (TableId.Sat feed) → ⊥) }
     {
         self.raw.sat(feed)
+    }
+
+    /// The multi-active satellite of the feed at a place in declared order: exactly where the feed has one. Takes no
+    /// memory.
+    pub fn multi(&self, feed: u32) -> Option<&MultiTable>
+        ensures rows { IfSome result (λ table. table.now.rows ≡ multi_rows_in feed self.now.tables) }
+        ensures there { IfSome result (λ table. Contains (tables self.now.mapping) (TableId.Multi feed)) }
+        ensures absent { IfNone result (Contains (tables self.now.mapping) (TableId.Multi feed) → ⊥) }
+    {
+        self.raw.multi(feed)
     }
 
     /// The status table of the feed at a place in declared order. Condition: the mapping has it. Takes no memory.

@@ -6,4 +6,4 @@ pub returns : goal.returns
 returns g c =
     let found = c.extract_in.ensures ∙ ap (find (λ (extract : HashedExtract). extract.staged.now.feed == c.args.feed)) c.items.ensures in
     let facts = extract_facts c.args.catalog.now c.requires.valid _ c.args.window.now c.requires.window c.requires.gathered c.args.feed c.extract_in.result found in
-    record { found = facts.found; feed = facts.feed_is; keys = facts.keys; attrs_fit = facts.attrs_fit }
+    record { found = facts.found; feed = facts.feed_is; keys = facts.keys; ascending = facts.ascending; attrs_fit = facts.attrs_fit }

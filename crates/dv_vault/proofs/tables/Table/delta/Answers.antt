@@ -1,4 +1,6 @@
 use Rattle.dv_vault.proofs.Vocabulary.{◌∙◌, [], ap, hashes_of, source, extract_added, statuses_added, Statuses}
+use Rattle.dv_records.specs.declared.stores.Rows.TheVariants.{Multis}
+use Rattle.dv_sat.specs.MultiFeedTables.{multis_added}
 use Rattle.dv_vault.proofs.TableFacts.{same_extract}
 use Rattle.dv_vault.proofs.tables.Table.delta.Goals as goal
 
@@ -16,3 +18,12 @@ returns-in_ok-additions-in-Status-clause-rows g c =
     rw c.in-Status.is
     ((c.in_ok-additions-in-Status.ensures {u = tt}).rows hashes extract.ensures.keys
     ∙ ap (extract_added (statuses_added hashes (source c.args.catalog.now c.in-Status.feed) (Statuses c.in-Status.rows.rows)) (Statuses [])) same)
+
+pub returns-in_ok-additions-in-Multi-clause-rows : goal.returns-in_ok-additions-in-Multi-clause-rows
+returns-in_ok-additions-in-Multi-clause-rows g c =
+    let hashes = hashes_of g.H.KeyDigest.digest_of g.H.KeyDigest.size in
+    let extract = c.extract_of-extract-in-Multi in
+    let same = same_extract c.args.window.now.window.now c.in-Multi.feed extract.result extract.ensures.found in
+    rw c.in-Multi.is
+    ((c.in_ok-additions-in-Multi.ensures {u = tt}).rows
+    ∙ ap (extract_added (multis_added hashes (source c.args.catalog.now c.in-Multi.feed) (Multis c.in-Multi.rows.rows)) (Multis [])) same)

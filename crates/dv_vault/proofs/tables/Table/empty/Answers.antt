@@ -5,6 +5,10 @@ pub from_rows-requires-in-Sat : goal.from_rows-requires-in-Sat
 unfolding IsStrictlySortedBy
 from_rows-requires-in-Sat c = rw c.new-in-Sat.ensures tt
 
+pub from_rows-requires-in-Multi : goal.from_rows-requires-in-Multi
+unfolding IsStrictlySortedBy
+from_rows-requires-in-Multi c = rw c.new-in-Multi.ensures tt
+
 pub from_rows-requires-in-Status : goal.from_rows-requires-in-Status
 unfolding IsStrictlySortedBy
 from_rows-requires-in-Status c = rw c.new-in-Status.ensures tt

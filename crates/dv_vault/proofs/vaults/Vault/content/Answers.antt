@@ -1,4 +1,5 @@
-use Rattle.dv_vault.proofs.Vocabulary.{got_from, ◌<◌, ◌∙◌, ap, length, subst, sym, content_read, IsBuilt, RawVault, entries_of}
+use Rattle.dv_vault.proofs.Vocabulary.{got_from, ◌<◌, ◌∙◌, ap, length, subst, sym, is_valid, true, ◌≡◌, RawVault, entries_of}
+use Rattle.dv_records.specs.ReadBack.{any_content_read}
 use Rattle.dv_vault.proofs.VaultFacts.{status_there}
 use Rattle.dv_vault.proofs.ContentFacts.{content_by, mart_read}
 use Rattle.dv_vault.proofs.vaults.Vault.content.Goals as goal
@@ -14,9 +15,9 @@ returns-clause-read c =
     c.sorted_rows.ensures.value
     ∙ content_by c.self.inside.catalog (entries_of c.self.inside.raw) c.args.feed c.args.date definition c.in_ok-rows.rows c.items.result.now c.status.result.now.rows got c.status.ensures
     (c.items.ensures ∙ c.in_ok-parents.ensures {u = tt}) (c.in_ok-rows.ensures {u = tt} definition got)
-    ∙ ap (λ (raw : RawVault). content_read raw.mapping raw.tables c.args.feed c.args.date) c.self.view_is
+    ∙ ap (λ (raw : RawVault). any_content_read raw.mapping raw.tables c.args.feed c.args.date) c.self.view_is
 
 pub returns-clause-told : goal.returns-clause-told
 returns-clause-told c hashes sealed has =
     returns-clause-read c
-    ∙ mart_read hashes sealed c.args.self.now has (subst (λ (raw : RawVault). IsBuilt raw.mapping) c.self.view_is (record { valid = c.self.invariant.5; built = c.self.invariant.1 })) c.args.feed c.requires c.args.date
+    ∙ mart_read hashes sealed c.args.self.now has (subst (λ (raw : RawVault). is_valid raw.mapping ≡ true) c.self.view_is c.self.invariant.5) c.args.feed c.args.date

@@ -1,0 +1,7 @@
+use Rattle.dv_vault.proofs.Vocabulary.{◌≡◌, ◌++◌, map, take}
+use Rattle.dv_records.specs.Reconstruction.{described_row}
+use Rattle.dv_vault.proofs.multi_contents.add_described.Given as goal
+
+-- the rows of the satellite rows so far stand behind those that were there
+abbrev pub invariant-loop-row : goal.invariant-loop-row
+invariant-loop-row l = l.rows ≡ l.fn.rows ++ map (described_row l.refs) (take l.row-index l.valid)

@@ -1,0 +1,14 @@
+-- The rows of parents that are read back from the tables, as they are before they are sorted.
+use Rattle.std.specs.Prelude.{ℕ, ◌==◌, List, if◌then◌else◌, length}
+use Rattle.std.specs.List.{filter_map, flat_map}
+use Rattle.dv_text.specs.declared.rows.NRow.{NRow}
+use Rattle.dv_catalog.specs.declared.entries.FeedDef.{FeedDef}
+use Rattle.dv_catalog.specs.Entries.{Mapping}
+use Rattle.dv_records.specs.declared.stores.TableRows.{TableRows}
+use Rattle.dv_records.specs.ReadBack.{row_read, rows_read}
+
+-- the rows of parents at a date: at most one each for a feed without a sub, else one for each sub that is valid
+abbrev pub parents_read : Mapping → List TableRows → FeedDef → ℕ → ℕ → List (List ℕ) → List NRow
+parents_read mapping tables definition feed date parents =
+    if length definition.sub == 0 then filter_map (row_read mapping tables definition feed date) parents
+    else flat_map (rows_read mapping tables definition feed date) parents
