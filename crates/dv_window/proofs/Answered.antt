@@ -38,7 +38,7 @@ module _ (hashes : Hashes) (state : State) (held : Held) (stands : StandsFor has
 
   again : (differs : Option Rule) → IsAgain raw given differs → outcome raw.mapping hashes state given ≡ option_map_or (λ rule. outcomes.Refused rule) differs outcomes.Repeated
   again differs is =
-      again_says hashes state raw heads_are none_open given differs is (λ sealed at same. read_again hashes state.sealed raw stands.sealed_are built given.load is.head sealed at same)
+      again_says hashes state raw heads_are none_open given differs is (λ sealed at same. read_again hashes state.sealed raw stands.sealed_are built.valid given.load is.head sealed at same)
 
   collides : (rule : Rule) → Collides hashes raw given rule → outcome raw.mapping hashes state given ≡ outcomes.Refused rule
   collides rule is =

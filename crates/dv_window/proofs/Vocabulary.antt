@@ -2,7 +2,8 @@
 pub use Rattle.dv_text.proofs.Vocabulary.{Bool, Contains, List, None, Option, Some, [], and_from, ap, false, inl, inr, is_some, length, list_all, map, nat_le, option_map, option_or, option_to_list, refl, subst, sym, take, true, ℕ, ◌++◌, ◌==◌, ◌∙◌, ◌∷◌, ◌≡◌}
 pub use Rattle.dv_catalog.proofs.Vocabulary.{Mapping, first_of, found_member, is_none, is_valid, nat_lt, none_before_map, or_none, passes_at, table_name, tables}
 pub use Rattle.dv_stage.proofs.Vocabulary.{Contains-cons_here, Ok, made_of, option_map_or, option_or-none}
-pub use Rattle.dv_records.proofs.Vocabulary.{Contains-cons_there, Hashes, append-nil, are_windows_valid, ascends, collision, content_read, is_window, no_rows, rows_in, vault, vault_weight, ◌&&◌}
+pub use Rattle.dv_records.proofs.Vocabulary.{Contains-cons_there, Hashes, append-nil, are_windows_valid, ascends, collision, is_window, no_rows, rows_in, vault, vault_weight, ◌&&◌}
+pub use Rattle.dv_records.specs.ReadBack.{any_content_read}
 pub use Rattle.dv_mapfile.proofs.Vocabulary.{IfSome, built_mapping, if◌then◌else◌}
 pub use Rattle.dv_vault.proofs.Vocabulary.{AreApart, HasSealed, IsAddition, IsBuilt, RawVault, TakesWindow, Told, are_heads_of, full_at, hashes_of, head_of, last_head, last_load, late_after, loaded}
 pub use Rattle.dv_judge.proofs.Vocabulary.{feed_twice, no_extracts, unknown_feed, window_of, window_rule}

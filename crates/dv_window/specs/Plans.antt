@@ -15,7 +15,7 @@ use Rattle.dv_catalog.specs.Tables.{table_name}
 use Rattle.dv_catalog.specs.Windows.{window_of, window_rule}
 use Rattle.dv_records.specs.Collisions.{Pair}
 use Rattle.dv_records.specs.Outcomes.{differs_from, feed_twice, full_at, late_after, no_extracts, too_long, unknown_feed}
-use Rattle.dv_records.specs.ReadBack.{content_read}
+use Rattle.dv_records.specs.ReadBack.{any_content_read}
 use Rattle.dv_vault.specs.declared.additions.Addition.{Addition}
 use Rattle.dv_vault.specs.declared.additions.AdditionFault.{AdditionFault}
 use Rattle.dv_vault.specs.declared.additions.AdditionFault.TheVariants as fault
@@ -50,7 +50,7 @@ early_rule raw given = first_of (given_rules raw given ∷ window_rule raw.mappi
 abbrev pub window_read : RawVault → WindowHead → Window
 window_read raw head = record {
   load = head.load;
-  extracts = map (λ feed. record { feed = feed; rows = content_read raw.mapping raw.tables feed head.load }) head.feeds;
+  extracts = map (λ feed. record { feed = feed; rows = any_content_read raw.mapping raw.tables feed head.load }) head.feeds;
 }
 
 -- ---- decisions

@@ -1,5 +1,5 @@
 ghost use Rattle.std.specs.Prelude.{◌≡◌, ◌<◌, IfOk, IsTrue, length};
-ghost use Rattle.dv_records.specs.ReadBack.{content_read};
+ghost use Rattle.dv_records.specs.ReadBack.{any_content_read};
 ghost use Rattle.dv_vault.specs.Vaults.{IsBuilt, are_heads_of, last_head};
 
 use dv_catalog::Catalog;
@@ -85,7 +85,7 @@ impl Office {
     /// back from the vault, by references, then attributes. Condition: the feed is in the mapping.
     pub fn content(&self, feed: u32, date: Stamp) -> Result<List<NRow>, Memory>
         requires { feed < length self.now.vault.mapping.feeds }
-        ensures { IfOk result (λ rows. rows ≡ content_read self.now.vault.mapping self.now.vault.tables feed date) }
+        ensures { IfOk result (λ rows. rows ≡ any_content_read self.now.vault.mapping self.now.vault.tables feed date) }
     {
         self.vault.content(feed, date)
     }
