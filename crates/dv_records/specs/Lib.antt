@@ -3,6 +3,7 @@ pub mod Changes
 pub mod Collisions
 pub mod Deliveries
 pub mod Deltas
+pub mod EffectPeriods
 pub mod Effects
 pub mod History
 pub mod HubNames

@@ -69,6 +69,12 @@ ResumeStep mapping hashes state resume.NothingOpen state' = (state.begun ≡ Non
 ResumeStep mapping hashes state resume.KeeperFault state' = ResumeBroke state state'
 ResumeStep mapping hashes state resume.Memory state' = ResumeBroke state state'
 
+-- ---- damage
+
+-- a load or a completion that finds the store damaged: the state is as before
+abbrev pub DamagedStep : State → State → Type 0
+DamagedStep state state' = state' ≡ state
+
 -- ---- a snapshot
 
 -- some first steps of a path, or all of them, give more rows than a path mart may have
@@ -123,9 +129,16 @@ SnapStep mapping hashes state date answer state' = SnapRefused mapping hashes st
 
 -- ---- the storing of a mapping, on a fresh store or one that stands for a state
 
--- it broke off: the store is as before, or the mapping was not stored and is
+-- a file that is read as a mapping is stored, where no mapping was
+pub record IsStored (file : List ℕ) (store store' : Store) : Type 0 where
+  pub mapping : Mapping
+  pub reads : read_mapping file ≡ Ok mapping
+  pub none_before : store.mapping ≡ None
+  pub changed : store' ≡ with_mapping file store
+
+-- it broke off: the store is as before, or the file was not stored and is
 abbrev pub InitBroke : List ℕ → Store → Store → Type 0
-InitBroke file store store' = (store' ≡ store) ⊎ ((store.mapping ≡ None) × (store' ≡ with_mapping file store))
+InitBroke file store store' = (store' ≡ store) ⊎ IsStored file store store'
 
 -- the stored text, and the file's, read as mappings
 pub record BothRead (file : List ℕ) (store : Store) (stored new : Mapping) : Type 0 where
@@ -135,7 +148,7 @@ pub record BothRead (file : List ℕ) (store : Store) (stored new : Mapping) : T
   pub file_reads : read_mapping file ≡ Ok new
 
 abbrev pub InitStep : List ℕ → Store → InitAnswer → Store → Type 0
-InitStep file store init.Stored store' = (store.mapping ≡ None) × (store' ≡ with_mapping file store)
+InitStep file store init.Stored store' = IsStored file store store'
 InitStep file store init.Kept store' = (mapping : Mapping) × BothRead file store mapping mapping × (store' ≡ store)
 InitStep file store init.Differs store' =
     (stored : Mapping) × (new : Mapping) × BothRead file store stored new × (new ≢ stored) × (store' ≡ store)

@@ -1,8 +1,11 @@
 -- A store, its tables, and the changes that a keeper makes to it.
 use Rattle.std.specs.Prelude.{◌≡◌, ℕ, ◌==◌, ◌&&◌, nat_lt, not, Bool, true, false, List, [], ◌∷◌, ◌++◌, Option, Some, None, length, take, drop, if◌then◌else◌}
 use Rattle.std.specs.List.{list_all, list_any}
+use Rattle.std.specs.Ordering.{nat_cmp}
+use Rattle.std.specs.declared.cmp.Ordering.{Ordering}
 use Rattle.dv_text.specs.declared.rows.Window.{Window}
 use Rattle.dv_text.specs.declared.rows.WindowHead.{WindowHead}
+use Rattle.dv_text.specs.Sorting.{insert_by}
 use Rattle.dv_catalog.specs.declared.tables.TableId.{TableId}
 use Rattle.dv_catalog.specs.declared.tables.TableId.TheVariants.{Hub, Link, Sat, Multi, Status, Effect}
 use Rattle.dv_records.specs.declared.snapshots.Snap.{Snap}
@@ -123,6 +126,25 @@ are_snapshots_in_order [] = true
 are_snapshots_in_order (snap ∷ snaps) =
     list_all (λ later. nat_lt snap.head.date later.head.date) snaps && are_snap_tables_apart snap.tables && are_snapshots_in_order snaps
 
+-- no rows, of the kind of a snapshot's table
+abbrev pub no_snap_rows : SnapId → Rows
+no_snap_rows (Pit n) = Pits []
+no_snap_rows (Bridge n) = Bridges []
+
+-- the rows of one of a snapshot's tables: those of its entry; none where it has no entry
+abbrev pub rows_of_snap : SnapId → List SnapTable → Rows
+rows_of_snap id [] = no_snap_rows id
+rows_of_snap id (entry ∷ entries) = if snap_id_eq entry.id id then entry.rows else rows_of_snap id entries
+
+-- the rows of a table of the snapshot at a date; none where none is stored at it
+abbrev pub snapshot_rows : ℕ → SnapId → List Snap → Rows
+snapshot_rows date id [] = no_snap_rows id
+snapshot_rows date id (snap ∷ snaps) = if snap.head.date == date then rows_of_snap id snap.tables else snapshot_rows date id snaps
+
+-- no snapshot is stored at the date of a new one, and none of its tables has two entries
+abbrev pub is_new_snapshot : Snap → List Snap → Bool
+is_new_snapshot snap snaps = not (list_any (λ other. other.head.date == snap.head.date) snaps) && are_snap_tables_apart snap.tables
+
 -- what holds of every store that a keeper keeps
 abbrev pub is_well_formed : Store → Bool
 is_well_formed store = are_apart store.tables && have_kinds store.tables && are_snapshots_in_order store.snapshots
@@ -141,6 +163,14 @@ with_rows table rows store = record store { tables = appended_to table rows stor
 -- the head is recorded and the stage cleared in one
 abbrev pub with_seal : WindowHead → Store → Store
 with_seal head store = record store { windows = store.windows ++ head ∷ []; stage = None }
+
+-- by date
+abbrev pub snap_cmp : Snap → Snap → Ordering
+snap_cmp a b = nat_cmp a.head.date b.head.date
+
+-- the snapshot is put among the stored ones, in its place by date
+abbrev pub with_snapshot : Snap → Store → Store
+with_snapshot snap store = record store { snapshots = insert_by snap_cmp snap store.snapshots }
 
 -- a window of this load date is open
 abbrev pub IsStagedAt : ℕ → Option Window → Type 0
