@@ -6,6 +6,7 @@ use Rattle.dv_laws.proofs.Vocabulary.{hub_rows, HasKeysAlone, key_row, present_a
 use Rattle.dv_laws.proofs.Vocabulary.{status_tells}
 use Rattle.dv_catalog.specs.declared.tables.TableId.TheVariants.{Hub as HubTable}
 use Rattle.dv_records.proofs.NewestRows.{content_ascends}
+use Rattle.dv_records.specs.Backwards.{backwards}
 
 -- the row of a key is that of the one key that it has
 same_key_row : (row : NRow) (key other : Key) → row ≡ key_row key → row.refs ≡ other ∷ [] → row ≡ key_row other
@@ -19,8 +20,8 @@ refs_of_key : (row : NRow) (key : Key) → row ≡ key_row key → refs_eq row.r
 refs_of_key row key is = (refs_eq-Decides row.refs (key ∷ [])).1 (ap (λ (row : NRow). row.refs) is)
 
 module _ (mapping : Mapping) (hashes : Hashes) (hub feed : ℕ) (definition : FeedDef) (sealed : List Window) (hubs : List HubRow) (statuses : List StatusRow)
-    (at : slice_get mapping.feeds feed ≡ Some definition) (parent : definition.parent ≡ Hub hub) (hub_table : table_after mapping hashes (reverse sealed) (HubTable hub) ≡ Hubs hubs)
-    (status_table : table_after mapping hashes (reverse sealed) (Status feed) ≡ Statuses statuses) (order : IsInLoadOrder sealed) (keys : HasKeysAlone feed sealed)
+    (at : slice_get mapping.feeds feed ≡ Some definition) (parent : definition.parent ≡ Hub hub) (hub_table : table_after mapping hashes (backwards sealed) (HubTable hub) ≡ Hubs hubs)
+    (status_table : table_after mapping hashes (backwards sealed) (Status feed) ≡ Statuses statuses) (order : IsInLoadOrder sealed) (keys : HasKeysAlone feed sealed)
     (none : collision_in mapping hashes sealed (Hub hub) ≡ None) where
   all_apart : IsApart hashes (hashed_refs mapping sealed (Hub hub))
   all_apart = (collision_free mapping hashes sealed (Hub hub)).0 none

@@ -4,23 +4,24 @@ use Rattle.dv_laws.proofs.Vocabulary.{IsApart, offered_refs, loaded, hub_rows, l
 use Rattle.dv_laws.proofs.Vocabulary.{batch_adds, grown, HoldsKeys, HoldsLists, PartialEnds, common_steps, nat_tests}
 use Rattle.dv_catalog.specs.declared.tables.TableId.TheVariants.{Hub as HubTable, Link as LinkTable}
 use Rattle.dv_records.proofs.LinkTables.{table_has as link_has, table_row as link_row}
+use Rattle.dv_records.specs.Backwards.{backwards}
 
-pub hub_holds : (mapping : Mapping) (hashes : Hashes) (hub : ℕ) (windows : List Window) (rows : List HubRow) → table_after mapping hashes windows (HubTable hub) ≡ Hubs rows
+pub hub_holds : (mapping : Mapping) (hashes : Hashes) (hub : ℕ) (windows : List Window) (rows : List HubRow) → table_after mapping hashes (record { windows = windows }) (HubTable hub) ≡ Hubs rows
     → IsApart hashes (flat_map (offered_refs mapping (Hub hub)) windows) → HoldsKeys mapping hashes hub windows rows
 hub_holds mapping hashes hub windows rows table apart = subst (HoldsKeys mapping hashes hub windows) (ap hub_rows table) (record { only = hub_row mapping hub hashes windows; each = hub_has mapping hub hashes windows apart })
 
-pub link_holds : (mapping : Mapping) (hashes : Hashes) (link : ℕ) (windows : List Window) (rows : List LinkRow) → table_after mapping hashes windows (LinkTable link) ≡ Links rows
+pub link_holds : (mapping : Mapping) (hashes : Hashes) (link : ℕ) (windows : List Window) (rows : List LinkRow) → table_after mapping hashes (record { windows = windows }) (LinkTable link) ≡ Links rows
     → IsApart hashes (flat_map (offered_refs mapping (Link link)) windows) → HoldsLists mapping hashes link windows rows
 link_holds mapping hashes link windows rows table apart = subst (HoldsLists mapping hashes link windows) (ap link_rows table) (record { only = link_row mapping link hashes windows; each = link_has mapping link hashes windows apart })
 
 pub table_grows : (mapping : Mapping) (hashes : Hashes) (sealed : List Window) (next : Window) (table : TableId) → Contains (tables mapping) table
-    → rows_in table (vault mapping hashes (sealed ++ next ∷ [])) ≡ rows_then (rows_in table (vault mapping hashes sealed)) (table_batch mapping hashes table (reverse sealed) next)
+    → rows_in table (vault mapping hashes (sealed ++ next ∷ [])) ≡ rows_then (rows_in table (vault mapping hashes sealed)) (table_batch mapping hashes table (backwards sealed) next)
 table_grows mapping hashes sealed next table has =
     let turned : reverse (sealed ++ next ∷ []) ≡ next ∷ reverse sealed = reverse-append sealed (next ∷ []) in
     (vault_holds mapping hashes (sealed ++ next ∷ []) table).rows has
-    ∙ ap (λ windows. table_after mapping hashes windows table) turned
-    ∙ table_after-newest mapping hashes (reverse sealed) next table
-    ∙ ap (λ rows. rows_then rows (table_batch mapping hashes table (reverse sealed) next)) (sym ((vault_holds mapping hashes sealed table).rows has))
+    ∙ ap (λ windows. table_after mapping hashes (record { windows = windows }) table) turned
+    ∙ table_after-newest mapping hashes (backwards sealed) next table
+    ∙ ap (λ rows. rows_then rows (table_batch mapping hashes table (backwards sealed) next)) (sym ((vault_holds mapping hashes sealed table).rows has))
 
 pub count-push : (mapping : Mapping) (hashes : Hashes) (sealed : List Window) (next : Window)
     → sum_by (λ entry. row_count entry.rows) (vault mapping hashes (sealed ++ next ∷ [])) ≡ sum_by (λ entry. row_count entry.rows) (vault mapping hashes sealed) + loaded mapping hashes sealed next

@@ -30,6 +30,7 @@ use Rattle.dv_records.specs.Statuses.{status_batch, status_cmp}
 use Rattle.dv_records.specs.Stores.{row_count, rows_in, rows_then}
 use Rattle.dv_records.specs.Vault.{HoldsTable, partial, table_after, table_batch, vault}
 use Rattle.dv_records.specs.Weights.{rows_weight, vault_weight}
+use Rattle.dv_records.specs.Backwards.{backwards}
 
 -- ---- windows
 
@@ -42,10 +43,10 @@ EmptyBefore =
 pub record SameOfFeed (mapping : Mapping) (hashes : Hashes) (feed : ℕ) (before after : List Window) : Type 0 where
   pub contents : (date : ℕ) → content feed after date ≡ content feed before date
   pub periods : (date : ℕ) → period_mart after feed date ≡ period_mart before feed date
-  pub sat : table_after mapping hashes (reverse after) (Sat feed) ≡ table_after mapping hashes (reverse before) (Sat feed)
-  pub multi : table_after mapping hashes (reverse after) (Multi feed) ≡ table_after mapping hashes (reverse before) (Multi feed)
-  pub status : table_after mapping hashes (reverse after) (Status feed) ≡ table_after mapping hashes (reverse before) (Status feed)
-  pub effect : table_after mapping hashes (reverse after) (Effect feed) ≡ table_after mapping hashes (reverse before) (Effect feed)
+  pub sat : table_after mapping hashes (backwards after) (Sat feed) ≡ table_after mapping hashes (backwards before) (Sat feed)
+  pub multi : table_after mapping hashes (backwards after) (Multi feed) ≡ table_after mapping hashes (backwards before) (Multi feed)
+  pub status : table_after mapping hashes (backwards after) (Status feed) ≡ table_after mapping hashes (backwards before) (Status feed)
+  pub effect : table_after mapping hashes (backwards after) (Effect feed) ≡ table_after mapping hashes (backwards before) (Effect feed)
 
 -- a window without a feed leaves the feed's content and its tables alone
 abbrev pub AbsentLeaves : Type 0
@@ -85,7 +86,7 @@ TableGrows =
     (mapping : Mapping) (hashes : Hashes) (sealed : List Window) (next : Window) (table : TableId)
     → Contains (tables mapping) table
     → rows_in table (vault mapping hashes (sealed ++ next ∷ []))
-    ≡ rows_then (rows_in table (vault mapping hashes sealed)) (table_batch mapping hashes table (reverse sealed) next)
+    ≡ rows_then (rows_in table (vault mapping hashes sealed)) (table_batch mapping hashes table (backwards sealed) next)
 
 -- the vault of windows and one more is, table by table, the vault of the windows followed by the batch of the one
 abbrev pub VaultGrows : Type 0
@@ -93,7 +94,7 @@ VaultGrows =
     (mapping : Mapping) (hashes : Hashes) (sealed : List Window) (next : Window)
     → vault mapping hashes (sealed ++ next ∷ [])
     ≡ map
-    (λ table. record { table = table; rows = rows_then (table_after mapping hashes (reverse sealed) table) (table_batch mapping hashes table (reverse sealed) next) })
+    (λ table. record { table = table; rows = rows_then (table_after mapping hashes (backwards sealed) table) (table_batch mapping hashes table (backwards sealed) next) })
     (tables mapping)
 
 -- the vault's weight grows by what the batches of the window weigh
@@ -101,7 +102,7 @@ abbrev pub WeightGrows : Type 0
 WeightGrows =
     (mapping : Mapping) (hashes : Hashes) (sealed : List Window) (next : Window)
     → vault_weight mapping hashes (sealed ++ next ∷ [])
-    ≡ vault_weight mapping hashes sealed + sum_by (λ table. rows_weight (table_batch mapping hashes table (reverse sealed) next)) (tables mapping)
+    ≡ vault_weight mapping hashes sealed + sum_by (λ table. rows_weight (table_batch mapping hashes table (backwards sealed) next)) (tables mapping)
 
 -- and its number of rows by that of the rows that the window loads
 abbrev pub RowsGrow : Type 0
@@ -137,14 +138,14 @@ pub record HoldsLists (mapping : Mapping) (hashes : Hashes) (link : ℕ) (window
 abbrev pub HubHolds : Type 0
 HubHolds =
     (mapping : Mapping) (hashes : Hashes) (hub : ℕ) (windows : List Window) (rows : List HubRow)
-    → table_after mapping hashes windows (HubTable hub) ≡ Hubs rows → IsApart hashes (flat_map (offered_refs mapping (Hub hub)) windows)
+    → table_after mapping hashes (record { windows = windows }) (HubTable hub) ≡ Hubs rows → IsApart hashes (flat_map (offered_refs mapping (Hub hub)) windows)
     → HoldsKeys mapping hashes hub windows rows
 
 -- and a link's table holds the reference lists that they bring
 abbrev pub LinkHolds : Type 0
 LinkHolds =
     (mapping : Mapping) (hashes : Hashes) (link : ℕ) (windows : List Window) (rows : List LinkRow)
-    → table_after mapping hashes windows (LinkTable link) ≡ Links rows → IsApart hashes (flat_map (offered_refs mapping (Link link)) windows)
+    → table_after mapping hashes (record { windows = windows }) (LinkTable link) ≡ Links rows → IsApart hashes (flat_map (offered_refs mapping (Link link)) windows)
     → HoldsLists mapping hashes link windows rows
 
 -- ---- batches

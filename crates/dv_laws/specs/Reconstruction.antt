@@ -22,13 +22,14 @@ use Rattle.dv_records.specs.Reconstruction.{first_attrs, HasKeysAlone, HasOneRow
 use Rattle.dv_records.specs.Satellites.{last_rows}
 use Rattle.dv_records.specs.States.{are_windows_valid}
 use Rattle.dv_records.specs.Vault.{table_after, vault}
+use Rattle.dv_records.specs.Backwards.{backwards}
 
 -- the status table of a feed says of each reference list, by its hash key, and at each date whether the feed's content
 -- delivers it, where no other list that the windows deliver has its hash key
 abbrev pub StatusTells : Type 0
 StatusTells =
     (mapping : Mapping) (hashes : Hashes) (feed : ℕ) (sealed : List Window) (rows : List StatusRow)
-    → table_after mapping hashes (reverse sealed) (Status feed) ≡ Statuses rows
+    → table_after mapping hashes (backwards sealed) (Status feed) ≡ Statuses rows
     → IsInLoadOrder sealed → IsApart hashes (delivered_refs feed sealed)
     → (refs : List Key) → ((other : List Key) → Contains (delivered_refs feed sealed) other → hashes.hash other ≡ hashes.hash refs → other ≡ refs)
     → (date : ℕ) → present_at rows (hashes.hash refs) date ≡ delivers (content feed sealed date) refs
@@ -37,7 +38,7 @@ StatusTells =
 abbrev pub DeliveredTells : Type 0
 DeliveredTells =
     (mapping : Mapping) (hashes : Hashes) (feed : ℕ) (sealed : List Window) (rows : List StatusRow)
-    → table_after mapping hashes (reverse sealed) (Status feed) ≡ Statuses rows
+    → table_after mapping hashes (backwards sealed) (Status feed) ≡ Statuses rows
     → IsInLoadOrder sealed → IsApart hashes (delivered_refs feed sealed)
     → (refs : List Key) → Contains (delivered_refs feed sealed) refs
     → (date : ℕ) → present_at rows (hashes.hash refs) date ≡ delivers (content feed sealed date) refs
@@ -48,7 +49,7 @@ DeliveredTells =
 abbrev pub SatTells : Type 0
 SatTells =
     (mapping : Mapping) (hashes : Hashes) (feed : ℕ) (sealed : List Window) (rows : List SatRow)
-    → table_after mapping hashes (reverse sealed) (Sat feed) ≡ Sats rows
+    → table_after mapping hashes (backwards sealed) (Sat feed) ≡ Sats rows
     → IsInLoadOrder sealed → HasOneRowEach feed sealed → IsApart hashes (delivered_refs feed sealed)
     → (refs : List Key) → ((other : List Key) → Contains (delivered_refs feed sealed) other → hashes.hash other ≡ hashes.hash refs → other ≡ refs)
     → (date : ℕ) → option_map (λ row. row.attrs) (valid_at rows (hashes.hash refs) date) ≡ first_attrs (last_rows (up_to date (history feed (reverse sealed))) refs)
@@ -58,7 +59,7 @@ SatTells =
 abbrev pub MultiTells : Type 0
 MultiTells =
     (mapping : Mapping) (hashes : Hashes) (feed : ℕ) (sealed : List Window) (rows : List MultiRow)
-    → table_after mapping hashes (reverse sealed) (Multi feed) ≡ Multis rows
+    → table_after mapping hashes (backwards sealed) (Multi feed) ≡ Multis rows
     → IsInLoadOrder sealed → HasOneRowPerSub feed sealed → IsApart hashes (delivered_refs feed sealed)
     → (refs : List Key) → ((other : List Key) → Contains (delivered_refs feed sealed) other → hashes.hash other ≡ hashes.hash refs → other ≡ refs)
     → (date : ℕ) (row : NRow)
@@ -70,8 +71,8 @@ abbrev pub KeysTell : Type 0
 KeysTell =
     (mapping : Mapping) (hashes : Hashes) (hub feed : ℕ) (definition : FeedDef) (sealed : List Window) (hubs : List HubRow) (statuses : List StatusRow)
     → slice_get mapping.feeds feed ≡ Some definition → definition.parent ≡ Hub hub
-    → table_after mapping hashes (reverse sealed) (HubTable hub) ≡ Hubs hubs
-    → table_after mapping hashes (reverse sealed) (Status feed) ≡ Statuses statuses
+    → table_after mapping hashes (backwards sealed) (HubTable hub) ≡ Hubs hubs
+    → table_after mapping hashes (backwards sealed) (Status feed) ≡ Statuses statuses
     → IsInLoadOrder sealed → HasKeysAlone feed sealed → collision_in mapping hashes sealed (Hub hub) ≡ None
     → (date : ℕ) → present_keys hubs statuses date ≡ content feed sealed date
 

@@ -2,6 +2,7 @@
 use Rattle.dv_mart.proofs.Vocabulary.{◌≡◌, ℕ, ◌<◌, true, List, ◌∙◌, ap, arith, length, nat_lt, reverse, Contains, nat_tests, Window, Hashes, TableId, Mapping, is_table_of, tables, tables_in, Rows, rows_in, rows_up_to, table_after, vault_holds, HasSealed, RawVault, passes_at, Table, mart_text}
 use Rattle.dv_mart.proofs.Vocabulary.{table_text}
 use Rattle.dv_catalog.specs.declared.tables.TableId.TheVariants as ids
+use Rattle.dv_records.specs.Backwards.{backwards}
 
 -- ---- a table of the mapping
 
@@ -25,12 +26,12 @@ status_within mapping feed has = let test : nat_lt feed (length mapping.feeds) �
 -- rows that are those of the windows' table have its text
 module _ (hashes : Hashes) (sealed : List Window) (raw : RawVault) (has_sealed : HasSealed hashes sealed raw) (date : ℕ) where
   -- a table has the rows of the windows
-  rows_read : (table : TableId) → Contains (tables raw.mapping) table → rows_in table raw.tables ≡ table_after raw.mapping hashes (reverse sealed) table
+  rows_read : (table : TableId) → Contains (tables raw.mapping) table → rows_in table raw.tables ≡ table_after raw.mapping hashes (backwards sealed) table
   rows_read table has = ap (rows_in table) has_sealed.tables_are ∙ (vault_holds raw.mapping hashes sealed table).rows has
 
   -- so rows that are the table's have the text of the windows' table
   pub said : {R : Type 0} (table : TableId) (kind : List R → Rows) (rows_of : Rows → List R) → Contains (tables raw.mapping) table
-      → kind (rows_of (table_after raw.mapping hashes (reverse sealed) table)) ≡ table_after raw.mapping hashes (reverse sealed) table
+      → kind (rows_of (table_after raw.mapping hashes (backwards sealed) table)) ≡ table_after raw.mapping hashes (backwards sealed) table
       → (rows : List R) → rows ≡ rows_of (rows_in table raw.tables) → (catalog : Mapping) → catalog ≡ raw.mapping
       → table_text catalog table (rows_up_to date (kind rows)) ≡ mart_text raw.mapping hashes sealed (Table table) date
   said table kind rows_of has back rows rows_are catalog same =

@@ -16,6 +16,7 @@ use Rattle.dv_records.specs.Vault.{rows_up_to, table_after}
 use Rattle.dv_mart.specs.declared.whats.What.{What}
 use Rattle.dv_mart.specs.declared.whats.What.TheVariants as what
 use Rattle.dv_mart.specs.Texts.{bridge_text, csv_text, effect_table_header, effect_table_record, feed_text, hub_table_header, hub_table_record, hub_text, link_table_header, link_table_record, multi_table_record, path_text, period_text, pit_text, sat_table_header, sat_table_record, status_table_header, status_table_record}
+use Rattle.dv_records.specs.Backwards.{backwards}
 
 -- ---- raw tables
 
@@ -73,7 +74,7 @@ mart_text mapping hashes sealed (what.Path path) date =
     path_text mapping (path_feeds (slice_get mapping.paths path)) (path_mart mapping sealed path date)
 mart_text mapping hashes sealed (what.Period feed) date = period_text_by sealed feed date (slice_get mapping.feeds feed)
 mart_text mapping hashes sealed (what.Table table) date =
-    table_text mapping table (rows_up_to date (table_after mapping hashes (reverse sealed) table))
+    table_text mapping table (rows_up_to date (table_after mapping hashes (backwards sealed) table))
 mart_text mapping hashes sealed (what.Pit hub) date = pit_text mapping hub date (pit mapping hashes sealed hub date)
 mart_text mapping hashes sealed (what.Bridge path) date =
     bridge_text mapping (path_feeds (slice_get mapping.paths path)) date (bridge mapping hashes sealed path date)

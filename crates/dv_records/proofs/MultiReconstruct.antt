@@ -10,6 +10,7 @@ use Rattle.dv_records.proofs.FeedSteps.{feed_rows}
 use Rattle.dv_records.proofs.LastChange.{IsOwn, apart-reversed}
 use Rattle.dv_records.proofs.Reversing.{IsNewestFirst, history-newest_first, history_member}
 use Rattle.dv_records.proofs.SatelliteTies.{multi_tied}
+use Rattle.dv_records.specs.Backwards.{backwards}
 
 module _ (hashes : Hashes) (source : List ℕ) (refs : List Key) (date : ℕ) where
   -- the multi-active row of an extract's row
@@ -70,7 +71,7 @@ module _ (hashes : Hashes) (source : List ℕ) (refs : List Key) (date : ℕ) wh
 
 -- ---- windows
 
-module _ (mapping : Mapping) (hashes : Hashes) (feed : ℕ) (sealed : List Window) (rows : List MultiRow) (table : table_after mapping hashes (reverse sealed) (Multi feed) ≡ Multis rows)
+module _ (mapping : Mapping) (hashes : Hashes) (feed : ℕ) (sealed : List Window) (rows : List MultiRow) (table : table_after mapping hashes (backwards sealed) (Multi feed) ≡ Multis rows)
     (order : IsInLoadOrder sealed) (single : HasOneRowPerSub feed sealed) (apart : IsApart hashes (delivered_refs feed sealed)) (refs : List Key) where
   pub multi_tells : IsOwn hashes refs (history feed sealed)
       → (date : ℕ) (row : NRow) → Contains (map (described_row refs) (all_valid_at rows (hashes.hash refs) date)) row ↔ Contains (last_rows (up_to date (history feed (reverse sealed))) refs) row

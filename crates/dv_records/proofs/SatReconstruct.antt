@@ -7,6 +7,7 @@ use Rattle.dv_records.proofs.FeedSteps.{feed_rows}
 use Rattle.dv_records.proofs.LastChange.{IsOwn, apart-reversed}
 use Rattle.dv_records.proofs.Reversing.{IsNewestFirst, history-newest_first, history_member}
 use Rattle.dv_records.proofs.SatelliteTies.{sat_tied}
+use Rattle.dv_records.specs.Backwards.{backwards}
 
 module _ (hashes : Hashes) (source : List ℕ) (refs : List Key) (date : ℕ) where
   -- the satellite row of an extract's row
@@ -36,7 +37,7 @@ module _ (hashes : Hashes) (source : List ℕ) (refs : List Key) (date : ℕ) wh
 
 -- ---- windows
 
-module _ (mapping : Mapping) (hashes : Hashes) (feed : ℕ) (sealed : List Window) (rows : List SatRow) (table : table_after mapping hashes (reverse sealed) (Sat feed) ≡ Sats rows)
+module _ (mapping : Mapping) (hashes : Hashes) (feed : ℕ) (sealed : List Window) (rows : List SatRow) (table : table_after mapping hashes (backwards sealed) (Sat feed) ≡ Sats rows)
     (order : IsInLoadOrder sealed) (single : HasOneRowEach feed sealed) (apart : IsApart hashes (delivered_refs feed sealed)) (refs : List Key) where
   pub sat_tells : IsOwn hashes refs (history feed sealed)
       → (date : ℕ) → option_map (λ row. row.attrs) (valid_at rows (hashes.hash refs) date) ≡ first_attrs (last_rows (up_to date (history feed (reverse sealed))) refs)

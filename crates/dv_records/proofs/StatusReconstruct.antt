@@ -6,6 +6,7 @@ use Rattle.dv_records.proofs.FeedSteps.{feed_rows}
 use Rattle.dv_records.proofs.LastChange.{AreApart, Changes, IsOwn, IsStep, Tells, apart-older, apart-reversed, last_change}
 use Rattle.dv_records.proofs.Reversing.{IsNewestFirst, history-newest_first}
 use Rattle.dv_records.proofs.StatusTies.{status_stands, status_tied}
+use Rattle.dv_records.specs.Backwards.{backwards}
 
 -- those of the newest extract are among them
 pub newest_lists : (all : List Extract) (refs : List Key) → Contains (all_refs (newest_rows all)) refs → Contains (lists_of all) refs
@@ -64,7 +65,7 @@ module _ (hashes : Hashes) (source : List ℕ) (refs : List Key) (date : ℕ) wh
 
 -- ---- windows
 
-module _ (mapping : Mapping) (hashes : Hashes) (feed : ℕ) (sealed : List Window) (rows : List StatusRow) (table : table_after mapping hashes (reverse sealed) (Status feed) ≡ Statuses rows)
+module _ (mapping : Mapping) (hashes : Hashes) (feed : ℕ) (sealed : List Window) (rows : List StatusRow) (table : table_after mapping hashes (backwards sealed) (Status feed) ≡ Statuses rows)
     (order : IsInLoadOrder sealed) (apart : IsApart hashes (delivered_refs feed sealed)) (refs : List Key) where
   pub status_tells : IsOwn hashes refs (history feed sealed) → (date : ℕ) → present_at rows (hashes.hash refs) date ≡ delivers (content feed sealed date) refs
   status_tells own date =

@@ -5,22 +5,23 @@ use Rattle.dv_records.proofs.Vocabulary.{Status, Mapping, source, effect_tables,
 use Rattle.dv_records.proofs.Vocabulary.{sat_rows_in, status_rows, status_rows_in, multi_batch, sat_batch, status_batch, no_rows, rows_in, table_eq, HoldsTable, feed_batch, table_after, table_entry, vault, rules}
 use Rattle.dv_catalog.specs.declared.tables.TableId.TheVariants.{Hub, Link}
 use Rattle.dv_records.proofs.WellFormedTables.{same_table, table_eq-itself}
+use Rattle.dv_records.specs.Backwards.{Backwards, backwards}
 
 -- ---- entries
 
-module _ (mapping : Mapping) (hashes : Hashes) (windows : List Window) where
+module _ (mapping : Mapping) (hashes : Hashes) (after : Backwards) where
   -- the rows of a table among entries of tables after windows
-  pub rows_in-entries : (all : List TableId) (table : TableId) → Contains all table → rows_in table (map (table_entry mapping hashes windows) all) ≡ table_after mapping hashes windows table
+  pub rows_in-entries : (all : List TableId) (table : TableId) → Contains all table → rows_in table (map (table_entry mapping hashes after) all) ≡ table_after mapping hashes after table
   rows_in-entries [] table has = Contains-nil table has
   rows_in-entries (first ∷ all) table has = search (rules, Contains-cons_cases, same_table, false≢true, table_eq-itself, rows_in-entries all table)
 
   -- one that isn't among them has none
-  none_in-entries : (all : List TableId) (table : TableId) → (Contains all table → ⊥) → rows_in table (map (table_entry mapping hashes windows) all) ≡ no_rows table
+  none_in-entries : (all : List TableId) (table : TableId) → (Contains all table → ⊥) → rows_in table (map (table_entry mapping hashes after) all) ≡ no_rows table
   none_in-entries [] table out = refl
   none_in-entries (first ∷ all) table out = by (table_eq first table) refl (none_in-entries all table)
     where
-      by : (b : Bool) → table_eq first table ≡ b → ((Contains all table → ⊥) → rows_in table (map (table_entry mapping hashes windows) all) ≡ no_rows table)
-          → rows_in table (map (table_entry mapping hashes windows) (first ∷ all)) ≡ no_rows table
+      by : (b : Bool) → table_eq first table ≡ b → ((Contains all table → ⊥) → rows_in table (map (table_entry mapping hashes after) all) ≡ no_rows table)
+          → rows_in table (map (table_entry mapping hashes after) (first ∷ all)) ≡ no_rows table
       by true t later = absurd (out (subst (Contains (first ∷ all)) (same_table first table t) (Contains-cons_here first all)))
       by false t later = rw t (later (λ has. out (Contains-cons_there first all table has)))
 
@@ -93,17 +94,17 @@ module _ (mapping : Mapping) (feed : ℕ) (definition : FeedDef) (at : slice_get
 
 module _ (mapping : Mapping) (hashes : Hashes) (sealed : List Window) where
   pub vault_hub : (hub : ℕ) → hub < length mapping.hubs → hub_rows_in hub (vault mapping hashes sealed) ≡ appended (hub_batch mapping hashes hub) (reverse sealed)
-  vault_hub hub under = ap hub_rows (rows_in-entries mapping hashes (reverse sealed) (tables mapping) (Hub hub) (has_hub mapping hub under))
+  vault_hub hub under = ap hub_rows (rows_in-entries mapping hashes (backwards sealed) (tables mapping) (Hub hub) (has_hub mapping hub under))
 
   pub vault_link : (link : ℕ) → link < length mapping.links → link_rows_in link (vault mapping hashes sealed) ≡ appended (link_batch mapping hashes link) (reverse sealed)
-  vault_link link under = ap link_rows (rows_in-entries mapping hashes (reverse sealed) (tables mapping) (Link link) (has_link mapping link under))
+  vault_link link under = ap link_rows (rows_in-entries mapping hashes (backwards sealed) (tables mapping) (Link link) (has_link mapping link under))
 
   module _ (feed : ℕ) (definition : FeedDef) (at : slice_get mapping.feeds feed ≡ Some definition) where
     pub vault_status : status_rows_in feed (vault mapping hashes sealed) ≡ appended (feed_batch feed (status_batch hashes (source mapping feed))) (reverse sealed)
-    vault_status = ap status_rows (rows_in-entries mapping hashes (reverse sealed) (tables mapping) (Status feed) (has_status mapping feed definition at))
+    vault_status = ap status_rows (rows_in-entries mapping hashes (backwards sealed) (tables mapping) (Status feed) (has_status mapping feed definition at))
 
     pub vault_sat : definition.sub ≡ [] → (length definition.attrs == 0) ≡ false → sat_rows_in feed (vault mapping hashes sealed) ≡ appended (feed_batch feed (sat_batch hashes (source mapping feed))) (reverse sealed)
-    vault_sat none some = ap sat_rows (rows_in-entries mapping hashes (reverse sealed) (tables mapping) (Sat feed) (has_sat mapping feed definition at none some))
+    vault_sat none some = ap sat_rows (rows_in-entries mapping hashes (backwards sealed) (tables mapping) (Sat feed) (has_sat mapping feed definition at none some))
 
     pub vault_multi : (length definition.sub == 0) ≡ false → (length definition.attrs == 0) ≡ false → multi_rows_in feed (vault mapping hashes sealed) ≡ appended (feed_batch feed (multi_batch hashes (source mapping feed))) (reverse sealed)
-    vault_multi some_sub some = ap multi_rows (rows_in-entries mapping hashes (reverse sealed) (tables mapping) (Multi feed) (has_multi mapping feed definition at some_sub some))
+    vault_multi some_sub some = ap multi_rows (rows_in-entries mapping hashes (backwards sealed) (tables mapping) (Multi feed) (has_multi mapping feed definition at some_sub some))

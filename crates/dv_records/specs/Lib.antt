@@ -1,3 +1,4 @@
+pub mod Backwards
 pub mod Batches
 pub mod Changes
 pub mod Collisions

@@ -1,5 +1,5 @@
 -- The vault: the raw tables, each the concatenation of its batches.
-use Rattle.std.specs.Prelude.{◌≡◌, ℕ, nat_le, Contains, List, [], ◌∷◌, ◌++◌, Option, Some, None, filter, map, reverse, take, drop}
+use Rattle.std.specs.Prelude.{◌≡◌, ℕ, nat_le, Contains, List, [], ◌∷◌, ◌++◌, Option, Some, None, filter, map, take, drop}
 use Rattle.dv_text.specs.declared.rows.Window.{Window}
 use Rattle.dv_text.specs.Keys.{Hashes}
 use Rattle.dv_catalog.specs.declared.tables.TableId.{TableId}
@@ -10,6 +10,7 @@ use Rattle.dv_catalog.specs.Tables.{tables}
 use Rattle.dv_records.specs.declared.stores.Rows.{Rows}
 use Rattle.dv_records.specs.declared.stores.Rows.TheVariants.{Hubs, Links, Sats, Multis, Statuses, Effects, Pits, Bridges}
 use Rattle.dv_records.specs.declared.stores.TableRows.{TableRows}
+use Rattle.dv_records.specs.Backwards.{Backwards, backwards, with_newest}
 use Rattle.dv_records.specs.Batches.{appended}
 use Rattle.dv_records.specs.Effects.{effect_batch}
 use Rattle.dv_records.specs.History.{Extract, extract_of, history}
@@ -27,42 +28,42 @@ batch_at batch older (Some newest) = batch older newest
 abbrev pub feed_batch : {R : Type 0} → ℕ → (List Extract → Extract → List R) → List Window → Window → List R
 feed_batch feed batch older window = batch_at batch (history feed older) (extract_of feed window)
 
--- a window's batch for a table, after the older windows, of which the newest stands first
-abbrev pub table_batch : Mapping → Hashes → TableId → List Window → Window → Rows
-table_batch mapping hashes (Hub hub) older window = Hubs (hub_batch mapping hashes hub older window)
-table_batch mapping hashes (Link link) older window = Links (link_batch mapping hashes link older window)
-table_batch mapping hashes (Sat feed) older window = Sats (feed_batch feed (sat_batch hashes (source mapping feed)) older window)
-table_batch mapping hashes (Multi feed) older window = Multis (feed_batch feed (multi_batch hashes (source mapping feed)) older window)
-table_batch mapping hashes (Status feed) older window = Statuses (feed_batch feed (status_batch hashes (source mapping feed)) older window)
-table_batch mapping hashes (Effect feed) older window = Effects (feed_batch feed (effect_batch hashes (source mapping feed)) older window)
+-- a window's batch for a table, after older windows
+abbrev pub table_batch : Mapping → Hashes → TableId → Backwards → Window → Rows
+table_batch mapping hashes (Hub hub) older window = Hubs (hub_batch mapping hashes hub older.windows window)
+table_batch mapping hashes (Link link) older window = Links (link_batch mapping hashes link older.windows window)
+table_batch mapping hashes (Sat feed) older window = Sats (feed_batch feed (sat_batch hashes (source mapping feed)) older.windows window)
+table_batch mapping hashes (Multi feed) older window = Multis (feed_batch feed (multi_batch hashes (source mapping feed)) older.windows window)
+table_batch mapping hashes (Status feed) older window = Statuses (feed_batch feed (status_batch hashes (source mapping feed)) older.windows window)
+table_batch mapping hashes (Effect feed) older window = Effects (feed_batch feed (effect_batch hashes (source mapping feed)) older.windows window)
 
--- a table after windows, of which the newest stands first: its batches, in the order of the windows
-abbrev pub table_after : Mapping → Hashes → List Window → TableId → Rows
-table_after mapping hashes windows (Hub hub) = Hubs (appended (hub_batch mapping hashes hub) windows)
-table_after mapping hashes windows (Link link) = Links (appended (link_batch mapping hashes link) windows)
-table_after mapping hashes windows (Sat feed) = Sats (appended (feed_batch feed (sat_batch hashes (source mapping feed))) windows)
-table_after mapping hashes windows (Multi feed) = Multis (appended (feed_batch feed (multi_batch hashes (source mapping feed))) windows)
-table_after mapping hashes windows (Status feed) = Statuses (appended (feed_batch feed (status_batch hashes (source mapping feed))) windows)
-table_after mapping hashes windows (Effect feed) = Effects (appended (feed_batch feed (effect_batch hashes (source mapping feed))) windows)
+-- a table after windows: its batches, in the order of the windows
+abbrev pub table_after : Mapping → Hashes → Backwards → TableId → Rows
+table_after mapping hashes after (Hub hub) = Hubs (appended (hub_batch mapping hashes hub) after.windows)
+table_after mapping hashes after (Link link) = Links (appended (link_batch mapping hashes link) after.windows)
+table_after mapping hashes after (Sat feed) = Sats (appended (feed_batch feed (sat_batch hashes (source mapping feed))) after.windows)
+table_after mapping hashes after (Multi feed) = Multis (appended (feed_batch feed (multi_batch hashes (source mapping feed))) after.windows)
+table_after mapping hashes after (Status feed) = Statuses (appended (feed_batch feed (status_batch hashes (source mapping feed))) after.windows)
+table_after mapping hashes after (Effect feed) = Effects (appended (feed_batch feed (effect_batch hashes (source mapping feed))) after.windows)
 
--- a table with its rows after windows, of which the newest stands first
-abbrev pub table_entry : Mapping → Hashes → List Window → TableId → TableRows
-table_entry mapping hashes windows table = record { table = table; rows = table_after mapping hashes windows table }
+-- a table with its rows after windows
+abbrev pub table_entry : Mapping → Hashes → Backwards → TableId → TableRows
+table_entry mapping hashes after table = record { table = table; rows = table_after mapping hashes after table }
 
 -- the vault of the sealed windows: all raw tables, in table order
 abbrev pub vault : Mapping → Hashes → List Window → List TableRows
-vault mapping hashes sealed = map (table_entry mapping hashes (reverse sealed)) (tables mapping)
+vault mapping hashes sealed = map (table_entry mapping hashes (backwards sealed)) (tables mapping)
 
 -- what the vault has of a table: of one of the mapping's, its rows after the windows, and of any other none
 pub record HoldsTable (mapping : Mapping) (hashes : Hashes) (sealed : List Window) (table : TableId) : Type 0 where
-  pub rows : Contains (tables mapping) table → rows_in table (vault mapping hashes sealed) ≡ table_after mapping hashes (reverse sealed) table
+  pub rows : Contains (tables mapping) table → rows_in table (vault mapping hashes sealed) ≡ table_after mapping hashes (backwards sealed) table
   pub none : (Contains (tables mapping) table → ⊥) → rows_in table (vault mapping hashes sealed) ≡ no_rows table
 
 -- the vault while a window is loaded: the first k tables in table order have its batch, and the others don't yet
 abbrev pub partial : Mapping → Hashes → List Window → Window → ℕ → List TableRows
 partial mapping hashes sealed window k =
-    map (table_entry mapping hashes (window ∷ reverse sealed)) (take k (tables mapping))
-    ++ map (table_entry mapping hashes (reverse sealed)) (drop k (tables mapping))
+    map (table_entry mapping hashes (with_newest window (backwards sealed))) (take k (tables mapping))
+    ++ map (table_entry mapping hashes (backwards sealed)) (drop k (tables mapping))
 
 -- the rows of a raw table with a load date not later than a date; the rows of a snapshot have none, and stay
 abbrev pub rows_up_to : ℕ → Rows → Rows

@@ -10,13 +10,14 @@ use Rattle.dv_records.specs.Vault.{table_after}
 use Rattle.dv_shown.specs.Mappings.{with_accounts, with_names, with_orders}
 use Rattle.dv_shown.specs.Windows.{coming_and_going, once, orders, tiers_later}
 use Rattle.dv_shown.specs.Words.{day, key, unhex}
+use Rattle.dv_records.specs.Backwards.{backwards}
 
 abbrev pub md5_hashes : Hashes
 md5_hashes = hashes_of md5 16
 
 -- the hash key of the key 1, and the hash difference of the attribute abc
 abbrev pub SatelliteDigested : Type 0
-SatelliteDigested = table_after with_names md5_hashes (reverse once) (Sat 0) ≡ Sats (
+SatelliteDigested = table_after with_names md5_hashes (backwards once) (Sat 0) ≡ Sats (
     record {
       parent = unhex (codes "c4ca4238a0b923820dcc509a6f75849b");
       load = day 1;
@@ -27,7 +28,7 @@ SatelliteDigested = table_after with_names md5_hashes (reverse once) (Sat 0) ≡
 
 -- a key appears, vanishes and appears again
 abbrev pub StatusDigested : Type 0
-StatusDigested = table_after with_names md5_hashes (reverse coming_and_going) (Status 0) ≡ Statuses (
+StatusDigested = table_after with_names md5_hashes (backwards coming_and_going) (Status 0) ≡ Statuses (
     record { parent = unhex (codes "c4ca4238a0b923820dcc509a6f75849b"); load = day 1; source = codes "crm.customers"; code = I }
     ∷ record { parent = unhex (codes "c4ca4238a0b923820dcc509a6f75849b"); load = day 2; source = codes "crm.customers"; code = D }
     ∷ record { parent = unhex (codes "c4ca4238a0b923820dcc509a6f75849b"); load = day 3; source = codes "crm.customers"; code = I }
@@ -52,7 +53,7 @@ PitDigested = pit with_accounts md5_hashes tiers_later 0 (day 2) ≡
 
 -- a missing reference, whose zero key has sixteen bytes, in the order of the digests
 abbrev pub LinkDigested : Type 0
-LinkDigested = table_after with_orders md5_hashes (reverse orders) (Link 0) ≡ Links (
+LinkDigested = table_after with_orders md5_hashes (backwards orders) (Link 0) ≡ Links (
     record {
       digest = unhex (codes "23fffa5d8832e83f92c34efd411ef6b8");
       load = day 1;

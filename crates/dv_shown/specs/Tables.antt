@@ -8,6 +8,7 @@ use Rattle.dv_records.specs.Vault.{rows_up_to, table_after}
 use Rattle.dv_shown.specs.Mappings.{bare, with_accounts, with_channels, with_drivers, with_names, with_orders, with_phones, with_placements}
 use Rattle.dv_shown.specs.Windows.{assignments, begun_alike, coming_and_going, exchanged, fewer_phones, one_absent, orders, orders_again, phones, placed_first, stayed, there_and_back, tiers, two_channels, two_keys}
 use Rattle.dv_shown.specs.Words.{after, day, in_effect, in_hub, in_link, in_multi, in_sat, in_status, leap_day, tiny}
+use Rattle.dv_records.specs.Backwards.{backwards}
 
 pub record HubsHold : Type 0 where
   -- a row for each key
@@ -65,7 +66,7 @@ pub record SatellitesHold : Type 0 where
       ∷ in_sat (codes "1") 2 (codes "crm.customers") (codes "y")
       ∷ in_sat (codes "1") 3 (codes "crm.customers") (codes "x") ∷ [])
   -- equal hash differences suppress no change
-  pub equal_diffs : table_after with_names tiny (reverse begun_alike) (Sat 0) ≡ Sats (
+  pub equal_diffs : table_after with_names tiny (backwards begun_alike) (Sat 0) ≡ Sats (
       record { parent = 49 ∷ replicate 15 1; load = day 1; source = codes "crm.customers"; diff = 97 ∷ replicate 15 1; attrs = codes "abc" ∷ [] }
       ∷ record { parent = 49 ∷ replicate 15 1; load = day 2; source = codes "crm.customers"; diff = 97 ∷ replicate 15 1; attrs = codes "axe" ∷ [] } ∷ [])
   -- of a multi-active satellite all rows of a key whose rows changed

@@ -17,6 +17,7 @@ use Rattle.dv_records.specs.declared.stores.Rows.{Rows}
 use Rattle.dv_catalog.specs.declared.tables.TableId.{TableId}
 use Rattle.dv_catalog.specs.Entries.{Mapping}
 use Rattle.dv_records.specs.Vault.{table_after}
+use Rattle.dv_records.specs.Backwards.{backwards}
 
 -- ---- dates
 
@@ -116,4 +117,4 @@ in_effect parent n source begin end = record { parent = parent; load = day n; so
 
 -- a raw table under plain digests, after windows in their order
 abbrev pub after : Mapping → List Window → TableId → Rows
-after mapping windows table = table_after mapping plain (reverse windows) table
+after mapping windows table = table_after mapping plain (backwards windows) table

@@ -16,6 +16,7 @@ use Rattle.dv_records.specs.declared.stores.Rows.TheVariants.{Multis}
 use Rattle.dv_vault.proofs.FeedLists.{feed_lists_apart, feed_newest_first, feed_plain, feed_told, reversed_whole}
 use Rattle.dv_vault.proofs.FeedTables.{OfFeed, of_feeds}
 use Rattle.dv_vault.proofs.VaultCollisions.{apart_is_free, parents_first, sealed_parts, sealed_told, turned_back, unturned}
+use Rattle.dv_records.specs.Backwards.{backwards}
 
 module _ (mapping : Mapping) (hashes : Hashes) (sealed : List Window) (window : Window) (valid : is_valid mapping ≡ true) (windows_valid : are_windows_valid mapping hashes sealed ≡ true) (whole : is_window mapping window ≡ true)
     (late : late_after (last_load sealed) window.load ≡ None) (free : collision mapping hashes (sealed ++ window ∷ []) ≡ None) where
@@ -25,10 +26,10 @@ module _ (mapping : Mapping) (hashes : Hashes) (sealed : List Window) (window : 
 
   -- what the rows of a table tell, and its batch
   abbrev added_at : TableId → Rows
-  added_at id = added_to mapping hashes window (table_entry mapping hashes older id)
+  added_at id = added_to mapping hashes window (table_entry mapping hashes (backwards sealed) id)
 
   abbrev batch_of_table : TableId → Rows
-  batch_of_table id = table_batch mapping hashes id older window
+  batch_of_table id = table_batch mapping hashes id (backwards sealed) window
 
   -- ---- windows
 
@@ -139,9 +140,9 @@ module _ (mapping : Mapping) (hashes : Hashes) (sealed : List Window) (window : 
         | inr feed ↦ of_feeds IsAdded 0 mapping.feeds feed_added id feed kept
       ]
 
-  pub vault_added : list_all is_kept (tables mapping) ≡ true → map (added_to mapping hashes window) (vault mapping hashes sealed) ≡ map (λ table. table_batch mapping hashes table (reverse sealed) window) (tables mapping)
+  pub vault_added : list_all is_kept (tables mapping) ≡ true → map (added_to mapping hashes window) (vault mapping hashes sealed) ≡ map (λ table. table_batch mapping hashes table (backwards sealed) window) (tables mapping)
   vault_added kept =
-      map-map (added_to mapping hashes window) (table_entry mapping hashes older) (tables mapping)
+      map-map (added_to mapping hashes window) (table_entry mapping hashes (backwards sealed)) (tables mapping)
       ∙ map_filter added_at (tables mapping)
       ∙ filter_map_same (λ id. Some (added_at id)) (λ id. Some (batch_of_table id)) (tables mapping) (λ id has. ap Some (table_added id (passes_at is_kept (tables mapping) id kept has) has))
       ∙ sym (map_filter batch_of_table (tables mapping))
@@ -152,7 +153,7 @@ module _ (mapping : Mapping) (hashes : Hashes) (sealed : List Window) (window : 
 pub added_is_batch : (hashes : Hashes) (sealed : List Window) (raw : RawVault) → HasSealed hashes sealed raw → is_valid raw.mapping ≡ true
     → (window : Window) → is_window raw.mapping window ≡ true → late_after (last_load sealed) window.load ≡ None
     → list_all is_kept (tables raw.mapping) ≡ true → AreApart hashes raw window
-    → all_added hashes raw window ≡ map (λ table. table_batch raw.mapping hashes table (reverse sealed) window) (tables raw.mapping)
+    → all_added hashes raw window ≡ map (λ table. table_batch raw.mapping hashes table (backwards sealed) window) (tables raw.mapping)
 added_is_batch hashes sealed raw has valid window whole late kept apart =
     ap (map (added_to raw.mapping hashes window)) has.tables_are
     ∙ vault_added raw.mapping hashes sealed window valid has.valid whole late (apart_is_free hashes sealed raw has valid window apart) kept

@@ -6,6 +6,7 @@ use Rattle.dv_vault.proofs.AddedBatches.{added_is_batch}
 use Rattle.dv_vault.proofs.Afterwards.{loaded_batches, vault_with, weight_with_batches, windows_still_valid}
 use Rattle.dv_vault.proofs.BuiltTables.{tables_kept}
 use Rattle.dv_vault.proofs.VaultCollisions.{apart_is_free}
+use Rattle.dv_records.specs.Backwards.{backwards}
 
 -- the last load date of windows is that of their heads
 last_got : {X : Type 0} (o : Option X) (x : X) (xs : List X) → last_or o (x ∷ xs) ≡ slice_get (x ∷ xs) (length xs)
@@ -31,7 +32,7 @@ last_same (window ∷ windows) =
 module _ (hashes : Hashes) (sealed : List Window) (raw : RawVault) (has : HasSealed hashes sealed raw) (built : IsBuilt raw.mapping) (window : Window) (whole : is_window raw.mapping window ≡ true)
     (late : late_after (last_head raw.heads) window.load ≡ None) (apart : AreApart hashes raw window) where
   abbrev batches : List Rows
-  batches = map (λ table. table_batch raw.mapping hashes table (reverse sealed) window) (tables raw.mapping)
+  batches = map (λ table. table_batch raw.mapping hashes table (backwards sealed) window) (tables raw.mapping)
 
   -- what the limits are asked of
   abbrev fullness : Option Rule

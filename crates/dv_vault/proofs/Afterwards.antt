@@ -3,20 +3,21 @@ use Rattle.dv_vault.proofs.Vocabulary.{Bool, List, None, Some, [], ap, arith, fa
 use Rattle.dv_vault.proofs.Vocabulary.{are_windows_valid, last_load, length-append, map-append, row_count, rows_then, rows_weight, tables_weight, vault_weight, table_entry, vault, table_after, table_batch, Mapping, tables, Rule, TableId, late_after, full_at, TableRows, Window, entries_with}
 use Rattle.dv_vault.proofs.Vocabulary.{Contains-append_right, is_none, collision, passes_at, all_pass_both, vault-push, weight-push, loaded, fold-map}
 use Rattle.dv_vault.proofs.VaultCollisions.{sealed_parts}
+use Rattle.dv_records.specs.Backwards.{backwards}
 
 -- ---- the tables
 
 grown : (mapping : Mapping) (hashes : Hashes) (sealed : List Window) (window : Window) (ids : List TableId)
-    → entries_with (map (table_entry mapping hashes (reverse sealed)) ids) (map (λ table. table_batch mapping hashes table (reverse sealed) window) ids)
-    ≡ map (λ table. record { table = table; rows = rows_then (table_after mapping hashes (reverse sealed) table) (table_batch mapping hashes table (reverse sealed) window) }) ids
+    → entries_with (map (table_entry mapping hashes (backwards sealed)) ids) (map (λ table. table_batch mapping hashes table (backwards sealed) window) ids)
+    ≡ map (λ table. record { table = table; rows = rows_then (table_after mapping hashes (backwards sealed) table) (table_batch mapping hashes table (backwards sealed) window) }) ids
 grown mapping hashes sealed window [] = refl
 grown mapping hashes sealed window (id ∷ ids) =
-    ap (λ (rest : List TableRows). record { table = id; rows = rows_then (table_after mapping hashes (reverse sealed) id) (table_batch mapping hashes id (reverse sealed) window) } ∷ rest)
+    ap (λ (rest : List TableRows). record { table = id; rows = rows_then (table_after mapping hashes (backwards sealed) id) (table_batch mapping hashes id (backwards sealed) window) } ∷ rest)
     (grown mapping hashes sealed window ids)
 
 -- the vault with the batches of a window behind its rows
 pub vault_with : (mapping : Mapping) (hashes : Hashes) (sealed : List Window) (window : Window)
-    → entries_with (vault mapping hashes sealed) (map (λ table. table_batch mapping hashes table (reverse sealed) window) (tables mapping)) ≡ vault mapping hashes (sealed ++ window ∷ [])
+    → entries_with (vault mapping hashes sealed) (map (λ table. table_batch mapping hashes table (backwards sealed) window) (tables mapping)) ≡ vault mapping hashes (sealed ++ window ∷ [])
 vault_with mapping hashes sealed window = grown mapping hashes sealed window (tables mapping) ∙ sym (vault-push mapping hashes sealed window)
 
 sum_seen : {X Y : Type 0} (f : X → Y) (weight : Y → ℕ) (xs : List X) → sum_by weight (map f xs) ≡ sum_by (λ x. weight (f x)) xs
@@ -24,14 +25,14 @@ sum_seen f weight xs = fold-map (λ a y. a + weight y) f 0 xs
 
 -- what it weighs, and how many rows the batches have
 pub weight_with_batches : (mapping : Mapping) (hashes : Hashes) (sealed : List Window) (window : Window)
-    → tables_weight (vault mapping hashes sealed) + sum_by rows_weight (map (λ table. table_batch mapping hashes table (reverse sealed) window) (tables mapping)) ≡ vault_weight mapping hashes (sealed ++ window ∷ [])
+    → tables_weight (vault mapping hashes sealed) + sum_by rows_weight (map (λ table. table_batch mapping hashes table (backwards sealed) window) (tables mapping)) ≡ vault_weight mapping hashes (sealed ++ window ∷ [])
 weight_with_batches mapping hashes sealed window =
-    ap (λ n. tables_weight (vault mapping hashes sealed) + n) (sum_seen (λ table. table_batch mapping hashes table (reverse sealed) window) rows_weight (tables mapping))
+    ap (λ n. tables_weight (vault mapping hashes sealed) + n) (sum_seen (λ table. table_batch mapping hashes table (backwards sealed) window) rows_weight (tables mapping))
     ∙ sym (weight-push mapping hashes sealed window)
 
 pub loaded_batches : (mapping : Mapping) (hashes : Hashes) (sealed : List Window) (window : Window)
-    → sum_by row_count (map (λ table. table_batch mapping hashes table (reverse sealed) window) (tables mapping)) ≡ loaded mapping hashes sealed window
-loaded_batches mapping hashes sealed window = sum_seen (λ table. table_batch mapping hashes table (reverse sealed) window) row_count (tables mapping)
+    → sum_by row_count (map (λ table. table_batch mapping hashes table (backwards sealed) window) (tables mapping)) ≡ loaded mapping hashes sealed window
+loaded_batches mapping hashes sealed window = sum_seen (λ table. table_batch mapping hashes table (backwards sealed) window) row_count (tables mapping)
 
 -- ---- load dates
 

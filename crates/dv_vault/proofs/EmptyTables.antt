@@ -2,6 +2,7 @@
 use Rattle.dv_vault.proofs.Vocabulary.{map-map, map-id, ◌≡◌, ℕ, ◌+◌, Bool, true, false, List, [], ◌∷◌, refl, sym, ◌∙◌, ap, arith, map, if◌then◌else◌, sum_by-cons, Hashes, TableId, Mapping, tables, TableRows, no_rows, rows_in, table_eq}
 use Rattle.dv_vault.proofs.Vocabulary.{table_entry, rows_weight, tables_weight, IsVaultOf, are_empty, are_rows_kept, same_table}
 use Rattle.dv_catalog.specs.declared.tables.TableId.TheVariants as ids
+use Rattle.dv_records.specs.Backwards.{backwards}
 
 pub empty_tables : (all : List TableId) → map (λ (entry : TableRows). entry.table) (map (λ id. record { table = id; rows = no_rows id }) all) ≡ all
 empty_tables all = map-map (λ (entry : TableRows). entry.table) (λ id. record { table = id; rows = no_rows id }) all ∙ map-id all
@@ -42,7 +43,7 @@ empty_all (ids.Status n ∷ all) = empty_all all
 empty_all (ids.Effect n ∷ all) = empty_all all
 
 -- the vault of no windows has them
-first_entry : (mapping : Mapping) (hashes : Hashes) (id : TableId) → record { table = id; rows = no_rows id } ≡ table_entry mapping hashes [] id
+first_entry : (mapping : Mapping) (hashes : Hashes) (id : TableId) → record { table = id; rows = no_rows id } ≡ table_entry mapping hashes (backwards []) id
 first_entry mapping hashes (ids.Hub n) = refl
 first_entry mapping hashes (ids.Link n) = refl
 first_entry mapping hashes (ids.Sat n) = refl
@@ -50,9 +51,9 @@ first_entry mapping hashes (ids.Multi n) = refl
 first_entry mapping hashes (ids.Status n) = refl
 first_entry mapping hashes (ids.Effect n) = refl
 
-pub empty_vault : (mapping : Mapping) (hashes : Hashes) (all : List TableId) → map (λ id. record { table = id; rows = no_rows id }) all ≡ map (table_entry mapping hashes []) all
+pub empty_vault : (mapping : Mapping) (hashes : Hashes) (all : List TableId) → map (λ id. record { table = id; rows = no_rows id }) all ≡ map (table_entry mapping hashes (backwards [])) all
 empty_vault mapping hashes [] = refl
-empty_vault mapping hashes (id ∷ all) = rw (first_entry mapping hashes id) (ap (λ (rest : List TableRows). table_entry mapping hashes [] id ∷ rest) (empty_vault mapping hashes all))
+empty_vault mapping hashes (id ∷ all) = rw (first_entry mapping hashes id) (ap (λ (rest : List TableRows). table_entry mapping hashes (backwards []) id ∷ rest) (empty_vault mapping hashes all))
 
 -- what a vault keeps to, with no windows
 pub new_kept : (mapping : Mapping) (entries : List TableRows) → entries ≡ map (λ id. record { table = id; rows = no_rows id }) (tables mapping)

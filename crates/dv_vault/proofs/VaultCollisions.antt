@@ -8,6 +8,7 @@ use Rattle.dv_keys.proofs.LinkWindows.{next_least as link_least, next_none as li
 use Rattle.dv_vault.proofs.FeedLists.{reversed_whole}
 use Rattle.dv_vault.proofs.FeedTables.{of_feeds}
 use Rattle.dv_vault.proofs.NamedHubs.{hubs_named}
+use Rattle.dv_records.specs.Backwards.{backwards}
 
 -- windows with one more, the newest first and back again
 pub turned_back : (sealed : List Window) (window : Window) → reverse (window ∷ reverse sealed) ≡ sealed ++ window ∷ []
@@ -47,7 +48,7 @@ same_tail x y xs ys e = cc
 module _ (mapping : Mapping) (hashes : Hashes) (sealed : List Window) (window : Window) where
   -- a table of the vault
   abbrev entry_at : TableId → TableRows
-  entry_at = table_entry mapping hashes (reverse sealed)
+  entry_at = table_entry mapping hashes (backwards sealed)
 
   abbrev names : List HubName
   names = hub_names mapping (vault mapping hashes sealed)
