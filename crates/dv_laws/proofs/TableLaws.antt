@@ -26,7 +26,7 @@ table_grows mapping hashes sealed next table has =
 pub count-push : (mapping : Mapping) (hashes : Hashes) (sealed : List Window) (next : Window)
     → sum_by (λ entry. row_count entry.rows) (vault mapping hashes (sealed ++ next ∷ [])) ≡ sum_by (λ entry. row_count entry.rows) (vault mapping hashes sealed) + loaded mapping hashes sealed next
 count-push mapping hashes sealed next =
-    rw (reverse-append sealed (next ∷ [])) (grown row_count mapping hashes (reverse sealed) next (λ table. (batch_adds mapping hashes (reverse sealed) next table).count) (tables mapping))
+    rw (reverse-append sealed (next ∷ [])) (grown row_count mapping hashes (backwards sealed) next (λ table. (batch_adds mapping hashes (backwards sealed) next table).count) (tables mapping))
 
 -- no table has the batch, and all have
 pub partial-ends : (mapping : Mapping) (hashes : Hashes) (sealed : List Window) (next : Window) → PartialEnds mapping hashes sealed next
