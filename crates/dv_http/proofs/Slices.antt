@@ -34,7 +34,8 @@ part_of_front xs start end len ordered fits =
     ap (take (end - start)) part ∙ take-take (end - start) (len - start) (drop start xs) (omega (arith, ordered, fits))
 
 -- what is held, and what was read behind it
-pub part_filled : (all items into others more old : List ℕ) (start end count len : ℕ) → all ≡ items → start ≤ end → end ≤ length items → count ≤ length into → end + count ≤ len → slice_range items start end ≡ old → slice_range (take len ((take end all ++ (into ++ others)) ++ more)) start (end + count) ≡ old ++ take count into
+pub part_filled : (all items into others more old : List ℕ) (start end count len : ℕ) → all ≡ items → start ≤ end → end ≤ length items → count ≤ length into → end + count ≤ len
+    → slice_range items start end ≡ old → slice_range (take len ((take end all ++ (into ++ others)) ++ more)) start (end + count) ≡ old ++ take count into
 part_filled all items into others more old start end count len same ordered fits some room is =
     part_of_front ((take end all ++ (into ++ others)) ++ more) start (end + count) len (omega (arith, ordered)) room
     ∙ ap (λ l. slice_range l start (end + count)) (append_assoc (take end all) (into ++ others) more ∙ ap (λ l. take end all ++ l) (append_assoc into others more))

@@ -70,7 +70,8 @@ module _ (held : List ℕ) (spans : List HeaderSpan) (found : RequestSpans) (hea
   same_request : (said : Said) (body : List ℕ) → Says head said → request_of head body ≡ record { method = said.method; path = said.path; at = said.at; body = body; last = said.last }
   same_request said body says = rw says.method (rw says.path (rw says.at (rw says.last refl)))
 
-  pub takes_body_held : (left others : Option (List ℕ)) (said : Said) (body : List ℕ) → Says head said → GivesBody said.length (in_front (drop said.size held) left) others (Ok body) → Takes (in_front held left) others (Ok (Some (record { method = said.method; path = said.path; at = said.at; body = body; last = said.last })))
+  pub takes_body_held : (left others : Option (List ℕ)) (said : Said) (body : List ℕ) → Says head said → GivesBody said.length (in_front (drop said.size held) left) others (Ok body)
+      → Takes (in_front held left) others (Ok (Some (record { method = said.method; path = said.path; at = said.at; body = body; last = said.last })))
   takes_body_held None others said body says gives = tt
   takes_body_held (Some more) others said body says gives =
       subst (λ request. Takes (Some (held ++ more)) others (Ok (Some request))) (same_request said body says)

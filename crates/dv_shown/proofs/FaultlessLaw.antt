@@ -28,7 +28,10 @@ first_of_map f (x ∷ xs) none = both_none (f x) (first_of (map f xs)) (none x (
 -- a place under the end is one of an item that passes
 some_at_place : {X : Type 0} (p : X → Bool) (xs : List X) → position_or_len p xs < length xs → list_any p xs ≡ true
 some_at_place p [] under = absurd (omega (arith, under))
-some_at_place p (x ∷ xs) under = grind (arith, common_steps, some_passes_at p (x ∷ xs) (get_or (x ∷ xs) (position_or_len p (x ∷ xs)) x) (Contains-get_or (x ∷ xs) (position_or_len p (x ∷ xs)) x under) (passes_at_place p (x ∷ xs) x under), Contains-get_or (x ∷ xs) (position_or_len p (x ∷ xs)) x under, passes_at_place p (x ∷ xs) x under)
+some_at_place p (x ∷ xs) under =
+    let found = Contains-get_or (x ∷ xs) (position_or_len p (x ∷ xs)) x under in
+    let passes = passes_at_place p (x ∷ xs) x under in
+    grind (arith, common_steps, some_passes_at p (x ∷ xs) (get_or (x ∷ xs) (position_or_len p (x ∷ xs)) x) found passes, found, passes)
 
 -- an entry of a mapping, by the place of what it is made of
 entry : {X Y : Type 0} (f : X → Y) (xs : List X) (x : X) → Contains xs x → (k : ℕ) × (slice_get (map f xs) k ≡ Some (f x))

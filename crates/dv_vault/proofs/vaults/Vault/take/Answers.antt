@@ -22,7 +22,8 @@ keep-requires-clause-told g c =
 
 pub apply_all-requires-clause-follow : goal.apply_all-requires-clause-follow
 apply_all-requires-clause-follow g c =
-    let same : map entry_of c.self.inside.raw.tables.items ≡ map entry_of c.deref_mut-2.result.now = entries_now c.self.inside.raw.tables c.deref_mut.result.now c.make_room.new.tables c.deref_mut-2.result.now c.deref_mut.ensures.value c.make_room.auto.tables c.make_room.ensures.rows c.deref_mut-2.ensures.value in
+    let same : map entry_of c.self.inside.raw.tables.items ≡ map entry_of c.deref_mut-2.result.now =
+    entries_now c.self.inside.raw.tables c.deref_mut.result.now c.make_room.new.tables c.deref_mut-2.result.now c.deref_mut.ensures.value c.make_room.auto.tables c.make_room.ensures.rows c.deref_mut-2.ensures.value in
     let is : c.args.self.now.tables ≡ map entry_of c.deref_mut-2.result.now = ap (λ (raw : RawVault). raw.tables) (sym c.self.view_is) ∙ same in
     follows c.args.self.now.tables c.args.addition.batches c.deref_mut-2.result.now is c.requires.fits.follow.follow
 
