@@ -10,7 +10,7 @@ module _ (hashes : Hashes) (source : List ℕ) (older : List Extract) (newest : 
   pub effect_parent : (refs : List Key) (row : EffectRow) → effect_row hashes source older newest refs ≡ Some row → row.parent ≡ hashes.hash refs
   effect_parent refs row = given _ (λ (row : EffectRow). row.parent) (hashes.hash refs) (λ span. refl) (span_between newest.load (run_begin older refs) (delivers newest.rows refs)) row
 
-  effect_stands : (refs : List Key) (row : EffectRow) → effect_row hashes source older newest refs ≡ Some row → Contains (all_refs (newest_rows older) ++ all_refs newest.rows) refs
+  pub effect_stands : (refs : List Key) (row : EffectRow) → effect_row hashes source older newest refs ≡ Some row → Contains (all_refs (newest_rows older) ++ all_refs newest.rows) refs
   effect_stands refs row is = by (run_begin older refs) (delivers newest.rows refs) refl refl
     where
       by : (was : Option ℕ) (now : Bool) → run_begin older refs ≡ was → delivers newest.rows refs ≡ now → Contains (all_refs (newest_rows older) ++ all_refs newest.rows) refs

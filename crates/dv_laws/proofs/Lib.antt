@@ -1,9 +1,12 @@
 pub mod Ascending
+pub mod CellLoads
+pub mod EffectRuns
 pub mod EffectTies
 pub mod HeaderSteps
 pub mod HubReconstruct
 pub mod PeriodTies
 pub mod RunTies
+pub mod Standing
 pub mod TableLaws
 pub mod Vocabulary
 pub mod WindowSteps

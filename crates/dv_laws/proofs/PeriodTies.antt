@@ -7,7 +7,7 @@ use Rattle.dv_laws.proofs.RunTies.{is_run, never_both, present, runs_there}
 
 -- ---- periods of tests that say the same up to a date
 
-period-same : (p q : ℕ → Bool) (date b e : ℕ) → ((t : ℕ) → t ≤ date → p t ≡ q t) → IsPeriod p date b e → IsPeriod q date b e
+pub period-same : (p q : ℕ → Bool) (date b e : ℕ) → ((t : ℕ) → t ≤ date → p t ≡ q t) → IsPeriod p date b e → IsPeriod q date b e
 period-same p q date b e h1 h2 = search (rules)
 
 -- ---- the order of periods
@@ -33,14 +33,14 @@ module _ (feed : ℕ) (sealed : List Window) (date : ℕ) (order : IsInLoadOrder
   abbrev extracts : List Extract
   extracts = up_to date (history feed (reverse sealed))
 
-  in_order : IsNewestFirst (λ (x : Extract). x.load) extracts
+  pub in_order : IsNewestFirst (λ (x : Extract). x.load) extracts
   in_order = newest_first-filter (λ (x : Extract). x.load) (λ (x : Extract). nat_le x.load date) (history feed (reverse sealed)) (history-newest_first feed sealed order)
 
-  reached : (x : Extract) → Contains extracts x → x.load ≤ date
+  pub reached : (x : Extract) → Contains extracts x → x.load ≤ date
   reached x has = leb-true x.load date ((filtered_members (λ (x : Extract). nat_le x.load date) (history feed (reverse sealed)) x).0 has).1
 
   -- they deliver at each date up to it what the content delivers, and afterwards what they deliver at it
-  as_content : (refs : List Key) (t : ℕ) → t ≤ date → present extracts refs t ≡ delivers (content feed sealed t) refs
+  pub as_content : (refs : List Key) (t : ℕ) → t ≤ date → present extracts refs t ≡ delivers (content feed sealed t) refs
   as_content refs t le = ap (λ all. delivers (newest_rows all) refs) (up_to_twice t date (history feed (reverse sealed)) le)
 
   -- each row is a run of its list, and so a period
@@ -56,7 +56,7 @@ module _ (feed : ℕ) (sealed : List Window) (date : ℕ) (order : IsInLoadOrder
   row_period row has = search (rules, period-same, as_content, run_of, member_before_sort)
 
   -- runs of one list that begin at one date are one
-  one_end : (p : ℕ → Bool) (b e f : ℕ) → IsPeriod p date b e → IsPeriod p date b f → e ≡ f
+  pub one_end : (p : ℕ → Bool) (b e f : ℕ) → IsPeriod p date b e → IsPeriod p date b f → e ≡ f
   one_end p b e f h1 h2 = grind (arith, common_steps, nat_tests)
 
   -- a list that is in a run is one of the extracts' lists
@@ -66,7 +66,7 @@ module _ (feed : ℕ) (sealed : List Window) (date : ℕ) (order : IsInLoadOrder
   listed : (all : List Extract) (refs : List Key) → delivers (newest_rows all) refs ≡ true → Contains (flat_map (λ (x : Extract). all_refs x.rows) all) refs
   listed all refs h1 = grind (arith, common_steps, never_both, Contains-flat_map, Contains-cons_here, Contains-all_refs)
 
-  fewer : (all : List Extract) (p : Extract → Bool) (refs : List Key) → Contains (flat_map (λ (x : Extract). all_refs x.rows) (filter p all)) refs → Contains (flat_map (λ (x : Extract). all_refs x.rows) all) refs
+  pub fewer : (all : List Extract) (p : Extract → Bool) (refs : List Key) → Contains (flat_map (λ (x : Extract). all_refs x.rows) (filter p all)) refs → Contains (flat_map (λ (x : Extract). all_refs x.rows) all) refs
   fewer all p refs has =
       let (x, member, within) = flat_map_member (λ (x : Extract). all_refs x.rows) (filter p all) refs has in
       Contains-flat_map (λ (x : Extract). all_refs x.rows) all x refs ((filtered_members p all x).0 member).0 within

@@ -1,6 +1,9 @@
+pub mod EffectPeriods
 pub mod FeedDeltas
 pub mod HubDeltas
 pub mod Laws
 pub mod LinkDeltas
+pub mod PointInTime
 pub mod Reconstruction
+pub mod Standing
 pub mod Ties

@@ -1,4 +1,6 @@
+ghost use Rattle.dv_laws.specs.EffectPeriods.{EffectsTell};
 ghost use Rattle.dv_laws.specs.Laws.{HubHolds, LinkHolds};
+ghost use Rattle.dv_laws.specs.PointInTime.{MultiCellsTell, SatCellsTell};
 ghost use Rattle.dv_laws.specs.Reconstruction.{DeliveredTells, FeedTells, KeysTell, MultiFeedTells, MultiTells, SatTells, StatusTells, VaultTells};
 
 /// A hub's table holds the keys that windows bring: each row is of such a key, and each such key has a row.
@@ -26,4 +28,16 @@ pub fn vault_tells()
     ensures plain { FeedTells }
     ensures multi { MultiFeedTells }
     ensures any { VaultTells }
+{}
+
+/// The load date of a point-in-time cell at a date is that of the feed's satellite row, or of its multi-active
+/// satellite rows, that are valid for the parent then; there is none where no row is.
+pub fn cells_tell()
+    ensures sat { SatCellsTell }
+    ensures multi { MultiCellsTell }
+{}
+
+/// The periods that a feed's effectivity rows tell at a date are the rows of its period mart, by hash key.
+pub fn effects_tell()
+    ensures { EffectsTell }
 {}

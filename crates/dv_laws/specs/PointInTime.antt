@@ -1,0 +1,36 @@
+-- The load dates of point-in-time cells are those of the satellite rows that are valid.
+use Rattle.std.specs.Option.{option_map}
+use Rattle.std.specs.Prelude.{◌≡◌, ◌↔◌, ℕ, List, Some, Contains, reverse}
+use Rattle.dv_text.specs.declared.rows.Key.{Key}
+use Rattle.dv_text.specs.declared.rows.Window.{Window}
+use Rattle.dv_text.specs.Keys.{Hashes}
+use Rattle.dv_catalog.specs.declared.tables.TableId.TheVariants.{Sat, Multi}
+use Rattle.dv_catalog.specs.Entries.{Mapping}
+use Rattle.dv_records.specs.declared.raw_rows.MultiRow.{MultiRow}
+use Rattle.dv_records.specs.declared.raw_rows.SatRow.{SatRow}
+use Rattle.dv_records.specs.declared.stores.Rows.TheVariants.{Sats, Multis}
+use Rattle.dv_records.specs.Collisions.{IsApart}
+use Rattle.dv_records.specs.History.{delivered_refs, history, up_to, IsInLoadOrder}
+use Rattle.dv_records.specs.Reconstruction.{HasOneRowEach, HasOneRowPerSub, all_valid_at, valid_at}
+use Rattle.dv_records.specs.Snapshots.{changed_at}
+use Rattle.dv_records.specs.Vault.{table_after}
+
+-- the load date that a cell has of a satellite at a date is that of the row that is valid for the parent then, and none
+-- where no row is, where no other list that the windows deliver has the hash key
+abbrev pub SatCellsTell : Type 0
+SatCellsTell =
+    (mapping : Mapping) (hashes : Hashes) (feed : ℕ) (sealed : List Window) (rows : List SatRow)
+    → table_after mapping hashes (reverse sealed) (Sat feed) ≡ Sats rows
+    → IsInLoadOrder sealed → HasOneRowEach feed sealed → IsApart hashes (delivered_refs feed sealed)
+    → (refs : List Key) → ((other : List Key) → Contains (delivered_refs feed sealed) other → hashes.hash other ≡ hashes.hash refs → other ≡ refs)
+    → (date : ℕ) → option_map (λ row. row.load) (valid_at rows (hashes.hash refs) date) ≡ changed_at (up_to date (history feed (reverse sealed))) refs
+
+-- and of a multi-active satellite it is that of the rows that are valid then
+abbrev pub MultiCellsTell : Type 0
+MultiCellsTell =
+    (mapping : Mapping) (hashes : Hashes) (feed : ℕ) (sealed : List Window) (rows : List MultiRow)
+    → table_after mapping hashes (reverse sealed) (Multi feed) ≡ Multis rows
+    → IsInLoadOrder sealed → HasOneRowPerSub feed sealed → IsApart hashes (delivered_refs feed sealed)
+    → (refs : List Key) → ((other : List Key) → Contains (delivered_refs feed sealed) other → hashes.hash other ≡ hashes.hash refs → other ≡ refs)
+    → (date load : ℕ)
+    → (changed_at (up_to date (history feed (reverse sealed))) refs ≡ Some load) ↔ ((row : MultiRow) × Contains (all_valid_at rows (hashes.hash refs) date) row × (row.load ≡ load))
