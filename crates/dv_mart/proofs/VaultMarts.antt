@@ -1,8 +1,8 @@
--- What the tables of a vault hold is told by its sealed windows.
-use Rattle.dv_mart.proofs.Vocabulary.{◌≡◌, ℕ, ◌<◌, true, List, ◌∙◌, ap, arith, length, nat_lt, reverse, Contains, nat_tests, Window, Hashes, TableId, Mapping, is_table_of, tables, tables_in, Rows, rows_in, rows_up_to, table_after, vault_holds, HasSealed, RawVault, passes_at, Table, mart_text}
-use Rattle.dv_mart.proofs.Vocabulary.{table_text}
+-- What the tables of a vault hold: of each table rows of its kind, and by them its text.
+use Rattle.dv_mart.proofs.Vocabulary.{◌≡◌, ℕ, ◌<◌, true, false, false≢true, List, ◌∙◌, ap, refl, arith, length, nat_lt, reverse, Contains, nat_tests, Window, Hashes, TableId, Mapping, is_of_kind, is_table_of, tables, tables_in, Rows, rows_in, rows_up_to, table_after, vault_holds, HasSealed, RawVault}
+use Rattle.dv_mart.proofs.Vocabulary.{passes_at, HasKind, raw_text, table_text, TableRows, Hubs, Links, Multis, Sats, Statuses, hub_rows, link_rows, multi_rows, sat_rows, status_rows}
 use Rattle.dv_catalog.specs.declared.tables.TableId.TheVariants as ids
-use Rattle.dv_records.specs.Backwards.{backwards}
+use Rattle.dv_records.specs.Backwards.{Backwards, backwards}
 
 -- ---- a table of the mapping
 
@@ -18,22 +18,55 @@ link_within mapping link has = let test : nat_lt link (length mapping.links) ≡
 pub sat_within : (mapping : Mapping) (feed : ℕ) → Contains (tables mapping) (ids.Sat feed) → feed < length mapping.feeds
 sat_within mapping feed has = let test : nat_lt feed (length mapping.feeds) ≡ true = of_mapping mapping (ids.Sat feed) has in grind (arith, nat_tests, test)
 
+pub multi_within : (mapping : Mapping) (feed : ℕ) → Contains (tables mapping) (ids.Multi feed) → feed < length mapping.feeds
+multi_within mapping feed has = let test : nat_lt feed (length mapping.feeds) ≡ true = of_mapping mapping (ids.Multi feed) has in grind (arith, nat_tests, test)
+
 pub status_within : (mapping : Mapping) (feed : ℕ) → Contains (tables mapping) (ids.Status feed) → feed < length mapping.feeds
 status_within mapping feed has = let test : nat_lt feed (length mapping.feeds) ≡ true = of_mapping mapping (ids.Status feed) has in grind (arith, nat_tests, test)
 
+-- ---- rows of a table's kind
+
+of_kind : (mapping : Mapping) (hashes : Hashes) (after : Backwards) (table : TableId) → is_of_kind table (table_after mapping hashes after table) ≡ true
+of_kind mapping hashes after (ids.Hub hub) = refl
+of_kind mapping hashes after (ids.Link link) = refl
+of_kind mapping hashes after (ids.Sat feed) = refl
+of_kind mapping hashes after (ids.Multi feed) = refl
+of_kind mapping hashes after (ids.Status feed) = refl
+of_kind mapping hashes after (ids.Effect feed) = refl
+
+-- a table of a vault that has sealed windows has rows of its kind
+pub kind_of : (hashes : Hashes) (sealed : List Window) (raw : RawVault) → HasSealed hashes sealed raw → (table : TableId) → Contains (tables raw.mapping) table → HasKind raw.tables table
+kind_of hashes sealed raw has_sealed table has =
+    ap (λ entries. is_of_kind table (rows_in table entries)) has_sealed.tables_are
+    ∙ ap (is_of_kind table) ((vault_holds raw.mapping hashes sealed table).rows has)
+    ∙ of_kind raw.mapping hashes (backwards sealed) table
+
+pub hubs_back : (hub : ℕ) (rows : Rows) → is_of_kind (ids.Hub hub) rows ≡ true → Hubs (hub_rows rows) ≡ rows
+hubs_back hub (Hubs rows) is = refl
+hubs_back hub rows is = absurd (false≢true is)
+
+pub links_back : (link : ℕ) (rows : Rows) → is_of_kind (ids.Link link) rows ≡ true → Links (link_rows rows) ≡ rows
+links_back link (Links rows) is = refl
+links_back link rows is = absurd (false≢true is)
+
+pub sats_back : (feed : ℕ) (rows : Rows) → is_of_kind (ids.Sat feed) rows ≡ true → Sats (sat_rows rows) ≡ rows
+sats_back feed (Sats rows) is = refl
+sats_back feed rows is = absurd (false≢true is)
+
+pub multis_back : (feed : ℕ) (rows : Rows) → is_of_kind (ids.Multi feed) rows ≡ true → Multis (multi_rows rows) ≡ rows
+multis_back feed (Multis rows) is = refl
+multis_back feed rows is = absurd (false≢true is)
+
+pub statuses_back : (feed : ℕ) (rows : Rows) → is_of_kind (ids.Status feed) rows ≡ true → Statuses (status_rows rows) ≡ rows
+statuses_back feed (Statuses rows) is = refl
+statuses_back feed rows is = absurd (false≢true is)
+
 -- ---- the text of a table
 
--- rows that are those of the windows' table have its text
-module _ (hashes : Hashes) (sealed : List Window) (raw : RawVault) (has_sealed : HasSealed hashes sealed raw) (date : ℕ) where
-  -- a table has the rows of the windows
-  rows_read : (table : TableId) → Contains (tables raw.mapping) table → rows_in table raw.tables ≡ table_after raw.mapping hashes (backwards sealed) table
-  rows_read table has = ap (rows_in table) has_sealed.tables_are ∙ (vault_holds raw.mapping hashes sealed table).rows has
-
-  -- so rows that are the table's have the text of the windows' table
-  pub said : {R : Type 0} (table : TableId) (kind : List R → Rows) (rows_of : Rows → List R) → Contains (tables raw.mapping) table
-      → kind (rows_of (table_after raw.mapping hashes (backwards sealed) table)) ≡ table_after raw.mapping hashes (backwards sealed) table
-      → (rows : List R) → rows ≡ rows_of (rows_in table raw.tables) → (catalog : Mapping) → catalog ≡ raw.mapping
-      → table_text catalog table (rows_up_to date (kind rows)) ≡ mart_text raw.mapping hashes sealed (Table table) date
-  said table kind rows_of has back rows rows_are catalog same =
-      ap (λ (m : Mapping). table_text m table (rows_up_to date (kind rows))) same
-      ∙ ap (λ (rows : Rows). table_text raw.mapping table (rows_up_to date rows)) (ap kind (rows_are ∙ ap rows_of (rows_read table has)) ∙ back)
+-- rows of its kind that are those in the store have its text
+pub said : {R : Type 0} (table : TableId) (kind : List R → Rows) (rows_of : Rows → List R) (mapping : Mapping) (entries : List TableRows) (date : ℕ)
+    → kind (rows_of (rows_in table entries)) ≡ rows_in table entries → (rows : List R) → rows ≡ rows_of (rows_in table entries) → (catalog : Mapping) → catalog ≡ mapping
+    → table_text catalog table (rows_up_to date (kind rows)) ≡ raw_text mapping entries table date
+said table kind rows_of mapping entries date back rows rows_are catalog same =
+    ap (λ (m : Mapping). table_text m table (rows_up_to date (kind rows))) same
+    ∙ ap (λ (rows : Rows). table_text mapping table (rows_up_to date rows)) (ap kind rows_are ∙ back)

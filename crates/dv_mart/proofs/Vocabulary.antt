@@ -9,8 +9,8 @@ pub use Rattle.csv.specs.Writing.{default_writer, end_text, field_text, fields_w
 unfoldable pub use Rattle.csv.specs.Writing.{escaped, fields_text, is_blank}
 pub use Rattle.dv_catalog.specs.Tables.{hub_name}
 pub use Rattle.dv_catalog.specs.declared.tables.TableId.{TableId}
-pub use Rattle.dv_catalog.specs.declared.tables.TableId.TheVariants.{Hub, Link, Sat, Status}
-pub use Rattle.dv_mart.specs.MartTexts.{mart_text, table_text}
+pub use Rattle.dv_catalog.specs.declared.tables.TableId.TheVariants.{Hub, Link, Multi, Sat, Status}
+pub use Rattle.dv_mart.specs.MartTexts.{HasKind, mart_text, path_name, raw_text, table_text}
 pub use Rattle.dv_mart.specs.OfferedMarts.{IsOffered}
 pub use Rattle.dv_mart.specs.Texts.{all_parts, csv_text, raw_header}
 pub use Rattle.dv_mart.specs.Whats.{behind, feed_place, feed_word, table_named, table_word}
@@ -18,12 +18,15 @@ pub use Rattle.dv_mart.specs.Writers.{row_writer}
 pub use Rattle.dv_mart.specs.declared.whats.What.{What}
 pub use Rattle.dv_mart.specs.declared.whats.What.TheVariants.{Feed, Table}
 pub use Rattle.dv_records.proofs.VaultRows.{vault_holds}
+pub use Rattle.dv_records.specs.ReadBack.{multi_rows}
+pub use Rattle.dv_records.specs.Stores.{is_of_kind}
 pub use Rattle.dv_records.specs.Vault.{rows_up_to}
 pub use Rattle.dv_records.specs.declared.stores.Rows.{Rows}
-pub use Rattle.dv_records.specs.declared.stores.Rows.TheVariants.{Hubs, Links, Sats, Statuses}
+pub use Rattle.dv_records.specs.declared.stores.TableRows.{TableRows}
+pub use Rattle.dv_records.specs.declared.stores.Rows.TheVariants.{Hubs, Links, Multis, Sats, Statuses}
 pub use Rattle.dv_text.specs.declared.rows.Window.{Window}
 pub use Rattle.dv_vault.proofs.BuiltTables.{tables_kept}
 pub use Rattle.hex.specs.Hex.{encode_lower}
 pub use Rattle.std.proofs.lemmas.Result.{IfOk-weaker}
 pub use Rattle.std.specs.Fmt.{decimal}
-pub use Rattle.std.specs.Prelude.{cond, flat_map, option_and_then}
+pub use Rattle.std.specs.Prelude.{Ok, cond, flat_map, option_and_then}

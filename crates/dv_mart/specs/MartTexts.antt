@@ -1,22 +1,26 @@
--- The text of a mart or a table over the sealed windows at a date, for a vault with no window open.
-use Rattle.std.specs.Prelude.{ℕ, List, [], ◌∷◌, Option, Some, None, map, reverse, slice_get}
+-- The text of a mart or a table at a date: of marts over the sealed windows, of raw tables by the rows that the store has.
+use Rattle.std.specs.Prelude.{◌≡◌, ℕ, true, List, [], ◌∷◌, Option, Some, None, Result, Ok, Err, map, slice_get, if◌then◌else◌}
 use Rattle.dv_text.specs.declared.rows.Window.{Window}
 use Rattle.dv_text.specs.Keys.{Hashes}
 use Rattle.dv_catalog.specs.declared.entries.FeedDef.{FeedDef}
 use Rattle.dv_catalog.specs.declared.entries.HubDef.{HubDef}
 use Rattle.dv_catalog.specs.declared.entries.PathDef.{PathDef}
 use Rattle.dv_catalog.specs.declared.tables.TableId.{TableId}
-use Rattle.dv_catalog.specs.declared.tables.TableId.TheVariants as tables
+use Rattle.dv_catalog.specs.declared.tables.TableId.TheVariants as ids
 use Rattle.dv_catalog.specs.Entries.{Mapping}
 use Rattle.dv_records.specs.declared.stores.Rows.{Rows}
 use Rattle.dv_records.specs.declared.stores.Rows.TheVariants.{Hubs, Links, Sats, Multis, Statuses, Effects, Pits, Bridges}
+use Rattle.dv_records.specs.declared.stores.TableRows.{TableRows}
 use Rattle.dv_records.specs.Marts.{feed_mart, hub_mart, path_mart, period_mart}
 use Rattle.dv_records.specs.Snapshots.{bridge, pit}
-use Rattle.dv_records.specs.Vault.{rows_up_to, table_after}
+use Rattle.dv_records.specs.Steps.{is_too_large}
+use Rattle.dv_records.specs.Stores.{is_of_kind, rows_in}
+use Rattle.dv_records.specs.Vault.{rows_up_to}
+use Rattle.dv_mart.specs.declared.query_rules.QueryRule.{QueryRule}
+use Rattle.dv_mart.specs.declared.query_rules.QueryRule.TheVariants.{TooLarge}
 use Rattle.dv_mart.specs.declared.whats.What.{What}
 use Rattle.dv_mart.specs.declared.whats.What.TheVariants as what
 use Rattle.dv_mart.specs.Texts.{bridge_text, csv_text, effect_table_header, effect_table_record, feed_text, hub_table_header, hub_table_record, hub_text, link_table_header, link_table_record, multi_table_record, path_text, period_text, pit_text, sat_table_header, sat_table_record, status_table_header, status_table_record}
-use Rattle.dv_records.specs.Backwards.{backwards}
 
 -- ---- raw tables
 
@@ -41,16 +45,24 @@ sat_header_by (Some feed) = sat_table_header feed
 
 -- the header of a raw table
 abbrev pub table_header : Mapping → TableId → List (List ℕ)
-table_header mapping (tables.Hub hub) = hub_header_by (slice_get mapping.hubs hub)
-table_header mapping (tables.Link link) = link_table_header mapping link
-table_header mapping (tables.Sat feed) = sat_header_by (slice_get mapping.feeds feed)
-table_header mapping (tables.Multi feed) = sat_header_by (slice_get mapping.feeds feed)
-table_header mapping (tables.Status feed) = status_table_header
-table_header mapping (tables.Effect feed) = effect_table_header
+table_header mapping (ids.Hub hub) = hub_header_by (slice_get mapping.hubs hub)
+table_header mapping (ids.Link link) = link_table_header mapping link
+table_header mapping (ids.Sat feed) = sat_header_by (slice_get mapping.feeds feed)
+table_header mapping (ids.Multi feed) = sat_header_by (slice_get mapping.feeds feed)
+table_header mapping (ids.Status feed) = status_table_header
+table_header mapping (ids.Effect feed) = effect_table_header
 
 -- the text of a raw table with these rows
 abbrev pub table_text : Mapping → TableId → Rows → List ℕ
 table_text mapping table rows = csv_text (table_header mapping table ∷ raw_records rows)
+
+-- a table has rows of its kind
+abbrev pub HasKind : List TableRows → TableId → Type 0
+HasKind tables table = is_of_kind table (rows_in table tables) ≡ true
+
+-- the text of a raw table: its rows in the store that are not later than the date
+abbrev pub raw_text : Mapping → List TableRows → TableId → ℕ → List ℕ
+raw_text mapping tables table date = table_text mapping table (rows_up_to date (rows_in table tables))
 
 -- ---- all marts and tables
 
@@ -66,15 +78,41 @@ abbrev pub path_feeds : Option PathDef → List ℕ
 path_feeds None = []
 path_feeds (Some path) = path.feeds
 
--- the text of a mart, or of a table with its rows not later than the date
-abbrev pub mart_text : Mapping → Hashes → List Window → What → ℕ → List ℕ
-mart_text mapping hashes sealed (what.Feed feed) date = feed_text_by sealed feed date (slice_get mapping.feeds feed)
-mart_text mapping hashes sealed (what.Hub hub) date = hub_text mapping hub (hub_mart mapping sealed hub date)
-mart_text mapping hashes sealed (what.Path path) date =
-    path_text mapping (path_feeds (slice_get mapping.paths path)) (path_mart mapping sealed path date)
-mart_text mapping hashes sealed (what.Period feed) date = period_text_by sealed feed date (slice_get mapping.feeds feed)
-mart_text mapping hashes sealed (what.Table table) date =
-    table_text mapping table (rows_up_to date (table_after mapping hashes (backwards sealed) table))
-mart_text mapping hashes sealed (what.Pit hub) date = pit_text mapping hub date (pit mapping hashes sealed hub date)
-mart_text mapping hashes sealed (what.Bridge path) date =
-    bridge_text mapping (path_feeds (slice_get mapping.paths path)) date (bridge mapping hashes sealed path date)
+abbrev pub path_text_by : Mapping → List Window → ℕ → ℕ → Option PathDef → List ℕ
+path_text_by mapping sealed path date def = path_text mapping (path_feeds def) (path_mart mapping sealed path date)
+
+abbrev pub bridge_text_by : Mapping → Hashes → List Window → ℕ → ℕ → Option PathDef → List ℕ
+bridge_text_by mapping hashes sealed path date def =
+    bridge_text mapping (path_feeds def) date (bridge mapping hashes sealed path date)
+
+-- what is asked of a path: its text, or the rule Q3, where some first steps of the path give too many rows
+abbrev pub if_not_too_large : Mapping → List Window → ℕ → Option PathDef → List ℕ → Result (List ℕ) QueryRule
+if_not_too_large mapping sealed date None text = Ok text
+if_not_too_large mapping sealed date (Some path) text =
+    if is_too_large mapping sealed date path then Err (TooLarge path.name) else Ok text
+
+-- the text of a mart over the sealed windows, or of a table with its rows in the store that are not later than the date
+abbrev pub mart_text : Mapping → Hashes → List Window → List TableRows → What → ℕ → Result (List ℕ) QueryRule
+mart_text mapping hashes sealed tables (what.Feed feed) date = Ok (feed_text_by sealed feed date (slice_get mapping.feeds feed))
+mart_text mapping hashes sealed tables (what.Hub hub) date = Ok (hub_text mapping hub (hub_mart mapping sealed hub date))
+mart_text mapping hashes sealed tables (what.Path path) date =
+    if_not_too_large mapping sealed date (slice_get mapping.paths path)
+    (path_text_by mapping sealed path date (slice_get mapping.paths path))
+mart_text mapping hashes sealed tables (what.Period feed) date = Ok (period_text_by sealed feed date (slice_get mapping.feeds feed))
+mart_text mapping hashes sealed tables (what.Table table) date = Ok (raw_text mapping tables table date)
+mart_text mapping hashes sealed tables (what.Pit hub) date = Ok (pit_text mapping hub date (pit mapping hashes sealed hub date))
+mart_text mapping hashes sealed tables (what.Bridge path) date =
+    if_not_too_large mapping sealed date (slice_get mapping.paths path)
+    (bridge_text_by mapping hashes sealed path date (slice_get mapping.paths path))
+
+-- ---- the path of a mart
+
+abbrev pub name_of_path : Option PathDef → List ℕ
+name_of_path None = []
+name_of_path (Some path) = path.name
+
+-- the name of the path that a path's mart or bridge is of; of anything else it has no bytes
+abbrev pub path_name : Mapping → What → List ℕ
+path_name mapping (what.Path path) = name_of_path (slice_get mapping.paths path)
+path_name mapping (what.Bridge path) = name_of_path (slice_get mapping.paths path)
+path_name mapping what = []

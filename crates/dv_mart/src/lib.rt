@@ -4,6 +4,7 @@
 mod csv_texts;
 mod feed_texts;
 mod fields;
+mod mart_faults;
 mod marts;
 mod query_rules;
 mod raw_records;
@@ -12,6 +13,7 @@ mod table_texts;
 mod whats;
 
 pub use feed_texts::feed_text;
+pub use mart_faults::{MartFault, too_large};
 pub use marts::{feed_mart, mart_text};
 pub use query_rules::QueryRule;
 pub use table_texts::{

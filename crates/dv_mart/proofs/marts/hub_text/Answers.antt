@@ -1,5 +1,5 @@
-use Rattle.dv_mart.proofs.Vocabulary.{◌≡◌, ◌<◌, ◌∙◌, length, refl, subst, sym, IfOk-weaker, Hub, Mapping, Hubs, hub_rows}
-use Rattle.dv_mart.proofs.VaultMarts.{hub_within, said}
+use Rattle.dv_mart.proofs.Vocabulary.{◌≡◌, ◌<◌, ◌∙◌, length, subst, sym, IfOk-weaker, Hub, Mapping, Hubs, hub_rows}
+use Rattle.dv_mart.proofs.VaultMarts.{hubs_back, hub_within, said}
 use Rattle.dv_mart.proofs.marts.hub_text.Goals as goal
 
 pub hub-table-requires : goal.hub-table-requires
@@ -11,6 +11,6 @@ hub_table_text-requires c = subst (λ (m : Mapping). c.args.hub < length m.hubs)
 pub returns : goal.returns
 returns c =
     IfOk-weaker c.hub_table_text.result _ _
-    (λ text is. λ hashes sealed has.
-    is ∙ said hashes sealed c.args.vault.now has c.args.date (Hub c.args.hub) Hubs hub_rows c.requires refl _ (c.rows.ensures.value ∙ c.hub-table.ensures) _ c.catalog.ensures.value)
+    (λ text is. λ has.
+    is ∙ said (Hub c.args.hub) Hubs hub_rows c.args.vault.now.mapping c.args.vault.now.tables c.args.date (hubs_back c.args.hub _ has) _ (c.rows.ensures.value ∙ c.hub-table.ensures) _ c.catalog.ensures.value)
     c.hub_table_text.ensures

@@ -1,5 +1,5 @@
-use Rattle.dv_mart.proofs.Vocabulary.{◌≡◌, ◌<◌, ◌∙◌, length, refl, subst, sym, IfOk-weaker, Link, Mapping, Links, link_rows}
-use Rattle.dv_mart.proofs.VaultMarts.{link_within, said}
+use Rattle.dv_mart.proofs.Vocabulary.{◌≡◌, ◌<◌, ◌∙◌, length, subst, sym, IfOk-weaker, Link, Mapping, Links, link_rows}
+use Rattle.dv_mart.proofs.VaultMarts.{links_back, link_within, said}
 use Rattle.dv_mart.proofs.marts.link_text.Goals as goal
 
 pub link-table-requires : goal.link-table-requires
@@ -11,6 +11,6 @@ link_table_text-requires c = subst (λ (m : Mapping). c.args.link < length m.lin
 pub returns : goal.returns
 returns c =
     IfOk-weaker c.link_table_text.result _ _
-    (λ text is. λ hashes sealed has.
-    is ∙ said hashes sealed c.args.vault.now has c.args.date (Link c.args.link) Links link_rows c.requires refl _ (c.rows.ensures.value ∙ c.link-table.ensures) _ c.catalog.ensures.value)
+    (λ text is. λ has.
+    is ∙ said (Link c.args.link) Links link_rows c.args.vault.now.mapping c.args.vault.now.tables c.args.date (links_back c.args.link _ has) _ (c.rows.ensures.value ∙ c.link-table.ensures) _ c.catalog.ensures.value)
     c.link_table_text.ensures

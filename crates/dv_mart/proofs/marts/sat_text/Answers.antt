@@ -1,5 +1,5 @@
-use Rattle.dv_mart.proofs.Vocabulary.{◌≡◌, ◌<◌, ◌∙◌, length, refl, subst, sym, IfOk-weaker, Sat, Mapping, Sats, sat_rows}
-use Rattle.dv_mart.proofs.VaultMarts.{said, sat_within}
+use Rattle.dv_mart.proofs.Vocabulary.{◌≡◌, ◌<◌, ◌∙◌, length, subst, sym, IfOk-weaker, Sat, Mapping, Sats, sat_rows}
+use Rattle.dv_mart.proofs.VaultMarts.{said, sat_within, sats_back}
 use Rattle.dv_mart.proofs.marts.sat_text.Goals as goal
 
 pub sat_table_text-requires : goal.sat_table_text-requires
@@ -11,6 +11,6 @@ unreachable-requires c = (c.in-None.ensures {u = tt}).absent c.requires
 pub returns : goal.returns
 returns c =
     IfOk-weaker c.sat_table_text.result _ _
-    (λ text is. λ hashes sealed has.
-    is ∙ said hashes sealed c.args.vault.now has c.args.date (Sat c.args.feed) Sats sat_rows c.requires refl _ (c.rows.ensures.value ∙ (c.in-Some.ensures {u = tt}).rows) _ c.catalog.ensures.value)
+    (λ text is. λ has.
+    is ∙ said (Sat c.args.feed) Sats sat_rows c.args.vault.now.mapping c.args.vault.now.tables c.args.date (sats_back c.args.feed _ has) _ (c.rows.ensures.value ∙ (c.in-Some.ensures {u = tt}).rows) _ c.catalog.ensures.value)
     c.sat_table_text.ensures

@@ -1,8 +1,8 @@
-use Rattle.dv_mart.proofs.Vocabulary.{◌≡◌, ◌∙◌, ap, sym, inl, inr, true, false≢true, is_kept}
+use Rattle.dv_mart.proofs.Vocabulary.{◌≡◌, ◌∙◌, ap, sym, true, false≢true, is_kept}
 use Rattle.dv_mart.proofs.OfferedTables.{named_kept}
 use Rattle.dv_mart.proofs.marts.table_text.Goals as goal
 
 pub unreachable-requires : goal.unreachable-requires
 unreachable-requires c =
     let kept = named_kept c.args.vault.now.mapping c.args.table c.note_built.ensures.built c.requires in
-    elim c.in-Multi.is [ inl multi ↦ false≢true (sym (ap is_kept multi.1) ∙ kept) | inr effect ↦ false≢true (sym (ap is_kept effect.1) ∙ kept) ]
+    false≢true (sym (ap is_kept c.in-Effect.is) ∙ kept)
