@@ -14,6 +14,7 @@ use Rattle.dv_records.specs.Reconstruction.{HasOneRowEach, valid_at}
 use Rattle.dv_records.specs.Satellites.{is_changed, sat_batch, IsOnePerList, IsSatBatch, IsMultiBatch}
 use Rattle.dv_records.specs.Snapshots.{changed_at}
 use Rattle.dv_text.proofs.Passing.{found_member}
+use Rattle.dv_records.specs.Backwards.{backwards}
 
 -- a kind of row made of an extract's row, and its batches: the rows of the lists whose rows are other ones than when they
 -- were last there
@@ -81,7 +82,7 @@ module _ {R : Type 0} (parent_of : R → List ℕ) (load_of : R → ℕ) (cmp : 
 
 -- ---- satellites
 
-module _ (mapping : Mapping) (hashes : Hashes) (feed : ℕ) (sealed : List Window) (rows : List SatRow) (table : table_after mapping hashes (reverse sealed) (Sat feed) ≡ Sats rows)
+module _ (mapping : Mapping) (hashes : Hashes) (feed : ℕ) (sealed : List Window) (rows : List SatRow) (table : table_after mapping hashes (backwards sealed) (Sat feed) ≡ Sats rows)
     (order : IsInLoadOrder sealed) (single : HasOneRowEach feed sealed) (apart : IsApart hashes (delivered_refs feed sealed)) (refs : List Key) where
   abbrev sat_made : Extract → NRow → SatRow
   sat_made extract row = record { parent = hashes.hash row.refs; load = extract.load; source = source mapping feed; diff = hashes.diff row.attrs; attrs = row.attrs }
@@ -116,7 +117,7 @@ rows_loaded rows parent date load (Some last) e = (
       ap Some (sym (eqb-true row.load last.load loaded) ∙ is),
 )
 
-module _ (mapping : Mapping) (hashes : Hashes) (feed : ℕ) (sealed : List Window) (rows : List MultiRow) (table : table_after mapping hashes (reverse sealed) (Multi feed) ≡ Multis rows)
+module _ (mapping : Mapping) (hashes : Hashes) (feed : ℕ) (sealed : List Window) (rows : List MultiRow) (table : table_after mapping hashes (backwards sealed) (Multi feed) ≡ Multis rows)
     (order : IsInLoadOrder sealed) (single : HasOneRowPerSub feed sealed) (apart : IsApart hashes (delivered_refs feed sealed)) (refs : List Key) where
   abbrev multi_made : Extract → NRow → MultiRow
   multi_made extract row = record { parent = hashes.hash row.refs; load = extract.load; source = source mapping feed; diff = hashes.diff row.attrs; sub = row.sub; attrs = row.attrs }

@@ -25,6 +25,7 @@ use Rattle.dv_records.proofs.StatusReconstruct.{both_lists}
 use Rattle.dv_records.specs.EffectPeriods.{Period, effect_periods, is_of_one_run, last_of_runs, parent_period_cmp, period_in}
 use Rattle.dv_records.specs.declared.stores.Rows.{Rows}
 use Rattle.dv_records.specs.declared.stores.Rows.TheVariants.{Effects}
+use Rattle.dv_records.specs.Backwards.{backwards}
 
 -- ---- the last rows of runs
 
@@ -397,7 +398,7 @@ module _ (hashes : Hashes) (feed : ℕ) (sealed : List Window) (date : ℕ) (ord
       let same : by_hash_key hashes row ≡ p = λ i. record { parent = sym is.parent i; begin = p.begin; end = p.end } in
       subst (Contains (map (by_hash_key hashes) (period_mart sealed feed date))) same (Contains-map (by_hash_key hashes) (period_mart sealed feed date) row in_mart)
 
-pub effects_tell : (mapping : Mapping) (hashes : Hashes) (feed : ℕ) (sealed : List Window) (rows : List EffectRow) → table_after mapping hashes (reverse sealed) (Effect feed) ≡ Effects rows
+pub effects_tell : (mapping : Mapping) (hashes : Hashes) (feed : ℕ) (sealed : List Window) (rows : List EffectRow) → table_after mapping hashes (backwards sealed) (Effect feed) ≡ Effects rows
     → IsInLoadOrder sealed → IsApart hashes (delivered_refs feed sealed) → (date : ℕ) → effect_periods rows date ≡ sorted_by parent_period_cmp (map (by_hash_key hashes) (period_mart sealed feed date))
 effects_tell mapping hashes feed sealed rows table order apart date =
     let made : rows ≡ appended (effect_batch hashes (source mapping feed)) (history feed (reverse sealed)) = feed_rows feed (effect_batch hashes (source mapping feed)) (reverse sealed) rows (ap effect_rows table) in

@@ -39,6 +39,7 @@ use Rattle.dv_records.specs.declared.snapshots.SnapId.TheVariants.{Pit, Bridge}
 use Rattle.dv_records.specs.declared.snapshots.SnapTable.{SnapTable}
 use Rattle.dv_records.specs.declared.stores.Rows.TheVariants.{Pits, Bridges}
 use Rattle.dv_records.specs.declared.stores.Store.{Store}
+use Rattle.dv_records.specs.Backwards.{backwards}
 
 -- ---- no windows
 
@@ -46,7 +47,7 @@ no_collision : (mapping : Mapping) (hashes : Hashes) (all : List Parent) → fir
 no_collision mapping hashes [] = refl
 no_collision mapping hashes (parent ∷ all) = no_collision mapping hashes all
 
-no_weight : (mapping : Mapping) (hashes : Hashes) (id : TableId) → rows_weight (table_after mapping hashes [] id) ≡ 0
+no_weight : (mapping : Mapping) (hashes : Hashes) (id : TableId) → rows_weight (table_after mapping hashes (backwards []) id) ≡ 0
 no_weight mapping hashes (ids.Hub n) = refl
 no_weight mapping hashes (ids.Link n) = refl
 no_weight mapping hashes (ids.Sat n) = refl
@@ -54,19 +55,19 @@ no_weight mapping hashes (ids.Multi n) = refl
 no_weight mapping hashes (ids.Status n) = refl
 no_weight mapping hashes (ids.Effect n) = refl
 
-no_weights : (mapping : Mapping) (hashes : Hashes) (all : List TableId) → tables_weight (map (table_entry mapping hashes []) all) ≡ 0
+no_weights : (mapping : Mapping) (hashes : Hashes) (all : List TableId) → tables_weight (map (table_entry mapping hashes (backwards [])) all) ≡ 0
 no_weights mapping hashes [] = refl
 no_weights mapping hashes (id ∷ all) =
     let first = no_weight mapping hashes id in
     let rest = no_weights mapping hashes all in
-    let both = sum_by-cons (λ (entry : TableRows). rows_weight entry.rows) (table_entry mapping hashes [] id) (map (table_entry mapping hashes []) all) in
+    let both = sum_by-cons (λ (entry : TableRows). rows_weight entry.rows) (table_entry mapping hashes (backwards []) id) (map (table_entry mapping hashes (backwards [])) all) in
     omega (arith, first, rest, both)
 
 none_valid : (mapping : Mapping) (hashes : Hashes) → are_windows_valid mapping hashes [] ≡ true
 none_valid mapping hashes =
     and_from _ _ (and_from _ _ (ap is_none (no_collision mapping hashes (parents mapping))) (ap (λ n. nat_le n most_weight) (no_weights mapping hashes (tables mapping)))) refl
 
-after_none : (mapping : Mapping) (hashes : Hashes) (id : TableId) → table_after mapping hashes [] id ≡ no_rows id
+after_none : (mapping : Mapping) (hashes : Hashes) (id : TableId) → table_after mapping hashes (backwards []) id ≡ no_rows id
 after_none mapping hashes (ids.Hub n) = refl
 after_none mapping hashes (ids.Link n) = refl
 after_none mapping hashes (ids.Sat n) = refl
@@ -74,11 +75,11 @@ after_none mapping hashes (ids.Multi n) = refl
 after_none mapping hashes (ids.Status n) = refl
 after_none mapping hashes (ids.Effect n) = refl
 
-none_in : (mapping : Mapping) (hashes : Hashes) (all : List TableId) (table : TableId) → rows_in table (map (table_entry mapping hashes []) all) ≡ no_rows table
+none_in : (mapping : Mapping) (hashes : Hashes) (all : List TableId) (table : TableId) → rows_in table (map (table_entry mapping hashes (backwards [])) all) ≡ no_rows table
 none_in mapping hashes [] table = refl
 none_in mapping hashes (id ∷ all) table = by (table_eq id table) refl (none_in mapping hashes all table)
   where
-    by : (b : Bool) → table_eq id table ≡ b → rows_in table (map (table_entry mapping hashes []) all) ≡ no_rows table → rows_in table (map (table_entry mapping hashes []) (id ∷ all)) ≡ no_rows table
+    by : (b : Bool) → table_eq id table ≡ b → rows_in table (map (table_entry mapping hashes (backwards [])) all) ≡ no_rows table → rows_in table (map (table_entry mapping hashes (backwards [])) (id ∷ all)) ≡ no_rows table
     by true e later = rw e (after_none mapping hashes id ∙ ap no_rows (same_table id table e))
     by false e later = rw e later
 

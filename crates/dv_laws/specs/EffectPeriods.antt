@@ -13,6 +13,7 @@ use Rattle.dv_records.specs.EffectPeriods.{Period, effect_periods, parent_period
 use Rattle.dv_records.specs.History.{delivered_refs, IsInLoadOrder}
 use Rattle.dv_records.specs.Marts.{period_mart}
 use Rattle.dv_records.specs.Vault.{table_after}
+use Rattle.dv_records.specs.Backwards.{backwards}
 
 -- a row of a period mart, with the hash key in place of its reference list
 abbrev pub by_hash_key : Hashes → PeriodRow → Period
@@ -23,6 +24,6 @@ by_hash_key hashes row = record { parent = hashes.hash row.refs; begin = row.beg
 abbrev pub EffectsTell : Type 0
 EffectsTell =
     (mapping : Mapping) (hashes : Hashes) (feed : ℕ) (sealed : List Window) (rows : List EffectRow)
-    → table_after mapping hashes (reverse sealed) (Effect feed) ≡ Effects rows
+    → table_after mapping hashes (backwards sealed) (Effect feed) ≡ Effects rows
     → IsInLoadOrder sealed → IsApart hashes (delivered_refs feed sealed)
     → (date : ℕ) → effect_periods rows date ≡ sorted_by parent_period_cmp (map (by_hash_key hashes) (period_mart sealed feed date))

@@ -14,13 +14,14 @@ use Rattle.dv_records.specs.History.{delivered_refs, history, up_to, IsInLoadOrd
 use Rattle.dv_records.specs.Reconstruction.{HasOneRowEach, HasOneRowPerSub, all_valid_at, valid_at}
 use Rattle.dv_records.specs.Snapshots.{changed_at}
 use Rattle.dv_records.specs.Vault.{table_after}
+use Rattle.dv_records.specs.Backwards.{backwards}
 
 -- the load date that a cell has of a satellite at a date is that of the row that is valid for the parent then, and none
 -- where no row is, where no other list that the windows deliver has the hash key
 abbrev pub SatCellsTell : Type 0
 SatCellsTell =
     (mapping : Mapping) (hashes : Hashes) (feed : ℕ) (sealed : List Window) (rows : List SatRow)
-    → table_after mapping hashes (reverse sealed) (Sat feed) ≡ Sats rows
+    → table_after mapping hashes (backwards sealed) (Sat feed) ≡ Sats rows
     → IsInLoadOrder sealed → HasOneRowEach feed sealed → IsApart hashes (delivered_refs feed sealed)
     → (refs : List Key) → ((other : List Key) → Contains (delivered_refs feed sealed) other → hashes.hash other ≡ hashes.hash refs → other ≡ refs)
     → (date : ℕ) → option_map (λ row. row.load) (valid_at rows (hashes.hash refs) date) ≡ changed_at (up_to date (history feed (reverse sealed))) refs
@@ -29,7 +30,7 @@ SatCellsTell =
 abbrev pub MultiCellsTell : Type 0
 MultiCellsTell =
     (mapping : Mapping) (hashes : Hashes) (feed : ℕ) (sealed : List Window) (rows : List MultiRow)
-    → table_after mapping hashes (reverse sealed) (Multi feed) ≡ Multis rows
+    → table_after mapping hashes (backwards sealed) (Multi feed) ≡ Multis rows
     → IsInLoadOrder sealed → HasOneRowPerSub feed sealed → IsApart hashes (delivered_refs feed sealed)
     → (refs : List Key) → ((other : List Key) → Contains (delivered_refs feed sealed) other → hashes.hash other ≡ hashes.hash refs → other ≡ refs)
     → (date load : ℕ)
