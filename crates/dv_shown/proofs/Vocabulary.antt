@@ -29,11 +29,12 @@ pub use Rattle.dv_checks.proofs.Apart.{passes_at_place, place_under, same_place}
 pub use Rattle.dv_checks.proofs.Resolved.{columns_fit, hubs_of_parent, is_step, places_of_step}
 pub use Rattle.dv_mapfile.specs.Manifests.{manifest_in, manifest_or_text}
 pub use Rattle.dv_records.specs.Loads.{loaded}
+pub use Rattle.dv_records.specs.MemoryKeepers.{empty_store}
 pub use Rattle.dv_records.specs.Reconstruction.{key_row}
 pub use Rattle.dv_records.specs.Standing.{HasTables, IsMappedBy}
 pub use Rattle.dv_records.specs.States.{State, snapshots_weight}
-pub use Rattle.dv_records.specs.Steps.{BothRead}
-pub use Rattle.dv_records.specs.Vault.{partial}
+pub use Rattle.dv_records.specs.Steps.{BothRead, IsStored}
+pub use Rattle.dv_records.specs.Vault.{partial, vault}
 pub use Rattle.dv_records.specs.declared.answers.Outcome.TheVariants.{Load, Refused, Repeated}
 pub use Rattle.dv_records.specs.declared.answers.SnapAnswer.TheVariants.{Future}
 pub use Rattle.dv_records.specs.declared.keepers.KeeperError.TheVariants.{Failed, Memory}
@@ -41,9 +42,9 @@ pub use Rattle.dv_records.specs.declared.stores.Store.{Store}
 pub use Rattle.dv_shown.specs.Answered.{first_loaded}
 pub use Rattle.dv_shown.specs.CatalogLaws.{IsAtLeast, rule_at}
 pub use Rattle.dv_shown.specs.Limited.{weight_with}
-pub use Rattle.dv_shown.specs.Mappings.{bare, with_customers_and_sites, with_names}
-pub use Rattle.dv_shown.specs.Stepped.{bare_file, mapped, other_file, status_first, two_staged}
-pub use Rattle.dv_shown.specs.Windows.{keys_come_and_go, two_keys_window}
+pub use Rattle.dv_shown.specs.Mappings.{bare, with_customers_and_sites, with_names, with_sites_and_customers}
+pub use Rattle.dv_shown.specs.Stepped.{bare_file, bare_otherwise, feed_first, hub_first, mapped, next_hub_first, next_staged, no_mapping_file, other_file, renamed, site_first, status_first, two_present, two_staged}
+pub use Rattle.dv_shown.specs.Windows.{keys_come_and_go, next_keys, two_keys, two_keys_window}
 pub use Rattle.dv_shown.specs.Words.{bare_row, day, key, plain}
 pub use Rattle.dv_text.proofs.Passing.{find_none, none_pass}
 unfoldable pub use Rattle.dv_text.specs.Stamps.{has_digits, has_form, has_marks, month_from, seconds_if, stamp_in, stamp_text, year_from}

@@ -108,6 +108,13 @@ pub record RowsAnswered : Type 0 where
   pub two_drivers :
       of_window with_drivers beginning (given 1 (extract (codes "assignments") (codes "EMP,DEPT\n1,P\n1,Q\n") ∷ []))
       ≡ Refused (TwoDrivers (codes "assignments") (key (codes "1") ∷ []))
+  -- one of two driving keys is shared, and both are: notices a rule that compares driving keys one by one
+  pub one_driver_shared :
+      of_window with_teams beginning (given 1 (extract (codes "teams") (codes "EMP,DEPT,PROJ\n1,P,X\n1,Q,Y\n") ∷ []))
+      ≡ Load
+  pub both_drivers_shared :
+      of_window with_teams beginning (given 1 (extract (codes "teams") (codes "EMP,DEPT,PROJ\n1,P,X\n1,P,Y\n") ∷ []))
+      ≡ Refused (TwoDrivers (codes "teams") (key (codes "1") ∷ key (codes "P") ∷ []))
   pub differs : of_named (sealed once) (given 1 (of_customers (codes "CUST_NO,NAME\n1,abd\n"))) ≡ Refused (Differs (day 1))
   pub differs_from_open : of_named (begun first_loaded) (given 1 (of_customers (codes "CUST_NO,NAME\n1,abd\n"))) ≡ Refused (Differs (day 1))
   pub other_feeds :
@@ -173,6 +180,8 @@ pub record StatesHold : Type 0 where
   pub references_missing : is_window with_orders (rows_on 1 (row ([] ∷ [] ∷ []) [] [] ∷ [])) ≡ false
   pub one_of_two_drivers_missing : is_window with_teams (rows_on 1 (row (codes "1" ∷ [] ∷ codes "X" ∷ []) [] [] ∷ [])) ≡ false
   pub two_drivers_there : is_window with_teams (rows_on 1 (row (codes "1" ∷ codes "P" ∷ [] ∷ []) [] [] ∷ [])) ≡ true
+  pub one_of_two_drivers_shared : is_window with_teams (rows_on 1 (row (codes "1" ∷ codes "P" ∷ codes "X" ∷ []) [] [] ∷ row (codes "1" ∷ codes "Q" ∷ codes "Y" ∷ []) [] [] ∷ [])) ≡ true
+  pub both_drivers_shared : is_window with_teams (rows_on 1 (row (codes "1" ∷ codes "P" ∷ codes "X" ∷ []) [] [] ∷ row (codes "1" ∷ codes "P" ∷ codes "Y" ∷ []) [] [] ∷ [])) ≡ false
   pub full_field : is_field (replicate 4096 65) ≡ true
   pub long_field : is_field (replicate 4097 65) ≡ false
   pub full_key : is_key_part (replicate 4096 65) ≡ true

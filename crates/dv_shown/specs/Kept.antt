@@ -13,7 +13,8 @@ use Rattle.dv_records.specs.declared.stores.Store.{Store}
 use Rattle.dv_records.specs.declared.stores.TableRows.{TableRows}
 use Rattle.dv_records.specs.Changes.{Changes, KeeperCause}
 use Rattle.dv_records.specs.MemoryKeepers.{empty_store}
-use Rattle.dv_records.specs.Stores.{IsStagedAt, appended_to, are_apart, are_snap_tables_apart, are_snapshots_in_order, have_kinds, is_of_kind, is_well_formed, page, row_count, rows_in, rows_then, snap_id_eq, table_eq, with_mapping, with_rows, with_seal, with_stage}
+use Rattle.dv_records.specs.Stores.{IsStagedAt, appended_to, are_apart, are_snap_tables_apart, are_snapshots_in_order, have_kinds, is_new_snapshot, is_of_kind, is_well_formed, page}
+use Rattle.dv_records.specs.Stores.{row_count, rows_in, rows_then, snap_id_eq, snapshot_rows, table_eq, with_mapping, with_rows, with_seal, with_snapshot, with_stage}
 use Rattle.dv_shown.specs.Answered.{first_loaded}
 use Rattle.dv_shown.specs.Words.{day, in_effect, in_hub, in_link, in_multi, in_sat, in_status}
 
@@ -154,6 +155,35 @@ pub record SnapshotsKept : Type 0 where
   pub of_other_kind : is_well_formed (holding (entry (Hub 0) (Links []) ∷ []) []) ≡ false
   pub date_twice : is_well_formed (holding [] (snap 1 [] ∷ snap 1 [] ∷ [])) ≡ false
 
+-- two snapshots whose tables have rows
+abbrev pub two_snaps : List Snap
+two_snaps =
+    record {
+      head = record { date = day 1; rows = 7; weight = 0 };
+      tables = record { id = Pit 0; rows = pits a } ∷ record { id = Pit 1; rows = pits a_to_d } ∷ record { id = Bridge 0; rows = bridges b_c } ∷ [];
+    }
+    ∷ record { head = record { date = day 3; rows = 2; weight = 0 }; tables = record { id = Pit 1; rows = pits b_c } ∷ [] }
+    ∷ []
+
+-- the rows of stored snapshots
+pub record SnapshotsRead : Type 0 where
+  -- notices another table of the snapshot, and another kind of table with the same number
+  pub first_pit : snapshot_rows (day 1) (Pit 0) two_snaps ≡ pits a
+  pub second_pit : snapshot_rows (day 1) (Pit 1) two_snaps ≡ pits a_to_d
+  pub a_bridge : snapshot_rows (day 1) (Bridge 0) two_snaps ≡ bridges b_c
+  -- notices the table of another date
+  pub later_date : snapshot_rows (day 3) (Pit 1) two_snaps ≡ pits b_c
+  -- notices the rows of the snapshot before the date, and those of another kind
+  pub no_snapshot : map (λ id. snapshot_rows (day 2) id two_snaps) (Pit 1 ∷ Bridge 0 ∷ []) ≡ Pits [] ∷ Bridges [] ∷ []
+  pub no_table : map (λ id. snapshot_rows (day 3) id two_snaps) (Pit 0 ∷ Bridge 0 ∷ []) ≡ Pits [] ∷ Bridges [] ∷ []
+  -- from a place on, at most so many
+  pub a_page : page 1 2 (snapshot_rows (day 1) (Pit 1) two_snaps) ≡ pits b_c
+  pub past_the_end : page 9 2 (snapshot_rows (day 1) (Bridge 0) two_snaps) ≡ Bridges []
+  -- notices a date or a table that may come again
+  pub new : is_new_snapshot (snap 2 (Pit 0 ∷ Pit 1 ∷ Bridge 0 ∷ [])) two_snaps ≡ true
+  pub date_again : is_new_snapshot (snap 3 (Pit 0 ∷ [])) two_snaps ≡ false
+  pub table_again : is_new_snapshot (snap 2 (Pit 0 ∷ Pit 1 ∷ Pit 0 ∷ [])) two_snaps ≡ false
+
 -- what the changes make of a store
 pub record StoresChanged : Type 0 where
   pub mapped : with_mapping (codes "m") (holding three_tables []) ≡ record (holding three_tables []) { mapping = Some (codes "m") }
@@ -162,6 +192,11 @@ pub record StoresChanged : Type 0 where
   pub sealed :
       with_seal (record { load = day 2; feeds = 0 ∷ [] }) (record empty_store { stage = Some first_loaded; windows = record { load = day 1; feeds = 1 ∷ [] } ∷ [] })
       ≡ record empty_store { windows = record { load = day 1; feeds = 1 ∷ [] } ∷ record { load = day 2; feeds = 0 ∷ [] } ∷ [] }
+  -- a snapshot stands in its place by date: notices one that is put last, and one that takes another's place
+  pub snapped : with_snapshot (snap 1 (Pit 0 ∷ [])) (holding three_tables []) ≡ holding three_tables (snap 1 (Pit 0 ∷ []) ∷ [])
+  pub snapped_first : with_snapshot (snap 1 (Pit 0 ∷ [])) (holding three_tables (snap 2 [] ∷ snap 3 [] ∷ [])) ≡ holding three_tables (snap 1 (Pit 0 ∷ []) ∷ snap 2 [] ∷ snap 3 [] ∷ [])
+  pub snapped_between : with_snapshot (snap 2 (Pit 0 ∷ [])) (holding three_tables (snap 1 [] ∷ snap 3 [] ∷ [])) ≡ holding three_tables (snap 1 [] ∷ snap 2 (Pit 0 ∷ []) ∷ snap 3 [] ∷ [])
+  pub snapped_last : with_snapshot (snap 3 (Pit 0 ∷ [])) (holding three_tables (snap 1 [] ∷ snap 2 [] ∷ [])) ≡ holding three_tables (snap 1 [] ∷ snap 2 [] ∷ snap 3 (Pit 0 ∷ []) ∷ [])
   pub staged_at : IsStagedAt (day 1) (Some first_loaded)
   pub staged_later : IsStagedAt (day 2) (Some first_loaded) → ⊥
   pub not_staged : IsStagedAt (day 1) None → ⊥

@@ -38,6 +38,13 @@ bare = record {
 abbrev pub with_customers_and_sites : Mapping
 with_customers_and_sites = record bare { hubs = hub (codes "customer") ∷ record { name = codes "site"; parts = 2 } ∷ [] }
 
+-- and with that hub first
+abbrev pub with_sites_and_customers : Mapping
+with_sites_and_customers = record bare {
+  hubs = record { name = codes "site"; parts = 2 } ∷ hub (codes "customer") ∷ [];
+  feeds = feed (codes "customers") (codes "crm") (Hub 1) (columns (codes "CUST_NO" ∷ [])) [] [] [] ∷ [];
+}
+
 abbrev pub customers : FeedDef
 customers = feed (codes "customers") (codes "crm") (Hub 0) (columns (codes "CUST_NO" ∷ [])) [] (codes "NAME" ∷ []) []
 
@@ -153,6 +160,68 @@ with_places = record {
   feeds =
       customers ∷ feed (codes "sites") (codes "geo") (Hub 1) ((codes "REGION" ∷ codes "SITE" ∷ []) ∷ []) [] (codes "AREA" ∷ []) [] ∷ [];
   paths = [];
+}
+
+-- two feeds of one link, and a path that takes the first of them twice
+abbrev pub with_imports : Mapping
+with_imports = record {
+  hubs = hub (codes "customer") ∷ hub (codes "sales_order") ∷ [];
+  links = link (codes "placed") (0 ∷ 1 ∷ []) ∷ [];
+  feeds =
+      feed (codes "placements") (codes "shop") (Link 0) (columns (codes "CUST" ∷ codes "ORD" ∷ [])) [] [] []
+      ∷ feed (codes "imports") (codes "old") (Link 0) (columns (codes "CUST" ∷ codes "ORD" ∷ [])) [] [] []
+      ∷ [];
+  paths = record { name = codes "shared"; feeds = 0 ∷ 0 ∷ []; via = 1 ∷ [] } ∷ [];
+}
+
+-- a driving key beside an attribute
+abbrev pub with_roles : Mapping
+with_roles = record with_drivers {
+  feeds = feed (codes "assignments") (codes "hr") (Link 0) (columns (codes "EMP" ∷ codes "DEPT" ∷ [])) [] (codes "ROLE" ∷ []) (0 ∷ []) ∷ [];
+}
+
+-- several rows for one key, told apart by two columns
+abbrev pub with_lines : Mapping
+with_lines = record with_phones {
+  feeds =
+      feed (codes "phones") (codes "crm") (Hub 0) (columns (codes "CUST_NO" ∷ [])) (codes "KIND" ∷ codes "AT" ∷ []) (codes "PHONE" ∷ []) [] ∷ [];
+}
+
+-- feeds of one hub with an attribute, with a sub, and of keys alone
+abbrev pub with_all_kinds : Mapping
+with_all_kinds = record {
+  hubs = hub (codes "customer") ∷ [];
+  links = [];
+  feeds =
+      customers
+      ∷ feed (codes "phones") (codes "crm") (Hub 0) (columns (codes "CUST_NO" ∷ [])) (codes "KIND" ∷ []) (codes "PHONE" ∷ []) []
+      ∷ feed (codes "visits") (codes "shop") (Hub 0) (columns (codes "CUST_NO" ∷ [])) [] [] []
+      ∷ [];
+  paths = [];
+}
+
+-- two links that share a hub whose keys have two parts
+abbrev pub with_stocks : Mapping
+with_stocks = record {
+  hubs = hub (codes "customer") ∷ record { name = codes "site"; parts = 2 } ∷ hub (codes "product") ∷ [];
+  links = link (codes "visited") (0 ∷ 1 ∷ []) ∷ link (codes "stocked") (1 ∷ 2 ∷ []) ∷ [];
+  feeds =
+      feed (codes "visits") (codes "shop") (Link 0) ((codes "CUST" ∷ []) ∷ (codes "REGION" ∷ codes "SITE" ∷ []) ∷ []) [] [] []
+      ∷ feed (codes "stocks") (codes "shop") (Link 1) ((codes "REGION" ∷ codes "SITE" ∷ []) ∷ (codes "PROD" ∷ []) ∷ []) [] [] []
+      ∷ [];
+  paths = record { name = codes "found"; feeds = 0 ∷ 1 ∷ []; via = 1 ∷ [] } ∷ [];
+}
+
+-- a link of three hubs, and a path from it over its last hub
+abbrev pub with_owners : Mapping
+with_owners = record {
+  hubs = hub (codes "employee") ∷ hub (codes "department") ∷ hub (codes "project") ∷ hub (codes "customer") ∷ [];
+  links = link (codes "staffs") (0 ∷ 1 ∷ 2 ∷ []) ∷ link (codes "owns") (3 ∷ 2 ∷ []) ∷ [];
+  feeds =
+      feed (codes "teams") (codes "hr") (Link 0) (columns (codes "EMP" ∷ codes "DEPT" ∷ codes "PROJ" ∷ [])) [] [] []
+      ∷ feed (codes "owners") (codes "crm") (Link 1) (columns (codes "CUST" ∷ codes "PROJ" ∷ [])) [] [] []
+      ∷ [];
+  paths = record { name = codes "served"; feeds = 0 ∷ 1 ∷ []; via = 2 ∷ [] } ∷ [];
 }
 
 -- a link of three hubs with two driving keys

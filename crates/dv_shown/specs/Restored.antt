@@ -1,22 +1,28 @@
 -- What the tables say of dates.
-use Rattle.std.specs.Prelude.{◌≡◌, true, false, List, [], ◌∷◌, Some, None, codes, reverse}
+use Rattle.std.specs.Option.{option_map}
+use Rattle.std.specs.Prelude.{◌≡◌, ◌+◌, true, false, List, [], ◌∷◌, Some, None, codes, reverse}
+use Rattle.dv_text.specs.Stamps.{open_end}
 use Rattle.dv_catalog.specs.declared.entries.Parent.TheVariants.{Hub}
 use Rattle.dv_catalog.specs.Feeds.{source}
 use Rattle.dv_records.specs.declared.raw_rows.Code.TheVariants.{I, D}
+use Rattle.dv_records.specs.declared.raw_rows.EffectRow.{EffectRow}
 use Rattle.dv_records.specs.declared.raw_rows.HubRow.{HubRow}
+use Rattle.dv_records.specs.declared.raw_rows.MultiRow.{MultiRow}
 use Rattle.dv_records.specs.declared.raw_rows.SatRow.{SatRow}
 use Rattle.dv_records.specs.declared.raw_rows.StatusRow.{StatusRow}
 use Rattle.dv_records.specs.Batches.{appended}
 use Rattle.dv_records.specs.Collisions.{collision_in}
+use Rattle.dv_records.specs.EffectPeriods.{effect_periods, is_of_one_run, last_of_runs}
 use Rattle.dv_records.specs.History.{IsInLoadOrder, history, up_to}
 use Rattle.dv_records.specs.Hubs.{hub_batch}
-use Rattle.dv_records.specs.Reconstruction.{HasKeysAlone, first_attrs, present_at, present_keys, valid_at}
+use Rattle.dv_records.specs.Reconstruction.{HasKeysAlone, all_valid_at, first_attrs, present_at, present_keys, valid_at}
 use Rattle.dv_records.specs.Satellites.{last_rows}
+use Rattle.dv_records.specs.Snapshots.{changed_at}
 use Rattle.dv_records.specs.Statuses.{status_batch}
 use Rattle.dv_records.specs.Vault.{feed_batch}
 use Rattle.dv_shown.specs.Mappings.{bare}
-use Rattle.dv_shown.specs.Windows.{coming_and_going, keys_come_and_go}
-use Rattle.dv_shown.specs.Words.{bare_row, day, in_sat, in_status, key, leap_day, plain, year_2030}
+use Rattle.dv_shown.specs.Windows.{coming_and_going, fewer_phones, keys_come_and_go, older_again}
+use Rattle.dv_shown.specs.Words.{bare_row, day, in_effect, in_multi, in_sat, in_status, key, leap_day, plain, year_2030}
 
 -- a key appears, vanishes and appears again, among the rows of another
 abbrev pub appearing : List StatusRow
@@ -56,6 +62,75 @@ pub record ValidHold : Type 0 where
   -- the attributes of when the key was last there
   pub last_there : first_attrs (last_rows (up_to (day 2) (history 0 (reverse coming_and_going))) (key (codes "1") ∷ [])) ≡ Some (codes "abc" ∷ [])
   pub never_there : first_attrs (last_rows (up_to (day 2) (history 0 (reverse coming_and_going))) (key (codes "2") ∷ [])) ≡ None
+
+-- the satellite's rows of an attribute that changes, before its key goes and comes again with the older one
+abbrev pub sats_shown : List SatRow
+sats_shown =
+    in_sat (codes "1") 1 (codes "crm.customers") (codes "x")
+    ∷ in_sat (codes "1") 2 (codes "crm.customers") (codes "y")
+    ∷ in_sat (codes "1") 4 (codes "crm.customers") (codes "x")
+    ∷ []
+
+-- the rows of two owners, of whom one loses a number
+abbrev pub multis_shown : List MultiRow
+multis_shown =
+    in_multi (codes "1") 1 (codes "crm.phones") (codes "home") (codes "10")
+    ∷ in_multi (codes "1") 1 (codes "crm.phones") (codes "work") (codes "11")
+    ∷ in_multi (codes "2") 1 (codes "crm.phones") (codes "fax") (codes "20")
+    ∷ in_multi (codes "1") 2 (codes "crm.phones") (codes "work") (codes "11")
+    ∷ []
+
+-- a point-in-time row's load date is that of the satellite row that is valid at its date: each pair notices a load date of
+-- the last extract that held the key, or one past the date
+pub record CellsTold : Type 0 where
+  pub row_before : option_map (λ row. row.load) (valid_at sats_shown (codes "1") leap_day) ≡ None
+  pub cell_before : changed_at (up_to leap_day (history 0 (reverse older_again))) (key (codes "1") ∷ []) ≡ None
+  pub row_second : option_map (λ row. row.load) (valid_at sats_shown (codes "1") (day 2)) ≡ Some (day 2)
+  pub cell_second : changed_at (up_to (day 2) (history 0 (reverse older_again))) (key (codes "1") ∷ []) ≡ Some (day 2)
+  pub row_gone : option_map (λ row. row.load) (valid_at sats_shown (codes "1") (day 3)) ≡ Some (day 2)
+  pub cell_gone : changed_at (up_to (day 3) (history 0 (reverse older_again))) (key (codes "1") ∷ []) ≡ Some (day 2)
+  pub row_again : option_map (λ row. row.load) (valid_at sats_shown (codes "1") year_2030) ≡ Some (day 4)
+  pub cell_again : changed_at (up_to year_2030 (history 0 (reverse older_again))) (key (codes "1") ∷ []) ≡ Some (day 4)
+  pub rows_fewer : all_valid_at multis_shown (codes "1") (day 2) ≡ in_multi (codes "1") 2 (codes "crm.phones") (codes "work") (codes "11") ∷ []
+  pub cell_fewer : changed_at (up_to (day 2) (history 0 (reverse fewer_phones))) (key (codes "1") ∷ []) ≡ Some (day 2)
+  pub rows_first : all_valid_at multis_shown (codes "1") (day 1) ≡
+      in_multi (codes "1") 1 (codes "crm.phones") (codes "home") (codes "10") ∷ in_multi (codes "1") 1 (codes "crm.phones") (codes "work") (codes "11") ∷ []
+  pub cell_first : changed_at (up_to (day 1) (history 0 (reverse fewer_phones))) (key (codes "1") ∷ []) ≡ Some (day 1)
+  pub rows_of_other : all_valid_at multis_shown (codes "2") (day 2) ≡ in_multi (codes "2") 1 (codes "crm.phones") (codes "fax") (codes "20") ∷ []
+  pub cell_of_other : changed_at (up_to (day 2) (history 0 (reverse fewer_phones))) (key (codes "2") ∷ []) ≡ Some (day 1)
+
+-- the effectivity rows of an employee who changes department and comes back
+abbrev pub effects_shown : List EffectRow
+effects_shown =
+    in_effect (codes "1;P") 1 (codes "hr.assignments") (day 1) open_end
+    ∷ in_effect (codes "1;P") 2 (codes "hr.assignments") (day 1) (day 2)
+    ∷ in_effect (codes "1;Q") 2 (codes "hr.assignments") (day 2) open_end
+    ∷ in_effect (codes "1;P") 3 (codes "hr.assignments") (day 3) open_end
+    ∷ in_effect (codes "1;Q") 3 (codes "hr.assignments") (day 2) (day 3)
+    ∷ []
+
+pub record PeriodsTold : Type 0 where
+  -- of each run its closing row, else its opening one: notices a run that is told twice, and one that closes but has no row
+  pub all : effect_periods effects_shown year_2030 ≡
+      record { parent = codes "1;P"; begin = day 1; end = day 2 }
+      ∷ record { parent = codes "1;P"; begin = day 3; end = open_end }
+      ∷ record { parent = codes "1;Q"; begin = day 2; end = day 3 }
+      ∷ []
+  -- notices the closing row of a run that ends later, and a run that begins later
+  pub earlier : effect_periods effects_shown (day 2) ≡
+      record { parent = codes "1;P"; begin = day 1; end = day 2 } ∷ record { parent = codes "1;Q"; begin = day 2; end = open_end } ∷ []
+  pub between : effect_periods effects_shown (day 2 + 1) ≡
+      record { parent = codes "1;P"; begin = day 1; end = day 2 } ∷ record { parent = codes "1;Q"; begin = day 2; end = open_end } ∷ []
+  pub first : effect_periods effects_shown (day 1) ≡ record { parent = codes "1;P"; begin = day 1; end = open_end } ∷ []
+  pub before : effect_periods effects_shown leap_day ≡ []
+  -- notices rows of one run by their parent alone, or by their begin alone
+  pub other_run : is_of_one_run (in_effect (codes "1;P") 2 [] (day 1) (day 2)) (in_effect (codes "1;P") 3 [] (day 3) open_end) ≡ false
+  pub other_parent : is_of_one_run (in_effect (codes "1;P") 1 [] (day 1) open_end) (in_effect (codes "1;R") 1 [] (day 1) open_end) ≡ false
+  pub last_two : last_of_runs effects_shown ≡
+      in_effect (codes "1;P") 2 (codes "hr.assignments") (day 1) (day 2)
+      ∷ in_effect (codes "1;P") 3 (codes "hr.assignments") (day 3) open_end
+      ∷ in_effect (codes "1;Q") 3 (codes "hr.assignments") (day 2) (day 3)
+      ∷ []
 
 abbrev pub hubs_shown : List HubRow
 hubs_shown = appended (hub_batch bare plain 0) (reverse keys_come_and_go)

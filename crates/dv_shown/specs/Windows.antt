@@ -1,7 +1,8 @@
 -- Windows of the examples.
-use Rattle.std.specs.Prelude.{List, [], ◌∷◌, ◌++◌, codes}
+use Rattle.std.specs.Prelude.{ℕ, ◌+◌, List, [], ◌∷◌, ◌++◌, codes}
+use Rattle.dv_text.specs.declared.rows.NRow.{NRow}
 use Rattle.dv_text.specs.declared.rows.Window.{Window}
-use Rattle.dv_shown.specs.Words.{bare_row, described_row, named_row, pair_row, row, staged, window}
+use Rattle.dv_shown.specs.Words.{bare_row, described_row, key, named_row, pair_row, place, row, staged, window}
 
 -- ---- one feed of a hub
 
@@ -62,6 +63,38 @@ begun_alike =
     ∷ window 2 (staged 0 (named_row (codes "1") (codes "axe") ∷ []) ∷ [])
     ∷ []
 
+-- a key goes, and comes again with another attribute
+abbrev pub changed_while_away : List Window
+changed_while_away =
+    window 1 (staged 0 (named_row (codes "1") (codes "x") ∷ []) ∷ [])
+    ∷ window 2 (staged 0 [] ∷ [])
+    ∷ window 3 (staged 0 (named_row (codes "1") (codes "y") ∷ []) ∷ [])
+    ∷ []
+
+-- an attribute changes, the key goes, and comes again with the older attribute
+abbrev pub older_again : List Window
+older_again =
+    window 1 (staged 0 (named_row (codes "1") (codes "x") ∷ []) ∷ [])
+    ∷ window 2 (staged 0 (named_row (codes "1") (codes "y") ∷ []) ∷ [])
+    ∷ window 3 (staged 0 [] ∷ [])
+    ∷ window 4 (staged 0 (named_row (codes "1") (codes "x") ∷ []) ∷ [])
+    ∷ []
+
+-- two keys that read backwards in the other order
+abbrev pub two_digits : List Window
+two_digits = window 1 (staged 0 (bare_row (codes "12") ∷ bare_row (codes "21") ∷ []) ∷ []) ∷ []
+
+-- an attribute changes after three days, and a second key comes
+abbrev pub three_days_apart : List Window
+three_days_apart =
+    window 1 (staged 0 (named_row (codes "1") (codes "abc") ∷ []) ∷ [])
+    ∷ window 4 (staged 0 (named_row (codes "1") (codes "abd") ∷ named_row (codes "2") (codes "x") ∷ []) ∷ [])
+    ∷ []
+
+-- a window of two keys is open after one of two keys, of which it has one
+abbrev pub next_keys : Window
+next_keys = window 2 (staged 0 (bare_row (codes "A2") ∷ bare_row (codes "A3") ∷ []) ∷ [])
+
 -- ---- two feeds of a hub
 
 -- both feeds, then one
@@ -119,7 +152,101 @@ fewer_phones =
     ∷ []) ∷ [])
     ∷ []
 
+-- a number of a kind, of the first customer
+abbrev pub phone : List ℕ → List ℕ → NRow
+phone kind number = row (codes "1" ∷ []) (kind ∷ []) (number ∷ [])
+
+-- windows of one feed, one a day
+abbrev pub daily : ℕ → List (List NRow) → List Window
+daily n [] = []
+daily n (rows ∷ later) = window n (staged 0 rows ∷ []) ∷ daily (n + 1) later
+
+-- both numbers go, and come again
+abbrev pub phones_again : List Window
+phones_again =
+    daily 1 ((phone (codes "fax") (codes "12") ∷ phone (codes "home") (codes "10") ∷ []) ∷ [] ∷ (phone (codes "fax") (codes "12") ∷ phone (codes "home") (codes "10") ∷ []) ∷ [])
+
+-- both go, and one of them comes again
+abbrev pub one_again : List Window
+one_again = daily 1 ((phone (codes "fax") (codes "12") ∷ phone (codes "home") (codes "10") ∷ []) ∷ [] ∷ (phone (codes "home") (codes "10") ∷ []) ∷ [])
+
+-- two kinds swap their numbers
+abbrev pub swapped : List Window
+swapped = daily 1 ((phone (codes "fax") (codes "12") ∷ phone (codes "home") (codes "10") ∷ []) ∷ (phone (codes "fax") (codes "10") ∷ phone (codes "home") (codes "12") ∷ []) ∷ [])
+
+-- a number changes its kind
+abbrev pub kind_renamed : List Window
+kind_renamed = daily 1 ((phone (codes "home") (codes "10") ∷ []) ∷ (phone (codes "work") (codes "10") ∷ []) ∷ [])
+
+-- a second number comes
+abbrev pub phone_added : List Window
+phone_added = daily 1 ((phone (codes "home") (codes "10") ∷ []) ∷ (phone (codes "fax") (codes "12") ∷ phone (codes "home") (codes "10") ∷ []) ∷ [])
+
+-- a number changes, but for its first digit
+abbrev pub phone_alike : List Window
+phone_alike = daily 1 ((phone (codes "home") (codes "10") ∷ []) ∷ (phone (codes "home") (codes "12") ∷ []) ∷ [])
+
+-- a number of a kind at a place
+abbrev pub phone_at : List ℕ → List ℕ → List ℕ → NRow
+phone_at kind at number = row (codes "1" ∷ []) (kind ∷ at ∷ []) (number ∷ [])
+
+-- one of three numbers changes its place
+abbrev pub moved_phones : List Window
+moved_phones =
+    daily 1 (
+    (phone_at (codes "fax") (codes "A") (codes "1") ∷ phone_at (codes "fax") (codes "B") (codes "2") ∷ phone_at (codes "home") (codes "A") (codes "3") ∷ [])
+    ∷ (phone_at (codes "fax") (codes "A") (codes "1") ∷ phone_at (codes "fax") (codes "B") (codes "2") ∷ phone_at (codes "home") (codes "B") (codes "3") ∷ [])
+    ∷ [])
+
+-- ---- feeds of one hub with an attribute, with a sub, and of keys alone
+
+abbrev pub all_kinds : List Window
+all_kinds =
+    window 1 (
+    staged 0 (named_row (codes "1") (codes "abc") ∷ named_row (codes "2") (codes "x") ∷ [])
+    ∷ staged 1 (
+    phone (codes "fax") (codes "12")
+    ∷ phone (codes "home") (codes "10")
+    ∷ row (codes "3" ∷ []) (codes "home" ∷ []) (codes "30" ∷ [])
+    ∷ [])
+    ∷ staged 2 (bare_row (codes "2") ∷ bare_row (codes "4") ∷ [])
+    ∷ [])
+    ∷ window 2 (staged 1 (phone (codes "fax") (codes "12") ∷ []) ∷ staged 2 [] ∷ [])
+    ∷ []
+
 -- ---- a link with a driving key
+
+-- an employee gets another role, and then another department
+abbrev pub promoted : List Window
+promoted =
+    daily 1 (
+    (described_row (codes "1") (codes "P") (codes "clerk") ∷ [])
+    ∷ (described_row (codes "1") (codes "P") (codes "chief") ∷ [])
+    ∷ (described_row (codes "1") (codes "Q") (codes "chief") ∷ [])
+    ∷ [])
+
+-- an employee, a department and a project
+abbrev pub team : List ℕ → List ℕ → List ℕ → NRow
+team employee department project = row (employee ∷ department ∷ project ∷ []) [] []
+
+-- two teams that share one of two driving keys, of which one gets another project
+abbrev pub one_driver_shared : List Window
+one_driver_shared =
+    daily 1 (
+    (team (codes "1") (codes "P") (codes "X") ∷ team (codes "1") (codes "Q") (codes "Y") ∷ [])
+    ∷ (team (codes "1") (codes "P") (codes "Z") ∷ team (codes "1") (codes "Q") (codes "Y") ∷ [])
+    ∷ [])
+
+-- an assignment changes after three days
+abbrev pub assigned_later : List Window
+assigned_later =
+    window 1 (staged 0 (pair_row (codes "1") (codes "P") ∷ []) ∷ [])
+    ∷ window 4 (staged 0 (pair_row (codes "1") (codes "Q") ∷ []) ∷ [])
+    ∷ []
+
+-- two assignments whose texts read backwards in the other order
+abbrev pub crossed_pairs : List Window
+crossed_pairs = window 1 (staged 0 (pair_row (codes "1") (codes "P2") ∷ pair_row (codes "2") (codes "P1") ∷ []) ∷ []) ∷ []
 
 -- an employee changes department and comes back
 abbrev pub assignments : List Window
@@ -204,6 +331,49 @@ placed_first =
     ∷ window 2 (
     staged 0 (pair_row (codes "2") (codes "O1") ∷ [])
     ∷ staged 2 (bare_row (codes "1") ∷ bare_row (codes "2") ∷ bare_row (codes "3") ∷ [])
+    ∷ [])
+    ∷ []
+
+-- an order by the first of two feeds, one by both and one by the second, which then has the first order and not the other
+abbrev pub imported : List Window
+imported =
+    window 1 (
+    staged 0 (pair_row (codes "1") (codes "O1") ∷ pair_row (codes "2") (codes "O2") ∷ [])
+    ∷ staged 1 (pair_row (codes "2") (codes "O2") ∷ pair_row (codes "3") (codes "O3") ∷ [])
+    ∷ [])
+    ∷ window 2 (staged 1 (pair_row (codes "1") (codes "O1") ∷ pair_row (codes "3") (codes "O3") ∷ []) ∷ [])
+    ∷ []
+
+-- an order that two customers share, and one of the second alone
+abbrev pub shared_order : List Window
+shared_order = daily 1 ((pair_row (codes "1") (codes "O1") ∷ pair_row (codes "2") (codes "O1") ∷ pair_row (codes "2") (codes "O2") ∷ []) ∷ [])
+
+-- no line is left after three days
+abbrev pub orders_emptied : List Window
+orders_emptied = orders ++ window 4 (staged 1 [] ∷ []) ∷ []
+
+-- a customer at a site, and a product at a site
+abbrev pub visit : List ℕ → List ℕ → List ℕ → NRow
+visit customer region site = record { refs = key customer ∷ place region site ∷ []; sub = []; attrs = [] }
+
+abbrev pub stock : List ℕ → List ℕ → List ℕ → NRow
+stock region site product = record { refs = place region site ∷ key product ∷ []; sub = []; attrs = [] }
+
+-- two visited sites, of which one has stock, and stock at a site that has one part with it in common
+abbrev pub stocked : List Window
+stocked =
+    window 1 (
+    staged 0 (visit (codes "1") (codes "NORTH") (codes "A") ∷ visit (codes "2") (codes "NORTH") (codes "B") ∷ [])
+    ∷ staged 1 (stock (codes "NORTH") (codes "A") (codes "P1") ∷ stock (codes "SOUTH") (codes "A") (codes "P2") ∷ [])
+    ∷ [])
+    ∷ []
+
+-- two teams of one project and one of another, and owners of two projects
+abbrev pub owned : List Window
+owned =
+    window 1 (
+    staged 0 (team (codes "1") (codes "P") (codes "X") ∷ team (codes "1") (codes "Q") (codes "X") ∷ team (codes "2") (codes "P") (codes "Y") ∷ [])
+    ∷ staged 1 (pair_row (codes "C") (codes "X") ∷ pair_row (codes "D") (codes "Z") ∷ [])
     ∷ [])
     ∷ []
 

@@ -38,6 +38,10 @@ year_2030 = 4102444800
 abbrev pub key : List ℕ → Key
 key part = record { parts = part ∷ [] }
 
+-- a key of two parts
+abbrev pub place : List ℕ → List ℕ → Key
+place region site = record { parts = region ∷ site ∷ [] }
+
 -- a row whose keys have one part each
 abbrev pub row : List (List ℕ) → List (List ℕ) → List (List ℕ) → NRow
 row keys sub attrs = record { refs = map key keys; sub = sub; attrs = attrs }
@@ -76,6 +80,10 @@ first_byte (b ∷ text) = b ∷ replicate 15 1
 
 abbrev pub tiny : Hashes
 tiny = hashes_of first_byte 16
+
+-- the text backwards, so that hash keys have another order than keys
+abbrev pub mirrored : Hashes
+mirrored = hashes_of (λ text. reverse text) 1
 
 -- the zero key for each text with a semicolon, and the text in place of its digest for any other
 abbrev pub zero_if_joined : List ℕ → List ℕ

@@ -8,18 +8,18 @@ ghost use Rattle.dv_shown.specs.Contents.{ContentsHold};
 ghost use Rattle.dv_shown.specs.Counts.{CountsHold, WeightsHold};
 ghost use Rattle.dv_shown.specs.Declared.{FaultsDeclared, FilesDeclared, MappingsDeclared, PlacesUnbuilt, TablesDeclared};
 ghost use Rattle.dv_shown.specs.Digested.{HashesDigested, LinkDigested, PitDigested, SatelliteDigested, StatusDigested};
-ghost use Rattle.dv_shown.specs.Kept.{ChangesMade, SnapshotsKept, StoresChanged, TablesKept};
+ghost use Rattle.dv_shown.specs.Kept.{ChangesMade, SnapshotsKept, SnapshotsRead, StoresChanged, TablesKept};
 ghost use Rattle.dv_shown.specs.Limited.{LimitsKept, LimitsPassed};
 ghost use Rattle.dv_shown.specs.Listed.{ManifestsRead};
 ghost use Rattle.dv_shown.specs.Normals.{DatesHold, KeysHold, NormalsHold};
 ghost use Rattle.dv_shown.specs.Printed.{QueriesPrinted, RulesPrinted};
 ghost use Rattle.dv_shown.specs.Read.{ExtractsRead};
 ghost use Rattle.dv_shown.specs.ReadBacks.{MultiReadBackHolds, ReadBackHolds, ReadBackMeets};
-ghost use Rattle.dv_shown.specs.Restored.{PremisesMet, PresenceHolds, RestoredHold, ValidHold};
-ghost use Rattle.dv_shown.specs.Selected.{HubMartsHold, PathMartsHold, PeriodMartsHold};
+ghost use Rattle.dv_shown.specs.Restored.{CellsTold, PeriodsTold, PremisesMet, PresenceHolds, RestoredHold, ValidHold};
+ghost use Rattle.dv_shown.specs.Selected.{BetweenHold, HubMartsHold, PathMartsHold, PeriodMartsHold};
 ghost use Rattle.dv_shown.specs.Snapped.{PitsHold, SnapshotsHold};
 ghost use Rattle.dv_shown.specs.Stepped.{InitsStep, LoadsStep, ResumesStep, SnapshotsStep, StoresStand};
-ghost use Rattle.dv_shown.specs.Tables.{EffectsHold, HubsHold, LinksHold, SatellitesHold, StatusesHold, UpToHold};
+ghost use Rattle.dv_shown.specs.Tables.{DrivenHold, EffectsHold, HubsHold, LinksHold, MultisHold, SatellitesHold, StatusesHold, UpToHold};
 ghost use Rattle.dv_shown.specs.Vaults.{VaultsHold};
 ghost use Rattle.dv_shown.specs.Written.{BridgeWritten, EffectWritten, LinkWritten, MartsWritten, MultiWritten, PitWritten, StatusWritten, TablesWritten, WordsHold};
 
@@ -63,9 +63,14 @@ pub fn links_hold()
     ensures { LinksHold }
 {}
 
-/// Satellites, plain and multi-active, after windows.
+/// Satellites after windows.
 pub fn satellites_hold()
     ensures { SatellitesHold }
+{}
+
+/// Multi-active satellites whose rows come, go and change.
+pub fn multis_hold()
+    ensures { MultisHold }
 {}
 
 /// Status tables after windows.
@@ -76,6 +81,11 @@ pub fn statuses_hold()
 /// Effectivity tables after windows.
 pub fn effects_hold()
     ensures { EffectsHold }
+{}
+
+/// Driving keys beside attributes, and driving keys that are shared.
+pub fn driven_hold()
+    ensures { DrivenHold }
 {}
 
 /// The rows of tables up to dates.
@@ -111,6 +121,11 @@ pub fn hub_marts_hold()
 /// Path marts, and how large their prefixes are.
 pub fn path_marts_hold()
     ensures { PathMartsHold }
+{}
+
+/// Marts before the first window and between windows.
+pub fn between_hold()
+    ensures { BetweenHold }
 {}
 
 /// Period marts at dates.
@@ -161,6 +176,16 @@ pub fn presence_holds()
 /// Which satellite row is valid for a parent at dates.
 pub fn valid_hold()
     ensures { ValidHold }
+{}
+
+/// The load dates of point-in-time cells, beside those of the satellite rows that are valid.
+pub fn cells_told()
+    ensures { CellsTold }
+{}
+
+/// The periods that effectivity rows tell at dates.
+pub fn periods_told()
+    ensures { PeriodsTold }
 {}
 
 /// Contents that are read back from a hub's table and a status table.
@@ -307,6 +332,11 @@ pub fn tables_kept()
 /// The order of a store's snapshots and their tables.
 pub fn snapshots_kept()
     ensures { SnapshotsKept }
+{}
+
+/// The rows of stored snapshots.
+pub fn snapshots_read()
+    ensures { SnapshotsRead }
 {}
 
 /// What changes make of a store.

@@ -2,15 +2,18 @@ use Rattle.dv_shown.proofs.Vocabulary.{◌≡◌, ℕ, inl, inr, refl, ap, arith
 use Rattle.dv_shown.proofs.Literals.{extracts_on_literals}
 use Rattle.dv_shown.proofs.loads_step.Goals as goal
 
--- how many windows a state has sealed, and how many it has open
+-- how many windows a state has sealed, and how many it has open, and how many snapshots
 sealed_count : State → ℕ
 sealed_count state = length state.sealed
 
 open_count : State → ℕ
 open_count state = length (option_to_list state.begun)
 
+date_count : State → ℕ
+date_count state = length state.dates
+
 pub returns : goal.returns
-unfolding extracts_on_literals sealed_count open_count
+unfolding extracts_on_literals sealed_count open_count date_count
 returns c =
     record {
       loaded = (refl, refl, refl);
@@ -37,4 +40,8 @@ returns c =
       refused_not_opened_for_memory = λ s. ⊎_elim (λ same. let e : 1 ≡ 0 = ap open_count same in omega (arith, e)) (λ r. let e : Refused NoExtracts ≡ Load = r.0 in cc) s;
       fault_elsewhere = λ s. ⊎_elim (λ same. let e : 2 ≡ 0 = ap sealed_count same in omega (arith, e)) (λ r. ⊎_elim (λ o. let e : 2 ≡ 0 = ap sealed_count o in omega (arith, e)) (λ o. let e : 2 ≡ 1 = ap sealed_count o in omega (arith, e)) r.1) s;
       memory_elsewhere = λ s. ⊎_elim (λ same. let e : 2 ≡ 0 = ap sealed_count same in omega (arith, e)) (λ r. ⊎_elim (λ o. let e : 2 ≡ 0 = ap sealed_count o in omega (arith, e)) (λ o. let e : 2 ≡ 1 = ap sealed_count o in omega (arith, e)) r.1) s;
+      beside_snapshot = (refl, refl, refl);
+      snapshot_lost = λ s. let e : 0 ≡ 1 = ap date_count s.1 in omega (arith, e);
+      open_beside_snapshot = inr (refl, inl refl);
+      open_without = λ s. ⊎_elim (λ same. let e : 0 ≡ 1 = ap date_count same in omega (arith, e)) (λ r. ⊎_elim (λ o. let e : 0 ≡ 1 = ap date_count o in omega (arith, e)) (λ o. let e : 0 ≡ 1 = ap date_count o in omega (arith, e)) r.1) s;
     }

@@ -1,4 +1,4 @@
-use Rattle.dv_shown.proofs.Vocabulary.{◌≡◌, ℕ, inl, inr, refl, ap, arith, length, ⊎_elim, Some, None, [], sym, ◌∙◌, State, Window, loaded, first_loaded, with_names, plain}
+use Rattle.dv_shown.proofs.Vocabulary.{◌≡◌, ℕ, inl, inr, refl, ap, arith, length, ⊎_elim, Some, None, [], sym, ◌∙◌, State, Window, loaded, first_loaded, renamed, with_names, plain}
 use Rattle.dv_shown.proofs.resumes_step.Goals as goal
 
 not_two : (window : Window) → Some first_loaded ≡ Some window → 2 ≡ loaded with_names plain [] window → ⊥
@@ -7,12 +7,15 @@ not_two window is rows =
     let e : 2 ≡ 3 = rows ∙ ap (loaded with_names plain []) (sym same) in
     omega (arith, e)
 
--- how many windows a state has sealed
+-- how many windows a state has sealed, and how many snapshots
 sealed_count : State → ℕ
 sealed_count state = length state.sealed
 
+date_count : State → ℕ
+date_count state = length state.dates
+
 pub returns : goal.returns
-unfolding sealed_count
+unfolding sealed_count date_count
 returns c =
     record {
       loaded = (first_loaded, refl, refl, refl);
@@ -30,4 +33,10 @@ returns c =
       fault_elsewhere = λ s. ⊎_elim (λ same. let e : 2 ≡ 0 = ap sealed_count same in omega (arith, e)) (λ r. let e : 2 ≡ 1 = ap sealed_count r.2 in omega (arith, e)) s;
       memory_elsewhere = λ s. ⊎_elim (λ same. let e : 2 ≡ 0 = ap sealed_count same in omega (arith, e)) (λ r. let e : 2 ≡ 1 = ap sealed_count r.2 in omega (arith, e)) s;
       nothing_to_seal = λ s. ⊎_elim (λ same. let e : 2 ≡ 1 = ap sealed_count same in omega (arith, e)) (λ r. let e : None ≡ Some r.0 = r.1 in cc) s;
+      beside_snapshot = (renamed, refl, refl, refl);
+      snapshot_lost = λ s. let e : 0 ≡ 1 = ap date_count s.2 in omega (arith, e);
+      fault_beside_snapshot = inr (renamed, refl, refl);
+      fault_without = λ s. ⊎_elim (λ same. let e : 0 ≡ 1 = ap date_count same in omega (arith, e)) (λ r. let e : 0 ≡ 1 = ap date_count r.2 in omega (arith, e)) s;
+      damaged = refl;
+      damaged_not_sealed = λ s. let e : 2 ≡ 1 = ap sealed_count s in omega (arith, e);
     }

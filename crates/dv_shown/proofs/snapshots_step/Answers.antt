@@ -1,4 +1,4 @@
-use Rattle.dv_shown.proofs.Vocabulary.{◌≡◌, ℕ, slice_index, inl, inr, refl, ap, arith, length, ⊎_elim, Some, None, State, Future, day}
+use Rattle.dv_shown.proofs.Vocabulary.{◌≡◌, ℕ, slice_index, inl, inr, refl, ap, arith, length, ⊎_elim, option_to_list, Some, None, State, Future, day}
 use Rattle.dv_records.specs.declared.answers.SnapAnswer.TheVariants.{Repeated}
 use Rattle.dv_shown.proofs.snapshots_step.Goals as goal
 
@@ -9,8 +9,12 @@ date_count state = length state.dates
 first_date : State → ℕ
 first_date state = slice_index state.dates 0
 
+-- how many windows it has open
+open_count : State → ℕ
+open_count state = length (option_to_list state.begun)
+
 pub returns : goal.returns
-unfolding date_count first_date
+unfolding date_count first_date open_count
 returns c =
     record {
       stored = (refl, refl, refl);
@@ -36,4 +40,8 @@ returns c =
       fault_elsewhere = λ s. ⊎_elim (λ same. let e : 1 ≡ 0 = ap date_count same in omega (arith, e)) (λ r. let e : day 1 ≡ day 2 = ap first_date r.1 in omega (arith, e)) s;
       future_before_repeated = refl;
       open_is_future = refl;
+      beside_open = (refl, refl, refl);
+      open_lost = λ s. let e : 0 ≡ 1 = ap open_count s.1 in omega (arith, e);
+      at_open = (refl, refl);
+      at_open_not_stored = λ s. let e : Some (Future (Some (day 1))) ≡ None = s.0 in cc;
     }

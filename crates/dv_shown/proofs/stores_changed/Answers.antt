@@ -8,6 +8,10 @@ returns c =
       staged = refl;
       filled = refl;
       sealed = refl;
+      snapped = refl;
+      snapped_first = refl;
+      snapped_between = refl;
+      snapped_last = refl;
       staged_at = refl;
       staged_later = λ s. let e : day 1 ≡ day 2 = s in omega (arith, e);
       not_staged = λ s. s;

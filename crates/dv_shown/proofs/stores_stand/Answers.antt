@@ -1,5 +1,6 @@
-use Rattle.dv_shown.proofs.Vocabulary.{◌≡◌, ℕ, zero, suc, List, [], refl, ap, ◌∙◌, arith, length, map, Option, Some, None, true, false, slice_get, Result, Ok, Err, unwrap_or, MapError, Status, Mapping, read_mapping, HasTables, IsMappedBy}
-use Rattle.dv_shown.proofs.Vocabulary.{row_count, partial, bare, two_keys_window, day, plain, chars, is_utf8, toml_on_literals, bare_file, other_file, status_first, two_staged}
+use Rattle.dv_records.specs.declared.stores.Rows.TheVariants.{Hubs, Statuses}
+use Rattle.dv_shown.proofs.Vocabulary.{◌≡◌, ◌==◌, if◌then◌else◌, Bool, sym, ℕ, zero, suc, List, [], ◌∷◌, refl, ap, ◌∙◌, arith, length, map, Option, Some, None, true, false, slice_get, Result, Ok, Err, unwrap_or, MapError, Status, Mapping, read_mapping, HasTables, IsMappedBy}
+use Rattle.dv_shown.proofs.Vocabulary.{row_count, partial, vault, bare, two_keys_window, day, plain, chars, is_utf8, toml_on_literals, bare_file, hub_first, mapped as holding, next_keys, next_staged, other_file, status_first, two_keys, two_present, two_staged}
 use Rattle.dv_catalog.specs.declared.tables.TableId.TheVariants.{Hub}
 use Rattle.dv_shown.proofs.stores_stand.Goals as goal
 
@@ -7,6 +8,12 @@ use Rattle.dv_shown.proofs.stores_stand.Goals as goal
 no_gap : (k : ℕ) → HasTables (two_staged status_first) (partial bare plain [] two_keys_window k) → ⊥
 no_gap zero tables = let e : 2 ≡ 0 = ap row_count (tables (Status 0)) in omega (arith, e)
 no_gap (suc k) tables = let e : 0 ≡ 2 = ap row_count (tables (Hub 0)) in omega (arith, e)
+
+-- nor does it lose the rows of sealed windows
+none_lost : (k : ℕ) → HasTables (next_staged hub_first (two_present ∷ [])) (partial bare plain two_keys next_keys k) → ⊥
+none_lost zero tables = let e : 0 ≡ 2 = ap row_count (tables (Status 0)) in omega (arith, e)
+none_lost (suc zero) tables = let e : 0 ≡ 2 = ap row_count (tables (Status 0)) in omega (arith, e)
+none_lost (suc (suc k)) tables = let e : 0 ≡ 4 = ap row_count (tables (Status 0)) in omega (arith, e)
 
 -- how many hubs a text declares
 hub_count : Result Mapping MapError → ℕ
@@ -25,6 +32,16 @@ unfolding hubs_in hub_count
 not_mapped mapped =
     let one : hubs_in (Some other_file) ≡ 1 = ap hubs_in mapped.stored_is ∙ ap hub_count mapped.reads in
     omega (arith, one, counts_two)
+
+-- before the first window no table has rows
+either : {X : Type 0} (b : Bool) (x : X) → (if b then x else x) ≡ x
+either true x = refl
+either false x = refl
+
+none_yet : HasTables (holding bare_file) (vault bare plain [])
+none_yet (Hub n) = sym (either (0 == n) (Hubs []))
+none_yet (Status n) = sym (either (0 == n) (Statuses []))
+none_yet table = refl
 
 pub returns : goal.returns
 unfolding toml_on_literals is_utf8 chars
@@ -57,6 +74,19 @@ returns c =
         tables_stand = (2, omega arith, λ table. refl);
         snapshots = refl;
       };
+      beginning_stands = record { valid = refl; mapped = mapped; windows = refl; stage = refl; tables_stand = none_yet; snapshots = refl };
+      snapshot_put = refl;
+      open_over_sealed = record {
+        valid = refl;
+        mapped = mapped;
+        windows = refl;
+        stage = refl;
+        tables_stand = (1, omega arith, λ table. refl);
+        snapshots = refl;
+      };
+      sealed_rows_lost = λ s. none_lost s.tables_stand.0 s.tables_stand.2;
+      snapshot_missing = λ s. let e : 0 ≡ 1 = ap length s.snapshots in omega (arith, e);
+      snapshot_of_open = λ s. let e : day 2 ≡ day 1 = ap (λ snaps. unwrap_or (slice_get (map (λ snap. snap.head.date) snaps) 0) 0) s.snapshots in omega (arith, e);
       out_of_order = λ s. no_gap s.tables_stand.0 s.tables_stand.2;
       not_valid = λ s. let e : false ≡ true = s.valid in cc;
       no_mapping = λ s. let e : None ≡ Some s.mapped.text = s.mapped.stored_is in cc;
