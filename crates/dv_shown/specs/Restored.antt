@@ -80,9 +80,9 @@ multis_shown =
     ∷ in_multi (codes "1") 2 (codes "crm.phones") (codes "work") (codes "11")
     ∷ []
 
--- a point-in-time row's load date is that of the satellite row that is valid at its date: each pair notices a load date of
--- the last extract that held the key, or one past the date
+-- a point-in-time row's load date is that of the satellite row that is valid at its date: the row's, and then the cell's
 pub record CellsTold : Type 0 where
+  -- notices a load date past the date, and that of an extract without the key
   pub row_before : option_map (λ row. row.load) (valid_at sats_shown (codes "1") leap_day) ≡ None
   pub cell_before : changed_at (up_to leap_day (history 0 (reverse older_again))) (key (codes "1") ∷ []) ≡ None
   pub row_second : option_map (λ row. row.load) (valid_at sats_shown (codes "1") (day 2)) ≡ Some (day 2)
@@ -96,6 +96,7 @@ pub record CellsTold : Type 0 where
   pub rows_first : all_valid_at multis_shown (codes "1") (day 1) ≡
       in_multi (codes "1") 1 (codes "crm.phones") (codes "home") (codes "10") ∷ in_multi (codes "1") 1 (codes "crm.phones") (codes "work") (codes "11") ∷ []
   pub cell_first : changed_at (up_to (day 1) (history 0 (reverse fewer_phones))) (key (codes "1") ∷ []) ≡ Some (day 1)
+  -- notices the load date of the last extract that held the key
   pub rows_of_other : all_valid_at multis_shown (codes "2") (day 2) ≡ in_multi (codes "2") 1 (codes "crm.phones") (codes "fax") (codes "20") ∷ []
   pub cell_of_other : changed_at (up_to (day 2) (history 0 (reverse fewer_phones))) (key (codes "2") ∷ []) ≡ Some (day 1)
 
