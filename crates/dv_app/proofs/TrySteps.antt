@@ -1,6 +1,6 @@
 -- How the parts of `try` are parts of what it says.
-use Rattle.dv_app.proofs.Vocabulary.{List, Option, Some, [], ap, arith, inl, inr, length, refl, subst, sym, take, ℕ, ◌++◌, ◌∙◌, ◌≡◌, ◌≤◌, Ok, Mapping, GotPrefix, after, take_all, Hashes, HasSealed, RawVault, mart_text, IsReadCause, IsStopCause, line_of_ending, status_of, memory_line, Begins}
-use Rattle.dv_app.proofs.Vocabulary.{HasEnd, LoadEnds, LoadStops, LoadsAll, SoFar, TryStops, Gives, Heard, IsEnded, Trial, lines_before, lines_of, tried_of, Progress, Tried, at_end, ended, start, status_for, steps, Ending, Absent, Memory, Unread, Stop, Ended, Unwritten, Loading, What, after-nil}
+use Rattle.dv_app.proofs.Vocabulary.{List, Option, Some, [], ap, arith, inl, inr, length, refl, subst, sym, take, ℕ, ◌++◌, ◌∙◌, ◌≡◌, ◌≤◌, Ok, Err, Result, Mapping, GotPrefix, after, take_all, Hashes, HasSealed, RawVault, mart_text, path_name, vault, QueryEnds, QueryRule, TextEnds, TooLarge, IsReadCause, IsStopCause, line_of_ending, status_of, memory_line, Begins}
+use Rattle.dv_app.proofs.Vocabulary.{HasEnd, LoadEnds, LoadStops, LoadsAll, SoFar, TryStops, Gives, Heard, IsEnded, IsMemory, Trial, lines_before, lines_of, tried_of, Progress, Tried, at_end, with_text, ended, start, status_for, steps, Ending, Absent, BadQuery, Memory, Unread, Stop, Ended, Unwritten, Loading, What, after-nil}
 use Rattle.dv_app.proofs.Vocabulary.{got_all, got_longer, got_nothing, Window}
 use Rattle.dv_outside.specs.declared.statuses.Status.TheVariants as statuses
 use Rattle.dv_app.proofs.EndSteps.{read_cause_so}
@@ -10,6 +10,14 @@ use Rattle.dv_app.proofs.MappingSteps.{no_line_yet}
 pub begin_ends : (t : Trial) (before now : ℕ) (err : Option (List ℕ)) (ending : Ending) → IsEnded t before now (status_of ending) (line_of_ending ending) → HasEnd t before now err err ending
 begin_ends t before now err ending is_end =
     record { lines = []; said_is = sym (after-nil err); ended = is_end; memory = (0, [], no_line_yet t before now, refl) }
+
+-- what is asked for is of a path that is too large
+pub text_ends : (raw : RawVault) (what : What) (at : ℕ) (catalog : Mapping) → catalog ≡ raw.mapping
+    → ((hashes : Hashes) (sealed : List Window) → HasSealed hashes sealed raw → mart_text raw.mapping hashes sealed raw.tables what at ≡ Err (TooLarge (path_name raw.mapping what)))
+    → (ending : Ending) → QueryEnds (λ rule. rule ≡ TooLarge (path_name catalog what)) ending → TextEnds raw what at ending
+text_ends raw what at catalog same large (BadQuery rule) is = λ hashes sealed has. large hashes sealed has ∙ ap (λ m. Err (TooLarge (path_name m what))) (sym same) ∙ ap Err (sym is)
+text_ends raw what at catalog same large Memory memory = memory
+text_ends raw what at catalog same large ending none = absurd none
 
 module _ (t : Trial) (before now : ℕ) (mapping : Mapping) (what : What) (at : ℕ) (begins : Begins t mapping what at) (said says : Option (List ℕ)) where
   abbrev First : ℕ → Type 0
@@ -51,6 +59,17 @@ module _ (t : Trial) (before now : ℕ) (mapping : Mapping) (what : What) (at : 
     tried_is : tried_of t ≡ at_end mapping t.hashes what at (Ok p)
     tried_is = begins.tried_is ∙ ap (at_end mapping t.hashes what at) loads.steps_are
 
+    -- what is said of the windows that the vault has is said of the run's
+    answer_is : (raw : RawVault) → raw ≡ loading.office.vault → (answer : Result (List ℕ) QueryRule)
+        → ((hashes : Hashes) (sealed : List Window) → HasSealed hashes sealed raw → mart_text raw.mapping hashes sealed raw.tables what at ≡ answer)
+        → mart_text mapping t.hashes p.state.sealed (vault mapping t.hashes p.state.sealed) what at ≡ answer
+    answer_is raw raw_is answer so =
+        let has : HasSealed t.hashes p.state.sealed raw = subst (HasSealed t.hashes p.state.sealed) (sym raw_is) loads.loaded_is.stands.sealed_are in
+        let mapping_is : raw.mapping ≡ mapping = ap (λ (v : RawVault). v.mapping) raw_is ∙ loads.loaded_is.mapping_is in
+        ap (λ m. mart_text m t.hashes p.state.sealed (vault m t.hashes p.state.sealed) what at) (sym mapping_is)
+        ∙ ap (λ tables. mart_text raw.mapping t.hashes p.state.sealed tables what at) (sym has.tables_are)
+        ∙ so t.hashes p.state.sealed has
+
     abbrev all_first : First (length t.names)
     all_first = record {
       progress = p;
@@ -58,33 +77,41 @@ module _ (t : Trial) (before now : ℕ) (mapping : Mapping) (what : What) (at : 
       said_is = loads.said_is;
     }
 
-    -- memory runs out before the mart's text
-    pub no_text : HasEnd t before now said says Memory
-    no_text = halted (length t.names) all_first Memory (length t.names, p.lines, lines_so (length t.names) p all_first.steps_are, refl)
+    out_of_memory : IsMemory t (p.lines ++ memory_line)
+    out_of_memory = (length t.names, p.lines, lines_so (length t.names) p all_first.steps_are, refl)
 
-    module _ (out_old out : Option (List ℕ)) (made : List ℕ) (vault : RawVault) (vault_is : vault ≡ loading.office.vault)
-        (makes : (hashes : Hashes) (sealed : List Window) → HasSealed hashes sealed vault → made ≡ mart_text vault.mapping hashes sealed what at) where
+    -- there is no text
+    pub no_text : (raw : RawVault) → raw ≡ loading.office.vault → (ending : Ending) → TextEnds raw what at ending → HasEnd t before now said says ending
+    no_text raw raw_is Memory ends = halted (length t.names) all_first Memory out_of_memory
+    no_text raw raw_is (BadQuery rule) ends = record {
+      lines = p.lines;
+      said_is = loads.said_is;
+      ended = tried_is ∙ ap (with_text p) (answer_is raw raw_is (Err rule) ends);
+      memory = out_of_memory;
+    }
+    no_text raw raw_is ending none = absurd none
+
+    module _ (out_old out : Option (List ℕ)) (made : List ℕ) (raw : RawVault) (raw_is : raw ≡ loading.office.vault)
+        (makes : (hashes : Hashes) (sealed : List Window) → HasSealed hashes sealed raw → mart_text raw.mapping hashes sealed raw.tables what at ≡ Ok made) where
       abbrev heard : Heard
       heard = record { out_old = out_old; out = out; err_old = said; err = says }
 
-      made_is : made ≡ (tried_of t).out
-      made_is =
-          makes t.hashes p.state.sealed (subst (HasSealed t.hashes p.state.sealed) (sym vault_is) loads.loaded_is.stands.sealed_are)
-          ∙ ap (λ (v : RawVault). mart_text v.mapping t.hashes p.state.sealed what at) vault_is ∙ ap (λ m. mart_text m t.hashes p.state.sealed what at) loads.loaded_is.mapping_is ∙ ap (λ (r : Tried). r.out) (sym tried_is)
+      with_text_is : tried_of t ≡ with_text p (Ok made)
+      with_text_is = tried_is ∙ ap (with_text p) (answer_is raw raw_is (Ok made) makes)
 
       -- all is written
       pub gives_all : out ≡ after out_old made → Gives (tried_of t) heard (status_for loading.refused)
       gives_all written = record {
-        out = written ∙ ap (after out_old) made_is;
-        err = loads.said_is ∙ ap (λ (r : Tried). after said r.err) (sym tried_is);
-        status_is = ap (λ (r : Tried). r.status) tried_is ∙ ap status_for (sym loads.loaded_is.refused_is);
+        out = written ∙ ap (λ (r : Tried). after out_old r.out) (sym with_text_is);
+        err = loads.said_is ∙ ap (λ (r : Tried). after said r.err) (sym with_text_is);
+        status_is = ap (λ (r : Tried). r.status) with_text_is ∙ ap status_for (sym loads.loaded_is.refused_is);
       }
 
       -- or a front of it is written
       pub text_cut : GotPrefix out_old out made → TryStops t before now heard Unwritten
       text_cut got = record {
-        out = subst (GotPrefix out_old out) made_is got;
+        out = subst (λ (r : Tried). GotPrefix out_old out r.out) (sym with_text_is) got;
         text = p.lines;
-        is_text = inl (ap (λ (r : Tried). r.err) (sym tried_is));
+        is_text = inl (ap (λ (r : Tried). r.err) (sym with_text_is));
         err = got_all said says p.lines loads.said_is;
       }

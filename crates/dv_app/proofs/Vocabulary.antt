@@ -8,16 +8,16 @@ pub use Rattle.dv_mapfile.proofs.Vocabulary.{IfOk, built_mapping, if◌then◌el
 pub use Rattle.dv_outside.proofs.Vocabulary.{Ends, GotPrefix, Rose, after, append-nil, drop, err_from_is_err_and, file_at, take-append-drop, take_all}
 pub use Rattle.dv_vault.proofs.Vocabulary.{HasSealed, RawVault, Told, drop_all, hashes_of}
 pub use Rattle.dv_mart.proofs.Vocabulary.{IsOffered, decimal, mart_text}
-pub use Rattle.dv_app.specs.Endings.{BringEnds, DateEnds, EndsOrMemory, ExtractEnds, ExtractsEnd, FileEnds, FilesEnd, IsMappingEnd, IsReadCause, IsStopCause, MappingEnds, ReadEnds, StopsBy, WhatEnds, line_of_ending, status_of}
+pub use Rattle.dv_app.specs.Endings.{BringEnds, DateEnds, EndsOrMemory, ExtractEnds, ExtractsEnd, FileEnds, FilesEnd, IsMappingEnd, IsReadCause, IsStopCause, MappingEnds, QueryEnds, ReadEnds, StopsBy, TextEnds, WhatEnds, line_of_ending, status_of}
 pub use Rattle.dv_app.specs.Given.{absent_line, given, query_line, read_fault_line, refused_mapping_line}
 pub use Rattle.dv_app.specs.Lines.{absent_front, mapping_file, mapping_front, memory_line, program_front, read_fault_front}
 pub use Rattle.dv_app.specs.Loadings.{Begins, Goes, HasEnd, HasLines, HasRefusal, HasRows, IsLoaded, IsReady, LoadEnds, LoadStops, LoadsAll, LoadsFirst, ManifestCut, ManifestStops, SoFar, Takes, TakesArrival, TryStops, WroteLine, WroteLines, outcome_of, taken_text, trial_of}
 pub use Rattle.dv_app.specs.OwnKeepers.{own_store}
 pub use Rattle.dv_app.specs.Readings.{Brings, Reading, StandsForWhole, allowed, arrival_of, no_reading, read_from, read_more, read_next, read_on, reading_of, with_extract}
 pub use Rattle.dv_app.specs.Run.{CommandCompletes, Faults, HasLast, IsCaused, NoFault, RunCompletes}
-pub use Rattle.dv_app.specs.Says.{CutShort, Gives, Heard, IsCutLines, IsEnded, Trial, TrySays, lines_before, lines_of, lines_with, tried_of}
+pub use Rattle.dv_app.specs.Says.{CutShort, Gives, Heard, IsCutLines, IsEnded, IsMemory, Trial, TrySays, lines_before, lines_of, lines_with, tried_of}
 pub use Rattle.dv_app.specs.Tried.{Arrival, Broken, Brought, Progress, Tried, absent_or, arrival, arrival_by, at_end, brought, brought_if, brought_with, ended, first_absent, is_past, is_refused, manifest_bytes, mapping_at, outcome_text, refusal_text, start, status_for, step, step_by, step_on}
-pub use Rattle.dv_app.specs.Tried.{steps, tried_at, tried_for, tried_with, whole_extract, whole_window, window_line, with_outcome, with_refusal}
+pub use Rattle.dv_app.specs.Tried.{steps, tried_at, tried_for, tried_with, whole_extract, whole_window, window_line, with_outcome, with_refusal, with_text}
 pub use Rattle.dv_app.specs.Words.{NoCommand, Tries, asked}
 pub use Rattle.dv_app.specs.declared.arrivals.Arrived.{Arrived}
 pub use Rattle.dv_app.specs.declared.endings.Ending.{Ending}
@@ -37,6 +37,9 @@ pub use Rattle.dv_mapfile.specs.Manifests.{manifest_in}
 pub use Rattle.dv_mapfile.specs.declared.manifests.Manifest.{Manifest}
 pub use Rattle.dv_mapfile.specs.declared.manifests.ManifestExtract.{ManifestExtract}
 pub use Rattle.dv_mart.specs.Whats.{offered_what}
+pub use Rattle.dv_mart.specs.MartTexts.{path_name}
+pub use Rattle.dv_mart.specs.declared.query_rules.QueryRule.{QueryRule}
+pub use Rattle.dv_mart.specs.declared.query_rules.QueryRule.TheVariants.{TooLarge}
 pub use Rattle.dv_mart.specs.declared.whats.What.{What}
 pub use Rattle.dv_outside.proofs.Told.{after-after, after-nil, got_all, got_behind, got_longer, got_nothing}
 pub use Rattle.dv_outside.specs.Ends.{line_of}
@@ -47,6 +50,7 @@ pub use Rattle.dv_records.specs.Limits.{most_extract_bytes, most_window_bytes}
 pub use Rattle.dv_records.specs.MemoryKeepers.{empty_store}
 pub use Rattle.dv_records.specs.Outcomes.{is_feed, repeated_name, too_long_behind}
 pub use Rattle.dv_records.specs.Stores.{with_mapping}
+pub use Rattle.dv_records.specs.Vault.{vault}
 pub use Rattle.dv_records.specs.declared.answers.Outcome.{Outcome}
 pub use Rattle.dv_records.specs.declared.stores.Store.{Store}
 pub use Rattle.dv_text.specs.Stamps.{stamp_of}

@@ -1,12 +1,16 @@
 -- What may end a command before its mart's text, by the part that it ends.
 use Rattle.std.specs.Prelude.{◌≡◌, ◌≢◌, ◌⊎◌, ℕ, List, Option, Some, None, Err, Contains}
 use Rattle.dv_text.specs.Causes.{Rose}
+use Rattle.dv_text.specs.Keys.{Hashes}
 use Rattle.dv_text.specs.Stamps.{stamp_of}
+use Rattle.dv_text.specs.declared.rows.Window.{Window}
 use Rattle.dv_catalog.specs.Entries.{Mapping}
 use Rattle.dv_mapfile.specs.declared.manifests.ManifestExtract.{ManifestExtract}
 use Rattle.dv_catalog.specs.declared.map_error.MapError.{MapError}
 use Rattle.dv_catalog.specs.declared.map_error.MapError.TheVariants as errors
+use Rattle.dv_mart.specs.MartTexts.{mart_text}
 use Rattle.dv_mart.specs.Whats.{offered_what}
+use Rattle.dv_mart.specs.declared.whats.What.{What}
 use Rattle.dv_mart.specs.declared.query_rules.QueryRule.{QueryRule}
 use Rattle.dv_mart.specs.declared.query_rules.QueryRule.TheVariants.{UnknownMart, BadDate}
 use Rattle.dv_outside.specs.Ends.{Ends}
@@ -14,6 +18,7 @@ use Rattle.dv_outside.specs.Files.{file_at}
 use Rattle.dv_outside.specs.declared.folders.NamedFile.{NamedFile}
 use Rattle.dv_outside.specs.declared.statuses.Status.{Status}
 use Rattle.dv_outside.specs.declared.statuses.Status.TheVariants as statuses
+use Rattle.dv_vault.specs.Vaults.{HasSealed, RawVault}
 use Rattle.dv_app.specs.declared.endings.Ending.{Ending}
 use Rattle.dv_app.specs.declared.endings.Ending.TheVariants.{BadMapping, BadQuery, Absent, Unread, Memory}
 use Rattle.dv_app.specs.declared.endings.Stop.{Stop}
@@ -119,3 +124,10 @@ WhatEnds mapping word ending = QueryEnds (λ rule. (rule ≡ UnknownMart word) �
 -- the date
 abbrev pub DateEnds : List ℕ → Ending → Type 0
 DateEnds date ending = QueryEnds (λ rule. (rule ≡ BadDate date) × (stamp_of date ≡ None)) ending
+
+-- the text of what is asked for
+abbrev pub TextEnds : RawVault → What → ℕ → Ending → Type 0
+TextEnds vault what date ending =
+    QueryEnds
+    (λ rule. (hashes : Hashes) (sealed : List Window) → HasSealed hashes sealed vault → mart_text vault.mapping hashes sealed vault.tables what date ≡ Err rule)
+    ending

@@ -19,6 +19,7 @@ use Rattle.dv_catalog.specs.declared.windows.ExtractIn.{ExtractIn}
 use Rattle.dv_catalog.specs.declared.windows.WindowIn.{WindowIn}
 use Rattle.dv_mart.specs.MartTexts.{mart_text}
 use Rattle.dv_mart.specs.Whats.{offered_what}
+use Rattle.dv_mart.specs.declared.query_rules.QueryRule.{QueryRule}
 use Rattle.dv_mart.specs.declared.query_rules.QueryRule.TheVariants.{UnknownMart, BadDate}
 use Rattle.dv_mart.specs.declared.whats.What.{What}
 use Rattle.dv_outside.specs.Ends.{line_of}
@@ -31,6 +32,7 @@ use Rattle.dv_records.specs.Outcomes.{outcome}
 use Rattle.dv_records.specs.Limits.{most_extract_bytes, most_window_bytes}
 use Rattle.dv_records.specs.States.{State, beginning}
 use Rattle.dv_records.specs.Steps.{sealed_with}
+use Rattle.dv_records.specs.Vault.{vault}
 use Rattle.dv_records.specs.declared.answers.Outcome.{Outcome}
 use Rattle.dv_records.specs.declared.answers.Outcome.TheVariants as outcomes
 use Rattle.dv_app.specs.Given.{absent_line, given, query_line, refused_mapping_line}
@@ -169,11 +171,16 @@ steps mapping hashes files p (name ∷ names) = step_on (step mapping hashes fil
 abbrev pub status_for : Bool → Status
 status_for refused = if refused then statuses.Refused else statuses.Done
 
--- at the end comes the mart's text
+-- the mart's text, or, where there is none, the line of the rule that is broken behind those of the windows
+abbrev pub with_text : Progress → Result (List ℕ) QueryRule → Tried
+with_text p (Ok text) = record { out = text; err = p.lines; status = status_for p.refused }
+with_text p (Err rule) = ended statuses.Refused (p.lines ++ query_line rule)
+
+-- at the end comes the mart, over the windows that are sealed then; none is open
 abbrev pub at_end : Mapping → Hashes → What → ℕ → Result Progress (List ℕ) → Tried
 at_end mapping hashes what date (Err lines) = ended statuses.ReadFault lines
 at_end mapping hashes what date (Ok p) =
-    record { out = mart_text mapping hashes p.state.sealed what date; err = p.lines; status = status_for p.refused }
+    with_text p (mart_text mapping hashes p.state.sealed (vault mapping hashes p.state.sealed) what date)
 
 -- ---- the whole command
 

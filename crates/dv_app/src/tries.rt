@@ -1,11 +1,16 @@
 // `try`: the windows of manifests are loaded into a keeper of its own, and a mart's text is written.
-ghost use Rattle.std.specs.Prelude.{◌≡◌, ◌≤◌, ◌⊎◌, ℕ, List, IfOk, OnOk, IfErr};
+ghost use Rattle.std.specs.Prelude.{◌≡◌, ◌≤◌, ◌⊎◌, ℕ, List, IfOk, OnOk, IfErr, Ok};
 ghost use Rattle.dv_text.specs.Causes.{Rose};
 ghost use Rattle.dv_text.specs.Keys.{Hashes, hashes_of};
 ghost use Rattle.dv_text.specs.Told.{Told};
+ghost use Rattle.dv_text.specs.declared.rows.Window.{Window};
 ghost use Rattle.dv_catalog.specs.Entries.{Mapping};
+ghost use Rattle.dv_mart.specs.MartTexts as spec;
+ghost use Rattle.dv_mart.specs.MartTexts.{path_name};
 ghost use Rattle.dv_mart.specs.OfferedMarts.{IsOffered};
-ghost use Rattle.dv_app.specs.Endings.{line_of_ending, status_of, IsReadCause, IsStopCause};
+ghost use Rattle.dv_mart.specs.declared.query_rules.QueryRule.TheVariants as rules;
+ghost use Rattle.dv_vault.specs.Vaults.{HasSealed};
+ghost use Rattle.dv_app.specs.Endings.{line_of_ending, status_of, IsReadCause, IsStopCause, QueryEnds, TextEnds};
 ghost use Rattle.dv_app.specs.Loadings.{trial_of, Begins, Goes, HasLines, IsLoaded, IsReady, LoadStops, LoadsAll, ManifestStops, TryStops, WroteLine, WroteLines};
 ghost use Rattle.dv_app.specs.Run.{IsCaused};
 ghost use Rattle.dv_app.specs.Says.{tried_of, Gives, IsEnded, TrySays};
@@ -16,9 +21,11 @@ use crate::checks::{check_date, check_what, open_loading};
 use crate::endings::{Ending, Stop, end_command};
 use crate::takings::{Loading, take};
 use crate::words::Asked;
-use dv_mart::{What, mart_text};
+use dv_catalog::Catalog;
+use dv_mart::{MartFault, What, mart_text, too_large};
 use dv_outside::{Failed, Folder, Gate, Sink, Status, write_all};
-use dv_text::{KeyDigest, Stamp, Text};
+use dv_text::{KeyDigest, Memory, Stamp, Text};
+use dv_vault::Vault;
 use std::alloc::Global;
 
 /// A mart that is asked for, and what is loaded for it.
@@ -112,6 +119,32 @@ fn begin<F: Folder>(alloc: Global, asked: &Asked<'_>, folder: &mut F) -> Result<
     })
 }
 
+// The end where what is asked for is of a path that is too large.
+fn end_too_large(alloc: Global, catalog: &Catalog, what: &What) -> Ending
+    ensures ends { QueryEnds (λ rule. rule ≡ rules.TooLarge (path_name catalog.now what.now)) result }
+    ensures cause { (before now : ℕ) → IsReadCause before now result }
+{
+    match too_large(alloc, catalog, what) {
+        Ok(rule) => Ending::BadQuery(rule),
+        Err(Memory) => Ending::Memory,
+    }
+}
+
+// The text of what is asked for.
+fn text_of(alloc: Global, vault: &Vault, what: &What, date: Stamp) -> Result<Text, Ending>
+    requires { IsOffered vault.now.mapping what.now }
+    ensures ok { IfOk result (λ text. (hashes : Hashes) (sealed : List Window) → HasSealed hashes sealed vault.now
+        → spec.mart_text vault.now.mapping hashes sealed vault.now.tables what.now date ≡ Ok text) }
+    ensures ends { IfErr result (TextEnds vault.now what.now date) }
+    ensures cause { (before now : ℕ) → IfErr result (IsReadCause before now) }
+{
+    match mart_text(alloc, vault, what, date) {
+        Ok(text) => Ok(text),
+        Err(MartFault::TooLarge) => Err(end_too_large(alloc, vault.catalog(), what)),
+        Err(MartFault::Memory) => Err(Ending::Memory),
+    }
+}
+
 // All but the last line and the status: whether a window was refused.
 fn try_all<F: Folder, O: Sink, E: Sink, H: KeyDigest, G: Gate>(
     alloc: Global,
@@ -144,14 +177,12 @@ fn try_all<F: Folder, O: Sink, E: Sink, H: KeyDigest, G: Gate>(
         digest,
         gate,
     )?;
-    let Ok(text) = mart_text(
+    let text = text_of(
         alloc,
         readied.loading.office.vault(),
         &readied.what,
         readied.date,
-    ) else {
-        return Err(Stop::Ended(Ending::Memory));
-    };
+    )?;
     match write_all(out, text.bytes()) {
         Ok(()) => Ok(readied.loading.refused),
         Err(Failed) => Err(Stop::Unwritten),

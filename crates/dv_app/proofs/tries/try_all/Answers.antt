@@ -1,4 +1,4 @@
-use Rattle.dv_app.proofs.Vocabulary.{ap, inr, refl, subst, sym, ◌∙◌, err_from_is_err_and, RawVault, hashes_of, IsOffered, trial_of}
+use Rattle.dv_app.proofs.Vocabulary.{Ok, ap, inr, refl, subst, sym, ◌∙◌, err_from_is_err_and, RawVault, hashes_of, IsOffered, trial_of}
 use Rattle.dv_app.proofs.EndSteps.{stop_cause_so}
 use Rattle.dv_app.proofs.RunSteps.{none_wrote}
 use Rattle.dv_app.proofs.TrySteps.{begin_ends, gives_all, load_stops, no_text, text_cut}
@@ -32,27 +32,31 @@ returns-in_err-load_all-clause-cause g c =
 pub load_all-requires-clause-loaded : goal.load_all-requires-clause-loaded
 load_all-requires-clause-loaded g c κs within = c.in_ok-readied.ensures.loaded (hashes_of g.H.KeyDigest.digest_of g.H.KeyDigest.size)
 
-pub mart_text-requires : goal.mart_text-requires
-mart_text-requires g c = record { offered = subst (λ m. IsOffered m c.in_ok-readied.readied.what) (sym (ap (λ (v : RawVault). v.mapping) c.vault.ensures ∙ c.load_all.ensures.mapping)) c.in_ok-readied.ensures.offered }
+pub text_of-requires : goal.text_of-requires
+text_of-requires g c = subst (λ m. IsOffered m c.in_ok-readied.readied.what) (sym (ap (λ (v : RawVault). v.mapping) c.vault.ensures ∙ c.load_all.ensures.mapping)) c.in_ok-readied.ensures.offered
 
-pub returns-in_default-clause-stops : goal.returns-in_default-clause-stops
-returns-in_default-clause-stops g c = λ files told. (
-  refl,
-  no_text (trial_of (hashes_of g.H.KeyDigest.digest_of g.H.KeyDigest.size) files c.args.asked.now) _ _ _ _ _ (c.in_ok-readied.ensures.ok (hashes_of g.H.KeyDigest.digest_of g.H.KeyDigest.size) files told) _ _ _
-      (c.in_ok-load_all.ensures.ok files (c.in_ok-readied.ensures.kept ∙ told)),
-)
+pub returns-in_err-text-clause-stops : goal.returns-in_err-text-clause-stops
+returns-in_err-text-clause-stops g c =
+    let p = err_from_is_err_and c.from_residual-in_err-text.result c.from_residual-in_err-text.ensures.1 in
+    rw (p.1, p.2) (λ files told. (
+      refl,
+      no_text (trial_of (hashes_of g.H.KeyDigest.digest_of g.H.KeyDigest.size) files c.args.asked.now) _ _ _ _ _ (c.in_ok-readied.ensures.ok (hashes_of g.H.KeyDigest.digest_of g.H.KeyDigest.size) files told) _ _ _
+          (c.in_ok-load_all.ensures.ok files (c.in_ok-readied.ensures.kept ∙ told)) _ c.vault.ensures _ c.in_err-text.ensures.ends,
+    ))
 
-pub returns-in_default-clause-cause : goal.returns-in_default-clause-cause
-returns-in_default-clause-cause g c = (tt, (c.in_ok-load_all.ensures.wrote.lines, c.in_ok-load_all.ensures.wrote.said_is))
+pub returns-in_err-text-clause-cause : goal.returns-in_err-text-clause-cause
+returns-in_err-text-clause-cause g c =
+    let p = err_from_is_err_and c.from_residual-in_err-text.result c.from_residual-in_err-text.ensures.1 in
+    rw (p.1, p.2) (c.in_err-text.ensures.cause _ _, (c.in_ok-load_all.ensures.wrote.lines, c.in_ok-load_all.ensures.wrote.said_is))
 
-pub returns-in-Ok-write_all-clause-ok : goal.returns-in-Ok-write_all-clause-ok
-returns-in-Ok-write_all-clause-ok g c = λ files told.
+pub returns-in-Ok-clause-ok : goal.returns-in-Ok-clause-ok
+returns-in-Ok-clause-ok g c = λ files told.
     let loads = c.in_ok-load_all.ensures.ok files (c.in_ok-readied.ensures.kept ∙ told) in
     gives_all (trial_of (hashes_of g.H.KeyDigest.digest_of g.H.KeyDigest.size) files c.args.asked.now) 0 0 _ _ _ (c.in_ok-readied.ensures.ok (hashes_of g.H.KeyDigest.digest_of g.H.KeyDigest.size) files told) _ _ _ loads _ _
-    c.bytes.result.now c.vault.result.now c.vault.ensures (λ hashes sealed has. c.bytes.ensures ∙ c.in-Ok.ensures hashes sealed has) c.in-Ok-write_all.ensures.ok
+    c.bytes.result.now c.vault.result.now c.vault.ensures (λ hashes sealed has. c.in_ok-text.ensures.ok hashes sealed has ∙ ap Ok (sym c.bytes.ensures)) c.in-Ok.ensures.ok
 
 pub returns-clause-stops : goal.returns-clause-stops
 returns-clause-stops g c = λ files told.
     let loads = c.in_ok-load_all.ensures.ok files (c.in_ok-readied.ensures.kept ∙ told) in
     text_cut (trial_of (hashes_of g.H.KeyDigest.digest_of g.H.KeyDigest.size) files c.args.asked.now) _ _ _ _ _ (c.in_ok-readied.ensures.ok (hashes_of g.H.KeyDigest.digest_of g.H.KeyDigest.size) files told) _ _ _ loads _ _
-    c.bytes.result.now c.vault.result.now c.vault.ensures (λ hashes sealed has. c.bytes.ensures ∙ c.in-Ok.ensures hashes sealed has) c.in-Err.ensures.err
+    c.bytes.result.now c.vault.result.now c.vault.ensures (λ hashes sealed has. c.in_ok-text.ensures.ok hashes sealed has ∙ ap Ok (sym c.bytes.ensures)) c.in-Err.ensures.err
