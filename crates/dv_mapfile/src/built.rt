@@ -10,8 +10,8 @@ use dv_catalog::{Catalog, FeedDef, MapError, PathDef};
 use dv_text::{Memory, Text};
 use std::alloc::Global;
 
-/// An entry of a mapping, of which some forms are not built yet.
-trait Staged {
+/// A kind of entries of a mapping, some of whose forms are not built yet.
+trait PartlyBuilt {
     ghost unbuilt_of: { Self → option_of (list_of_items ℕ) };
 
     /// The first key of an entry that has a form that is not built.
@@ -19,13 +19,10 @@ trait Staged {
         ensures { option_map (λ key. key.now) result ≡ unbuilt_of self.now };
 }
 
-impl Staged for FeedDef {
+impl PartlyBuilt for FeedDef {
     ghost unbuilt_of = { spec.unbuilt_feed };
 
     fn unbuilt(&self) -> Option<&'static [u8]> {
-        if !self.sub.items().is_empty() {
-            return Some(b"sub");
-        }
         if !self.driver.items().is_empty() {
             return Some(b"driver");
         }
@@ -33,7 +30,7 @@ impl Staged for FeedDef {
     }
 }
 
-impl Staged for PathDef {
+impl PartlyBuilt for PathDef {
     ghost unbuilt_of = { spec.unbuilt_path };
 
     fn unbuilt(&self) -> Option<&'static [u8]> {
@@ -42,7 +39,11 @@ impl Staged for PathDef {
 }
 
 // The first place among the entries of a kind with a form that is not built.
-fn first_place<E: Staged>(alloc: Global, kind: &str, entries: &[E]) -> Result<Option<Text>, Memory>
+fn first_place<E: PartlyBuilt>(
+    alloc: Global,
+    kind: &str,
+    entries: &[E],
+) -> Result<Option<Text>, Memory>
     ensures { IfOk result (λ place. place ≡ spec.first_place E.unbuilt_of kind.now 1 entries.now) }
 {
     for (i, entry) in entries.iter().enumerate() {
@@ -63,10 +64,9 @@ fn unbuilt(alloc: Global, catalog: &Catalog) -> Result<Option<Text>, Memory>
     first_place(alloc, "path", catalog.paths())
 }
 
-/// The mapping of a mapping file's bytes, where every form in it is built: all but a feed's `sub` and
-/// `driver`, and paths. A key that is written out empty is no form. The errors are those of `read_catalog`;
-/// `NotYet` with the first place of a form that is not built, where `read_catalog` refuses nothing; and
-/// `Memory`, which is free.
+/// The mapping of a mapping file's bytes, where every form in it is built: all but a feed's `driver`, and paths.
+/// A key that is written out empty is no form. The errors are those of `read_catalog`; `NotYet` with the first
+/// place of a form that is not built, where `read_catalog` refuses nothing; and `Memory`, which is free.
 pub fn read_built_catalog(alloc: Global, bytes: &[u8]) -> Result<Catalog, MapError>
     ensures ok { IfOk result (λ catalog. spec.built_mapping bytes.now ≡ Ok catalog) }
     ensures valid { IfOk result (λ catalog. IsTrue (is_valid catalog)) }
