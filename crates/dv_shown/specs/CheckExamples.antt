@@ -82,7 +82,7 @@ pub record BuiltHold : Type 0 where
   pub feeds_built : unbuilt customers_and_accounts_mapping ≡ None
   pub ignored_built : unbuilt (mapping_of (customers_with (record (customer_feed []) { ignore = codes "CLERK" ∷ [] }))) ≡ None
   pub links_built : unbuilt (mapping_of (assignments_by [])) ≡ None
-  pub sub_unbuilt : unbuilt (mapping_of (customers_with (with_sub (customer_feed (codes "PHONE" ∷ []))))) ≡ Some (codes "feed 1 sub")
+  pub sub_built : unbuilt (mapping_of (customers_with (with_sub (customer_feed (codes "PHONE" ∷ []))))) ≡ None
   pub driver_unbuilt : unbuilt assignments_mapping ≡ Some (codes "feed 1 driver")
   pub path_unbuilt : unbuilt sold_mapping ≡ Some (codes "path 1 name")
   pub without_path : unbuilt (record sold_mapping { paths = [] }) ≡ None
@@ -242,7 +242,7 @@ pub record InvalidHold : Type 0 where
 
 -- printed faults
 pub record TextsHold : Type 0 where
-  pub not_yet : map_error_text (NotYet (codes "feed 1 sub")) ≡ codes "0 NotYet place=feed 1 sub"
+  pub not_yet : map_error_text (NotYet (codes "feed 1 driver")) ≡ codes "0 NotYet place=feed 1 driver"
   pub text : map_error_text Text ≡ codes "1 Text"
   pub shape : map_error_text (Shape (codes "hub 1 parts")) ≡ codes "2 Shape place=hub 1 parts"
   pub name_twice : map_error_text (NameTwice (codes "customer")) ≡ codes "3 NameTwice name=customer"

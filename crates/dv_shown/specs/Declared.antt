@@ -14,7 +14,7 @@ use Rattle.dv_catalog.specs.Checks.{fault_of}
 use Rattle.dv_catalog.specs.Mappings.{is_valid, is_valid_driver, mapping_of}
 use Rattle.dv_catalog.specs.MappingFiles.{read_mapping}
 use Rattle.dv_catalog.specs.TableLookups.{is_table_of}
-use Rattle.dv_shown.specs.Mappings.{bare, customers, with_channels, with_customers_and_sites, with_drivers, with_names, with_orders, with_paths, with_placements, with_sites, with_staff}
+use Rattle.dv_shown.specs.Mappings.{bare, customers, sold, with_channels, with_customers_and_sites, with_drivers, with_names, with_orders, with_paths, with_phones, with_placements, with_sites, with_staff}
 use Rattle.dv_shown.specs.Stepped.{bare_file, other_file}
 use Rattle.dv_shown.specs.SampleOutlines.{customers_with, hub, hub_feed, link, link_feed, outline, path, placements_then_lines, sold_by}
 
@@ -115,6 +115,13 @@ pub record TablesDeclared : Type 0 where
   pub statuses_there : are_tables (Status 1 ∷ Status 2 ∷ []) ≡ true ∷ false ∷ []
   pub effects_there : are_tables (Effect 1 ∷ Effect 2 ∷ []) ≡ true ∷ false ∷ []
 
+-- a link of two hubs and a feed of it, up to its driving keys
+abbrev pub staff_file : List ℕ
+staff_file =
+    codes "[[hub]]\nname = \"employee\"\nparts = 1\n[[hub]]\nname = \"department\"\nparts = 1\n"
+    ++ codes "[[link]]\nname = \"works\"\nhubs = [\"employee\", \"department\"]\n"
+    ++ codes "[[feed]]\nname = \"assignments\"\nsource = \"hr\"\nlink = \"works\"\nkeys = [[\"EMP\"], [\"DEPT\"]]\n"
+
 -- whole files
 pub record FilesDeclared : Type 0 where
   pub read : read_mapping bare_file ≡ Ok bare
@@ -127,7 +134,10 @@ pub record FilesDeclared : Type 0 where
   pub two_parts_built :
       built_mapping (codes "[[hub]]\nname = \"site\"\nparts = 2\n[[feed]]\nname = \"sites\"\nsource = \"geo\"\nhub = \"site\"\nkeys = [[\"REGION\", \"SITE\"]]\n")
       ≡ Ok with_sites
-  pub sub_not_built : built_mapping (bare_file ++ codes "sub = [\"KIND\"]\nattrs = [\"PHONE\"]\n") ≡ Err (NotYet (codes "feed 1 sub"))
+  pub sub_built :
+      built_mapping (codes "[[hub]]\nname = \"customer\"\nparts = 1\n[[feed]]\nname = \"phones\"\nsource = \"crm\"\nhub = \"customer\"\nkeys = [[\"CUST_NO\"]]\nsub = [\"KIND\"]\nattrs = [\"PHONE\"]\n")
+      ≡ Ok with_phones
+  pub driver_not_built : built_mapping (staff_file ++ codes "driver = [\"employee\"]\n") ≡ Err (NotYet (codes "feed 1 driver"))
   pub fault_before_form : built_mapping (codes "hub = 3\n") ≡ Err (Shape (codes "hub"))
   pub fault_in_form : built_mapping (bare_file ++ codes "sub = [\"KIND\"]\n") ≡ Err (SubWithoutAttrs (codes "customers"))
 
@@ -139,15 +149,17 @@ pub record PlacesUnbuilt : Type 0 where
   pub link_and_feeds : unbuilt with_placements ≡ None
   pub feed_of_keys : unbuilt_feed (record customers { attrs = [] }) ≡ None
   pub feed_by_ignored : unbuilt_feed (record customers { ignore = codes "NOTES" ∷ [] }) ≡ None
-  pub feed_by_sub : unbuilt_feed (record customers { sub = codes "KIND" ∷ [] }) ≡ Some (codes "sub")
+  pub feed_by_sub : unbuilt_feed (record customers { sub = codes "KIND" ∷ [] }) ≡ None
   pub feed_by_driver : unbuilt_feed (record customers { attrs = []; driver = 0 ∷ [] }) ≡ Some (codes "driver")
-  pub sub_before_driver : unbuilt_feed (record customers { sub = codes "KIND" ∷ []; driver = 0 ∷ [] }) ≡ Some (codes "sub")
+  pub driver_beside_sub : unbuilt_feed (record customers { sub = codes "KIND" ∷ []; driver = 0 ∷ [] }) ≡ Some (codes "driver")
+  pub several_subs : unbuilt with_phones ≡ None
   pub driver : unbuilt with_drivers ≡ Some (codes "feed 1 driver")
   pub second_feed : unbuilt with_staff ≡ Some (codes "feed 2 driver")
   pub first_feed :
-      unbuilt (record bare { feeds = customers ∷ record customers { sub = codes "KIND" ∷ [] } ∷ record customers { driver = 0 ∷ [] } ∷ [] })
-      ≡ Some (codes "feed 2 sub")
-  pub feeds_before_paths : unbuilt with_channels ≡ Some (codes "feed 1 sub")
+      unbuilt (record bare { feeds = record customers { sub = codes "KIND" ∷ [] } ∷ record customers { driver = 0 ∷ [] } ∷ record customers { driver = 0 ∷ [] } ∷ [] })
+      ≡ Some (codes "feed 2 driver")
+  pub feeds_before_paths : unbuilt (record with_drivers { paths = sold ∷ [] }) ≡ Some (codes "feed 1 driver")
   pub path : unbuilt with_orders ≡ Some (codes "path 1 name")
+  pub path_over_sub : unbuilt with_channels ≡ Some (codes "path 1 name")
   pub first_path : unbuilt with_paths ≡ Some (codes "path 1 name")
   pub without_path : unbuilt (record with_orders { paths = [] }) ≡ None
