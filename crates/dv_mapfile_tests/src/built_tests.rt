@@ -18,6 +18,31 @@ sub = ["KIND"]
 attrs = ["PHONE"]
 "#;
 
+/// Several rows of one reference list, and behind that feed one of a link, up to its driving keys.
+const STAFF: &str = r#"
+[[hub]]
+name = "employee"
+parts = 1
+[[hub]]
+name = "department"
+parts = 1
+[[link]]
+name = "works"
+hubs = ["employee", "department"]
+[[feed]]
+name = "roles"
+source = "hr"
+link = "works"
+keys = [["EMP"], ["DEPT"]]
+sub = ["ROLE"]
+attrs = ["SINCE"]
+[[feed]]
+name = "assignments"
+source = "hr"
+link = "works"
+keys = [["EMP"], ["DEPT"]]
+"#;
+
 /// A path over the feed of assignments.
 const WORKED: &str = r#"
 [[path]]
@@ -46,15 +71,21 @@ const FORMS: &[(&str, &str, &str)] = &[
     (CUSTOMERS, "ignore = [\"CLERK\"]", ""),
     ("", ORDERS, ""),
     ("", ASSIGNMENTS, ""),
-    ("", PHONES, "0 NotYet place=feed 1 sub"),
-    (CUSTOMERS, PHONES_TOO, "0 NotYet place=feed 2 sub"),
+    ("", PHONES, ""),
+    (CUSTOMERS, PHONES_TOO, ""),
     (ASSIGNMENTS, BY_EMPLOYEE, "0 NotYet place=feed 1 driver"),
+    (STAFF, BY_EMPLOYEE, "0 NotYet place=feed 2 driver"),
     (SOLD, BY_ORDER, "0 NotYet place=path 1 name"),
     (WORKED, ASSIGNMENTS, "0 NotYet place=path 1 name"),
     (
         PHONES,
         "driver = [\"customer\"]",
         "10 DriverNotInLink feed=phones",
+    ),
+    (
+        ASSIGNMENTS,
+        "sub = [\"ROLE\"]\nattrs = [\"SINCE\"]\ndriver = [\"employee\"]",
+        "11 DriverWithSub feed=assignments",
     ),
     (
         CUSTOMERS,
