@@ -1,12 +1,14 @@
 #!/usr/bin/env python3
-"""Records a second of `vaultdesk try`, against two loaders in Rust that nobody proved, in one run.
+"""Records a second of `vaultdesk try`, against loaders in Rust that nobody proved, in one run.
 
 Usage: python3 bench/load/run.py [--shared FOLDER] [--program FILE] [--customers N,N,..] [--repeat N] [--keep FOLDER]
+       python3 bench/load/run.py --phones N,N,.. [--program FILE] [--repeat N] [--keep FOLDER]
 
 FOLDER (`shared/bench` beside the repository, where it isn't said) has gen.py, which writes mappings and windows, and
-rust_peer/, whose two programs are built with cargo into a folder of this run. FILE is a built vaultdesk; where it isn't
-said, the script vaultdesk builds the repository's. Loads four windows of each size, REPEAT times in turn, compares what
-the three write, and prints the best rates, the growth and the peaks of memory.
+rust_peer/, whose two programs are built with cargo into a folder of this run. With --phones, phones.py and phones_peer.rs
+beside this file stand for them. FILE is a built vaultdesk; where it isn't said, the script vaultdesk builds the
+repository's. Loads four windows of each size, REPEAT times in turn, compares what all write, and prints the best rates,
+the growth and the peaks of memory.
 """
 import argparse
 import os
@@ -18,10 +20,10 @@ import tempfile
 import threading
 import time
 
-TOP = pathlib.Path(__file__).resolve().parent.parent.parent
+HERE = pathlib.Path(__file__).resolve().parent
+TOP = HERE.parent.parent
 WINDOWS = 4
 MANIFESTS = [f"w{number}.toml" for number in range(1, WINDOWS + 1)]
-PEERS = ["rust_shape", "rust_peer"]
 
 
 def built_program():
@@ -30,21 +32,47 @@ def built_program():
     return TOP / "crates/vaultdesk/out/vaultdesk"
 
 
-def build_peers(shared, folder):
-    manifest = shared / "rust_peer/Cargo.toml"
-    command = ["cargo", "build", "--quiet", "--release", "--offline", "--manifest-path", manifest]
-    subprocess.run([*command, "--target-dir", folder / "target"], check=True)
-    return {name: folder / "target/release" / name for name in PEERS}
+class Orders:
+    """Customers, their orders and the lines of these; a size is a number of customers."""
 
+    unit, feed = "customers", "customers"
 
-def make_data(shared, folder, customers):
-    """Four windows of so many customers, under the mapping without its path, which the program doesn't build yet."""
-    data = folder / f"data_{customers}"
-    if not data.exists():
-        command = [sys.executable, shared / "gen.py", data, "--keys", str(customers), "--windows", str(WINDOWS)]
+    def __init__(self, shared):
+        self.shared = shared
+
+    def build_peers(self, folder):
+        manifest = self.shared / "rust_peer/Cargo.toml"
+        command = ["cargo", "build", "--quiet", "--release", "--offline", "--manifest-path", manifest]
+        subprocess.run([*command, "--target-dir", folder / "target"], check=True)
+        return {name: folder / "target/release" / name for name in ["rust_shape", "rust_peer"]}
+
+    def write(self, data, size):
+        """Writes the windows, under the mapping without its path, which the program doesn't build yet."""
+        command = [sys.executable, self.shared / "gen.py", data, "--keys", str(size), "--windows", str(WINDOWS)]
         subprocess.run(command, check=True)
         mapping = data / "mapping.toml"
         mapping.write_text(mapping.read_text().partition("[[path]]")[0])
+
+
+class Phones:
+    """Several phones of each customer; a size is about the number of records of a window."""
+
+    unit, feed = "phones", "phones"
+
+    def build_peers(self, folder):
+        program = folder / "phones_peer"
+        subprocess.run(["rustc", "-O", "--edition", "2021", "-o", program, HERE / "phones_peer.rs"], check=True)
+        return {"rust_peer": program}
+
+    def write(self, data, size):
+        command = [sys.executable, HERE / "phones.py", data, "--records", str(size), "--windows", str(WINDOWS)]
+        subprocess.run(command, check=True)
+
+
+def make_data(work, folder, size):
+    data = folder / f"data_{work.unit}_{size}"
+    if not data.exists():
+        work.write(data, size)
     return data
 
 
@@ -88,9 +116,9 @@ def run(command, folder, out):
     return taken, used.ru_utime + used.ru_stime, peak[0], said.splitlines()
 
 
-def run_ours(program, data, out):
+def run_ours(program, feed, data, out):
     """Our time is that of the process, and what it says of each window is compared with what the peer added."""
-    command = [program, "try", "feed:customers", last_date(data), *MANIFESTS]
+    command = [program, "try", f"feed:{feed}", last_date(data), *MANIFESTS]
     taken, used, peak, said = run(command, data, out / "ours.csv")
     return taken, used, peak, [int(line.rpartition(" ")[2]) for line in said]
 
@@ -121,11 +149,11 @@ def compare_tables(program, peer, data, out):
     return len(names)
 
 
-def measure(program, peers, data, out, repeat):
+def measure(program, peers, feed, data, out, repeat):
     """What each took at best, where they run in turn."""
     runs = {"ours": []} | {name: [] for name in peers}
     for _ in range(repeat):
-        runs["ours"].append(run_ours(program, data, out))
+        runs["ours"].append(run_ours(program, feed, data, out))
         for name, peer in peers.items():
             runs[name].append(run_peer(peer, data, out))
             compare_marts(out, name)
@@ -145,18 +173,18 @@ def row(cells):
     print(f"| {' | '.join(cells)} |")
 
 
-def show(found):
+def show(unit, found):
     """The rates and peaks of each size, and how much longer a record takes at one size than at the one before."""
-    row(["customers", "records", "who", "seconds", "processor s", "records a second", "ours takes, times", "peak, MB", "ours has, times", "growth"])
+    row([unit, "records", "who", "seconds", "processor s", "records a second", "ours takes, times", "peak, MB", "ours has, times", "growth"])
     print("|" + "---|" * 10)
     before = {}
-    for customers, (records, by_name) in found.items():
+    for size, (records, by_name) in found.items():
         ours, _, our_peak = by_name["ours"]
         for name, (taken, used, peak) in by_name.items():
             each = taken / records
             growth = f"{each / before[name]:.2f}" if name in before else ""
             before[name] = each
-            cells = [f"{customers:,}", f"{records:,}", name, f"{taken:.3f}", f"{used:.3f}", f"{records / taken:,.0f}"]
+            cells = [f"{size:,}", f"{records:,}", name, f"{taken:.3f}", f"{used:.3f}", f"{records / taken:,.0f}"]
             row([*cells, f"{ours / taken:.2f}", f"{peak / 1024:,.0f}", f"{our_peak / peak:.2f}", growth])
 
 
@@ -165,6 +193,7 @@ def main():
     parser.add_argument("--shared", type=pathlib.Path, default=TOP.parent / "shared/bench")
     parser.add_argument("--program", type=pathlib.Path)
     parser.add_argument("--customers", default="2000,20000,200000")
+    parser.add_argument("--phones")
     parser.add_argument("--repeat", type=int, default=3)
     parser.add_argument("--keep", type=pathlib.Path)
     given = parser.parse_args()
@@ -172,18 +201,18 @@ def main():
     out = folder / "out"
     out.mkdir(parents=True, exist_ok=True)
     program = (given.program or built_program()).resolve()
-    shared = given.shared.resolve()
-    peers = build_peers(shared, folder)
+    work = Phones() if given.phones else Orders(given.shared.resolve())
+    peers = work.build_peers(folder)
     print(f"load average before: {os.getloadavg()[0]:.1f} on {os.cpu_count()} processors")
-    sizes = sorted(map(int, given.customers.split(",")))
+    sizes = sorted(map(int, (given.phones or given.customers).split(",")))
     found = {}
-    for customers in sizes:
-        data = make_data(shared, folder, customers)
-        found[customers] = count_records(data), measure(program, peers, data, out, given.repeat)
-    tables = compare_tables(program, peers["rust_peer"], make_data(shared, folder, sizes[0]), out)
+    for size in sizes:
+        data = make_data(work, folder, size)
+        found[size] = count_records(data), measure(program, peers, work.feed, data, out, given.repeat)
+    tables = compare_tables(program, peers["rust_peer"], make_data(work, folder, sizes[0]), out)
     print(f"load average after: {os.getloadavg()[0]:.1f}")
     print(f"marts of all sizes, and {tables} tables of the smallest, are equal byte for byte\n")
-    show(found)
+    show(work.unit, found)
     if not given.keep:
         shutil.rmtree(folder)
 

@@ -1,20 +1,34 @@
-//! What a satellite and a status table do with a window, in Rust that nobody proved, with std alone: the rows in load order,
-//! and an ordered map from each parent to its last row, or an ordered set of the parents that are present. Prints what the
-//! Rattle program prints.
+//! What a satellite, a multi-active satellite and a status table do with a window, in Rust that nobody proved, with std
+//! alone: the rows in load order, and an ordered map from each parent to its last row or rows, or an ordered set of the
+//! parents that are present. Takes the sizes as its arguments, and prints what the Rattle program prints.
 use std::collections::{BTreeMap, BTreeSet};
+use std::ops::Range;
 use std::time::Instant;
 
 type Digest = [u8; 16];
 type Text = Vec<u8>;
 
 const WINDOW: u64 = 10_000;
+const KINDS: u64 = 4;
 const MEASURED: u64 = 3;
 const SOURCE: &[u8] = b"crm.customers";
+const SOURCE_OF_KINDS: &[u8] = b"crm.contacts";
 const TURNS: [u32; 16] = [7, 12, 17, 22, 5, 9, 14, 20, 4, 11, 16, 23, 6, 10, 15, 21];
 
 /// A row of an extract.
 struct Row {
     refs: Vec<Text>,
+    sub: Vec<Text>,
+    attrs: Vec<Text>,
+}
+
+#[allow(dead_code)]
+struct MultiRow {
+    parent: Digest,
+    load: u64,
+    source: Text,
+    diff: Digest,
+    sub: Vec<Text>,
     attrs: Vec<Text>,
 }
 
@@ -92,11 +106,27 @@ impl Md5 {
     }
 }
 
+fn numbered(letter: char, number: u64) -> Text {
+    format!("{letter}{number:09}").into_bytes()
+}
+
+/// The row of a key, with a name that has a window's number.
+fn row(key: u64, sub: Vec<Text>, window: u64) -> Row {
+    Row { refs: vec![numbered('C', key)], sub, attrs: vec![numbered('N', window), b"Trondheim".to_vec()] }
+}
+
 /// An extract of 10,000 keys, from the first one in steps.
 fn extract(first: u64, step: u64, window: u64) -> Vec<Row> {
-    let numbered = |letter: char, number: u64| format!("{letter}{number:09}").into_bytes();
-    let row = |i| Row { refs: vec![numbered('C', first + i * step)], attrs: vec![numbered('N', window), b"Trondheim".to_vec()] };
-    (0..WINDOW).map(row).collect()
+    (0..WINDOW).map(|i| row(first + i * step, Vec::new(), window)).collect()
+}
+
+/// An extract of 10,000 rows, four of each key: those of the last kind alone have the window's number.
+fn extract_of_kinds(first: u64, step: u64, window: u64) -> Vec<Row> {
+    let of = |i: u64| {
+        let kind = i % KINDS;
+        row(first + i / KINDS * step, vec![numbered('K', kind)], if kind + 1 == KINDS { window } else { 0 })
+    };
+    (0..WINDOW).map(of).collect()
 }
 
 fn with_digest(sum: u64, digest: &Digest) -> u64 {
@@ -148,6 +178,61 @@ impl Table for Sats {
     }
 
     fn check_sum(rows: &[SatRow]) -> u64 {
+        rows.iter().fold(0, |sum, row| with_digest(with_digest(sum, &row.parent), &row.diff))
+    }
+}
+
+/// The rows of a parent stand together.
+#[derive(Default)]
+struct Multis {
+    rows: Vec<MultiRow>,
+    last: BTreeMap<Digest, Range<usize>>,
+}
+
+impl Multis {
+    /// Whether the last rows of a parent are these.
+    fn has(&self, parent: &Digest, rows: &[Row]) -> bool {
+        let Some(last) = self.last.get(parent) else { return false };
+        let same = |(kept, row): (&MultiRow, &Row)| kept.sub == row.sub && kept.attrs == row.attrs;
+        last.len() == rows.len() && self.rows[last.clone()].iter().zip(rows).all(same)
+    }
+}
+
+impl Table for Multis {
+    type Added = MultiRow;
+    const NAME: &'static str = "multi";
+
+    fn count(&self) -> usize {
+        self.rows.len()
+    }
+
+    fn delta(&self, load: u64, extract: &[Row], md5: &mut Md5) -> Vec<MultiRow> {
+        let mut made = Vec::new();
+        for rows in extract.chunk_by(|a, b| a.refs == b.refs) {
+            let parent = md5.of(&rows[0].refs);
+            if self.has(&parent, rows) {
+                continue;
+            }
+            for row in rows {
+                let (diff, source) = (md5.of(&row.attrs), SOURCE_OF_KINDS.to_vec());
+                made.push(MultiRow { parent, load, source, diff, sub: row.sub.clone(), attrs: row.attrs.clone() });
+            }
+        }
+        made.sort_by(|a, b| (&a.parent, &a.sub).cmp(&(&b.parent, &b.sub)));
+        made
+    }
+
+    fn apply(&mut self, rows: Vec<MultiRow>) {
+        let before = self.rows.len();
+        self.rows.extend(rows);
+        let mut end = before;
+        for rows in self.rows[before..].chunk_by(|a, b| a.parent == b.parent) {
+            end += rows.len();
+            self.last.insert(rows[0].parent, end - rows.len()..end);
+        }
+    }
+
+    fn check_sum(rows: &[MultiRow]) -> u64 {
         rows.iter().fold(0, |sum, row| with_digest(with_digest(sum, &row.parent), &row.diff))
     }
 }
@@ -214,6 +299,16 @@ fn time_sats(count: u64, md5: &mut Md5) {
     }
 }
 
+fn time_multis(count: u64, md5: &mut Md5) {
+    let (mut table, windows) = (Multis::default(), count / WINDOW);
+    for number in 0..windows {
+        take_in(&mut table, number, &extract_of_kinds(number * (WINDOW / KINDS), 1, number), md5, false);
+    }
+    for number in windows..windows + MEASURED {
+        take_in(&mut table, number, &extract_of_kinds(0, windows, number), md5, true);
+    }
+}
+
 fn time_statuses(count: u64, md5: &mut Md5) {
     let (mut table, windows) = (Statuses::default(), (count / WINDOW + 1) / 2);
     for number in 0..windows + MEASURED {
@@ -223,8 +318,10 @@ fn time_statuses(count: u64, md5: &mut Md5) {
 
 fn main() {
     let mut md5 = Md5::new();
-    for count in [10_000, 100_000, 1_000_000] {
+    for word in std::env::args().skip(1) {
+        let count = word.parse().expect("a number of rows");
         time_sats(count, &mut md5);
+        time_multis(count, &mut md5);
         time_statuses(count, &mut md5);
     }
 }
