@@ -1,5 +1,5 @@
 -- What a vault is with what a window adds: the vault of the sealed windows and the new one.
-use Rattle.dv_vault.proofs.Vocabulary.{map-map, slice_get-map, List, None, Option, Some, [], ap, arith, length, map, refl, reverse, suc, sym, true, ℕ, ◌++◌, ◌+◌, ◌-◌, ◌∙◌, ◌∷◌, ◌≡◌, length-map, map-append, option_map, slice_get, sum_by}
+use Rattle.dv_vault.proofs.Vocabulary.{map-map, slice_get-map, List, None, Option, Some, [], ap, arith, length, map, refl, suc, sym, true, ℕ, ◌++◌, ◌+◌, ◌-◌, ◌∙◌, ◌∷◌, ◌≡◌, length-map, map-append, option_map, slice_get, sum_by}
 use Rattle.dv_vault.proofs.Vocabulary.{Hashes, is_window, head_of, last_load, row_count, rows_weight, tables_weight, vault_weight, vault, table_batch, tables, Rule, late_after, full_at, Rows, TableRows, Window, WindowHead, AreApart}
 use Rattle.dv_vault.proofs.Vocabulary.{raw_with, IsAddition, all_added, weight_with, HasSealed, IsBuilt, RawVault, entries_with, last_head, Addition, loaded, last_or}
 use Rattle.dv_vault.proofs.AddedBatches.{added_is_batch}

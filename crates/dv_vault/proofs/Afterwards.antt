@@ -1,5 +1,5 @@
 -- A vault with the batches of one more window, and the windows with it.
-use Rattle.dv_vault.proofs.Vocabulary.{Bool, List, None, Some, [], ap, arith, false, length, map, nat_le, refl, reverse, sym, true, ℕ, ◌++◌, ◌+◌, ◌∙◌, ◌∷◌, ◌≡◌, nat_lt, and_from, and_parts, list_all, last_or, nat_tests, ◌||◌, if◌then◌else◌, sum_by, Contains-cons_here, Hashes, ascends, is_window}
+use Rattle.dv_vault.proofs.Vocabulary.{Bool, List, None, Some, [], ap, arith, false, length, map, nat_le, refl, sym, true, ℕ, ◌++◌, ◌+◌, ◌∙◌, ◌∷◌, ◌≡◌, nat_lt, and_from, and_parts, list_all, last_or, nat_tests, ◌||◌, if◌then◌else◌, sum_by, Contains-cons_here, Hashes, ascends, is_window}
 use Rattle.dv_vault.proofs.Vocabulary.{are_windows_valid, last_load, length-append, map-append, row_count, rows_then, rows_weight, tables_weight, vault_weight, table_entry, vault, table_after, table_batch, Mapping, tables, Rule, TableId, late_after, full_at, TableRows, Window, entries_with}
 use Rattle.dv_vault.proofs.Vocabulary.{Contains-append_right, is_none, collision, passes_at, all_pass_both, vault-push, weight-push, loaded, fold-map}
 use Rattle.dv_vault.proofs.VaultCollisions.{sealed_parts}

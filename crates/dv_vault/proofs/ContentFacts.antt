@@ -1,8 +1,8 @@
 -- What is read back from the vault, by what its tables answer.
-use Rattle.dv_vault.proofs.Vocabulary.{ltb-true, filter_map_more, got_from, ◌≡◌, ◌⊎◌, inl, inr, ℕ, ◌+◌, ◌<◌, ◌==◌, Bool, true, false, List, [], ◌∷◌, ◌++◌, Option, Some, None, Bor, refl, sym, ◌∙◌, ap, arith, get_or, length, take}
+use Rattle.dv_vault.proofs.Vocabulary.{ltb-true, filter_map_more, ◌≡◌, ◌⊎◌, inl, inr, ℕ, ◌+◌, ◌<◌, ◌==◌, Bool, true, false, List, [], ◌∷◌, ◌++◌, Option, Some, None, Bor, refl, sym, ◌∙◌, ap, arith, get_or, length, take}
 use Rattle.dv_vault.proofs.Vocabulary.{if◌then◌else◌, slice_get, filter_map, option_map, option_map_or, option_to_list, Key, NRow, Window, Hashes, sorted_by, FeedDef, LinkDef, Parent, Hub, Link, Mapping, link_hubs, parent_hubs, is_declared}
-use Rattle.dv_vault.proofs.Vocabulary.{built_forms, HubRow, LinkRow, SatRow, StatusRow, TableRows, feed_mart, attrs_read, content_read, content_read_by, hub_row_by, hub_rows_in, keys_read, link_row_by, link_rows_in, present_parents}
-use Rattle.dv_vault.proofs.Vocabulary.{refs_read, row_read, sat_rows, sat_rows_in, status_rows_in, valid_at, feed_tells, HasSealed, IsBuilt, RawVault, has_table, is_parent}
+use Rattle.dv_vault.proofs.Vocabulary.{HubRow, LinkRow, SatRow, StatusRow, TableRows, feed_mart, attrs_read, content_read, content_read_by, hub_row_by, hub_rows_in, keys_read, link_row_by, link_rows_in, present_parents}
+use Rattle.dv_vault.proofs.Vocabulary.{refs_read, row_read, sat_rows, sat_rows_in, status_rows_in, valid_at, HasSealed, RawVault, has_table, is_parent}
 use Rattle.dv_vault.proofs.Vocabulary.{flat_map, flat_map_more, is_valid, map, take_more}
 use Rattle.dv_text.specs.Orders.{row_cmp}
 use Rattle.dv_records.specs.ReadBack.{any_content_read, any_content_read_by, multi_content_read, multi_content_read_by, rows_read}

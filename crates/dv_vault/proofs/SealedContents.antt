@@ -1,7 +1,7 @@
 -- What is read back from the tables of a vault for a feed of a sealed window, at the window's load date.
 use Rattle.dv_vault.proofs.Vocabulary.{eq-eqb, refl, Contains, find, List, Some, [], ap, arith, false, inl, inr, map, nat_le, reverse, sym, true, ℕ, ◌<◌, ◌==◌, ◌∙◌, ◌∷◌, ◌≡◌, le-leb, nat_lt, and_parts, list_all, nat_tests, option_map}
-use Rattle.dv_vault.proofs.Vocabulary.{Contains-cons_cases, Contains-map, Contains-nil, member_of_filter_map, reverse_member, Hashes, ascends, is_staged, is_window, content_read, extract_of, Extract, content, history, newest_rows, up_to}
-use Rattle.dv_vault.proofs.Vocabulary.{built_forms, feed_tells, TableRows, Staged, Window, HasSealed, IsBuilt, RawVault, passes_at, IsNewestFirst, history-newest_first, load_order, WindowParts, staged_rows, window_parts}
+use Rattle.dv_vault.proofs.Vocabulary.{Contains-cons_cases, Contains-map, Contains-nil, member_of_filter_map, reverse_member, Hashes, ascends, is_window, extract_of, Extract, content, history, newest_rows, up_to}
+use Rattle.dv_vault.proofs.Vocabulary.{TableRows, Staged, Window, HasSealed, RawVault, passes_at, IsNewestFirst, history-newest_first, load_order, WindowParts, window_parts}
 use Rattle.dv_vault.proofs.Vocabulary.{is_valid}
 use Rattle.dv_records.specs.ReadBack.{any_content_read}
 use Rattle.dv_records.proofs.MultiReadBack.{vault_tells}
