@@ -2,5 +2,6 @@ mod ByteLimits
 mod FaultlessLaw
 pub mod Limits
 mod Literals
+mod PathLimits
 mod RecordLaw
 pub mod Vocabulary

@@ -13,6 +13,7 @@ pub mod Listed
 pub mod MappingExamples
 pub mod Mappings
 pub mod Normals
+pub mod PathLimits
 pub mod Printed
 pub mod Read
 pub mod ReadBacks

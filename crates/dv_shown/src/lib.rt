@@ -26,6 +26,7 @@ ghost use Rattle.dv_shown.specs.Written.{BridgeWritten, EffectWritten, LinkWritt
 pub mod catalog_laws;
 pub mod check_examples;
 pub mod file_examples;
+pub mod path_limits;
 pub mod reading_examples;
 
 /// Normal forms of keys and attributes.
