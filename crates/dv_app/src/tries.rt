@@ -177,12 +177,8 @@ fn try_all<F: Folder, O: Sink, E: Sink, H: KeyDigest, G: Gate>(
         digest,
         gate,
     )?;
-    let text = text_of(
-        alloc,
-        readied.loading.office.vault(),
-        &readied.what,
-        readied.date,
-    )?;
+    let vault = readied.loading.office.vault();
+    let text = text_of(alloc, vault, &readied.what, readied.date)?;
     match write_all(out, text.bytes()) {
         Ok(()) => Ok(readied.loading.refused),
         Err(Failed) => Err(Stop::Unwritten),

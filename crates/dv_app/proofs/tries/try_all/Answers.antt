@@ -33,7 +33,7 @@ pub load_all-requires-clause-loaded : goal.load_all-requires-clause-loaded
 load_all-requires-clause-loaded g c κs within = c.in_ok-readied.ensures.loaded (hashes_of g.H.KeyDigest.digest_of g.H.KeyDigest.size)
 
 pub text_of-requires : goal.text_of-requires
-text_of-requires g c = subst (λ m. IsOffered m c.in_ok-readied.readied.what) (sym (ap (λ (v : RawVault). v.mapping) c.vault.ensures ∙ c.load_all.ensures.mapping)) c.in_ok-readied.ensures.offered
+text_of-requires g c = subst (λ m. IsOffered m c.in_ok-readied.readied.what) (sym (ap (λ (v : RawVault). v.mapping) c.vault-vault.ensures ∙ c.load_all.ensures.mapping)) c.in_ok-readied.ensures.offered
 
 pub returns-in_err-text-clause-stops : goal.returns-in_err-text-clause-stops
 returns-in_err-text-clause-stops g c =
@@ -41,7 +41,7 @@ returns-in_err-text-clause-stops g c =
     rw (p.1, p.2) (λ files told. (
       refl,
       no_text (trial_of (hashes_of g.H.KeyDigest.digest_of g.H.KeyDigest.size) files c.args.asked.now) _ _ _ _ _ (c.in_ok-readied.ensures.ok (hashes_of g.H.KeyDigest.digest_of g.H.KeyDigest.size) files told) _ _ _
-          (c.in_ok-load_all.ensures.ok files (c.in_ok-readied.ensures.kept ∙ told)) _ c.vault.ensures _ c.in_err-text.ensures.ends,
+          (c.in_ok-load_all.ensures.ok files (c.in_ok-readied.ensures.kept ∙ told)) _ c.vault-vault.ensures _ c.in_err-text.ensures.ends,
     ))
 
 pub returns-in_err-text-clause-cause : goal.returns-in_err-text-clause-cause
@@ -53,10 +53,10 @@ pub returns-in-Ok-clause-ok : goal.returns-in-Ok-clause-ok
 returns-in-Ok-clause-ok g c = λ files told.
     let loads = c.in_ok-load_all.ensures.ok files (c.in_ok-readied.ensures.kept ∙ told) in
     gives_all (trial_of (hashes_of g.H.KeyDigest.digest_of g.H.KeyDigest.size) files c.args.asked.now) 0 0 _ _ _ (c.in_ok-readied.ensures.ok (hashes_of g.H.KeyDigest.digest_of g.H.KeyDigest.size) files told) _ _ _ loads _ _
-    c.bytes.result.now c.vault.result.now c.vault.ensures (λ hashes sealed has. c.in_ok-text.ensures.ok hashes sealed has ∙ ap Ok (sym c.bytes.ensures)) c.in-Ok.ensures.ok
+    c.bytes.result.now c.vault-vault.result.now c.vault-vault.ensures (λ hashes sealed has. c.in_ok-text.ensures.ok hashes sealed has ∙ ap Ok (sym c.bytes.ensures)) c.in-Ok.ensures.ok
 
 pub returns-clause-stops : goal.returns-clause-stops
 returns-clause-stops g c = λ files told.
     let loads = c.in_ok-load_all.ensures.ok files (c.in_ok-readied.ensures.kept ∙ told) in
     text_cut (trial_of (hashes_of g.H.KeyDigest.digest_of g.H.KeyDigest.size) files c.args.asked.now) _ _ _ _ _ (c.in_ok-readied.ensures.ok (hashes_of g.H.KeyDigest.digest_of g.H.KeyDigest.size) files told) _ _ _ loads _ _
-    c.bytes.result.now c.vault.result.now c.vault.ensures (λ hashes sealed has. c.in_ok-text.ensures.ok hashes sealed has ∙ ap Ok (sym c.bytes.ensures)) c.in-Err.ensures.err
+    c.bytes.result.now c.vault-vault.result.now c.vault-vault.ensures (λ hashes sealed has. c.in_ok-text.ensures.ok hashes sealed has ∙ ap Ok (sym c.bytes.ensures)) c.in-Err.ensures.err
