@@ -16,6 +16,7 @@ pub mod LinkTables
 pub mod MultiReadBack
 pub mod MultiReconstruct
 pub mod NewestRows
+pub mod NoWindows
 pub mod ParentTables
 pub mod Plans
 pub mod ReadBack

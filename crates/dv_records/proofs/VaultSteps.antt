@@ -1,5 +1,5 @@
 -- What a window more adds to the vault.
-use Rattle.dv_records.proofs.Vocabulary.{sum_by, ◌≡◌, ℕ, ◌+◌, true, List, [], ◌∷◌, ◌++◌, refl, ap, ◌∙◌, arith, reverse, map, reverse-append, sum_by-cons, Window, Hashes, TableId, Mapping, tables, Rows, AddsUp, are_of_one_kind, rows_then}
+use Rattle.dv_records.proofs.Vocabulary.{sum_by, ◌≡◌, ℕ, ◌+◌, true, List, [], ◌∷◌, ◌++◌, refl, ap, ◌∙◌, arith, map, reverse-append, sum_by-cons, Window, Hashes, TableId, Mapping, tables, Rows, AddsUp, are_of_one_kind, rows_then}
 use Rattle.dv_records.proofs.Vocabulary.{table_after, table_batch, table_entry, vault, rows_weight, vault_weight, common_steps, nat_tests}
 use Rattle.dv_catalog.specs.declared.tables.TableId.TheVariants.{Hub}
 use Rattle.dv_records.specs.Backwards.{Backwards, backwards, with_newest}

@@ -1,5 +1,5 @@
 -- How many rows a window adds.
-use Rattle.std.specs.Prelude.{ℕ, List, reverse, sum_by}
+use Rattle.std.specs.Prelude.{ℕ, List, sum_by}
 use Rattle.dv_text.specs.declared.rows.Window.{Window}
 use Rattle.dv_text.specs.Keys.{Hashes}
 use Rattle.dv_catalog.specs.Entries.{Mapping}

@@ -1,5 +1,5 @@
 -- The vault: the raw tables, each the concatenation of its batches.
-use Rattle.std.specs.Prelude.{◌≡◌, ℕ, nat_le, Contains, List, [], ◌∷◌, ◌++◌, Option, Some, None, filter, map, take, drop}
+use Rattle.std.specs.Prelude.{◌≡◌, ℕ, nat_le, Contains, List, [], ◌++◌, Option, Some, None, filter, map, take, drop}
 use Rattle.dv_text.specs.declared.rows.Window.{Window}
 use Rattle.dv_text.specs.Keys.{Hashes}
 use Rattle.dv_catalog.specs.declared.tables.TableId.{TableId}

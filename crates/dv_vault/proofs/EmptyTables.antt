@@ -3,6 +3,7 @@ use Rattle.dv_vault.proofs.Vocabulary.{map-map, map-id, ◌≡◌, ℕ, ◌+◌,
 use Rattle.dv_vault.proofs.Vocabulary.{table_entry, rows_weight, tables_weight, IsVaultOf, are_empty, are_rows_kept, same_table}
 use Rattle.dv_catalog.specs.declared.tables.TableId.TheVariants as ids
 use Rattle.dv_records.specs.Backwards.{backwards}
+use Rattle.dv_records.proofs.NoWindows.{after_none}
 
 pub empty_tables : (all : List TableId) → map (λ (entry : TableRows). entry.table) (map (λ id. record { table = id; rows = no_rows id }) all) ≡ all
 empty_tables all = map-map (λ (entry : TableRows). entry.table) (λ id. record { table = id; rows = no_rows id }) all ∙ map-id all
@@ -44,12 +45,7 @@ empty_all (ids.Effect n ∷ all) = empty_all all
 
 -- the vault of no windows has them
 first_entry : (mapping : Mapping) (hashes : Hashes) (id : TableId) → record { table = id; rows = no_rows id } ≡ table_entry mapping hashes (backwards []) id
-first_entry mapping hashes (ids.Hub n) = refl
-first_entry mapping hashes (ids.Link n) = refl
-first_entry mapping hashes (ids.Sat n) = refl
-first_entry mapping hashes (ids.Multi n) = refl
-first_entry mapping hashes (ids.Status n) = refl
-first_entry mapping hashes (ids.Effect n) = refl
+first_entry mapping hashes id = ap (λ rows. record { table = id; rows = rows }) (sym (after_none mapping hashes id))
 
 pub empty_vault : (mapping : Mapping) (hashes : Hashes) (all : List TableId) → map (λ id. record { table = id; rows = no_rows id }) all ≡ map (table_entry mapping hashes (backwards [])) all
 empty_vault mapping hashes [] = refl
