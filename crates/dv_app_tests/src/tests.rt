@@ -11,6 +11,7 @@ mod ends;
 mod large;
 mod mappings;
 mod marts;
+mod phones;
 mod rules;
 
 /// A trial: the words, the files of the folder, and what has to come of it.

@@ -8,30 +8,25 @@ use Rattle.std.specs.declared.cmp.Ordering.{Ordering}
 use Rattle.std.specs.declared.cmp.Ordering.TheVariants.{Less, Equal, Greater}
 use Rattle.std.proofs.lemmas.Cmp.{ranked}
 use Rattle.std.proofs.lemmas.List.Sums.{sum_by-append, sum_by-cons}
-use Rattle.std.specs.Prelude.{is_none, nat_lt, not, ◌||◌, ◌≢◌, if◌then◌else◌, zero, suc}
+use Rattle.std.specs.Prelude.{nat_lt, not, ◌||◌, ◌≢◌, if◌then◌else◌, zero, suc}
 use Rattle.dv_laws.proofs.Vocabulary.{◌≡◌, ◌⊎◌, ◌&&◌, ◌+◌, ◌<◌, ◌≤◌, ◌==◌, ℕ, Bool, true, false, List, [], ◌∷◌, ◌++◌, Option, Some, None, refl}
 use Rattle.dv_laws.proofs.Vocabulary.{sym, ◌∙◌, ap, subst, arith, inl, inr, map, nat_le, length, sum_by, and_from, and_parts, eq-eqb, false≢true, le-leb, not-true, nat_cmp_total, ascending-sorted_by}
-use Rattle.dv_laws.proofs.Vocabulary.{Hashes, Mapping, Parent, Window, TableId, TableRows, rows_in, table_after, tables, sorted_by, common_steps, nat_tests}
+use Rattle.dv_laws.proofs.Vocabulary.{Hashes, Mapping, Window, tables, sorted_by, common_steps, nat_tests}
 use Rattle.dv_text.specs.Sorting.{insert_by}
 use Rattle.dv_text.proofs.Options.{or_none}
 use Rattle.dv_text.proofs.Vocabulary.{AllByRecursion}
 use Rattle.dv_text.proofs.Passing.{list_any-map}
 use Rattle.dv_catalog.specs.FirstOf.{first_of}
 use Rattle.dv_text.proofs.SortedLists.{length-sorted_by, sorted_by-sorted}
-use Rattle.dv_catalog.specs.declared.tables.TableId.TheVariants as ids
 use Rattle.dv_laws.specs.Standing.{StandsAtFirst}
-use Rattle.dv_records.proofs.WellFormedTables.{same_table}
 use Rattle.dv_records.proofs.NoWindows.{none_in, none_valid}
 use Rattle.dv_records.proofs.WindowRows.{in_order}
-use Rattle.dv_records.specs.Collisions.{first_collision, parents}
-use Rattle.dv_records.specs.Limits.{most_snapshot_weight, most_snapshots, most_weight}
+use Rattle.dv_records.specs.Limits.{most_snapshot_weight, most_snapshots}
 use Rattle.dv_records.specs.Snapshots.{bridge, pit, snapshot}
 use Rattle.dv_records.specs.Standing.{IsFresh, Stands, TablesStand}
 use Rattle.dv_records.specs.States.{State, all_windows, are_dates_valid, are_not_later, are_windows_valid, ascends, beginning, last_load, snapshots_weight}
 use Rattle.dv_records.specs.Steps.{InitBroke, InitStep, IsStored, full_with, future, later_than, snapshot_refusal, snapshots_full, taken, too_large, with_date}
-use Rattle.dv_records.specs.Stores.{are_apart, are_snap_tables_apart, are_snapshots_in_order, have_kinds, is_new_snapshot, is_well_formed, no_rows, snap_cmp, snap_id_eq, table_eq, with_snapshot}
-use Rattle.dv_records.specs.Vault.{table_entry}
-use Rattle.dv_records.specs.Weights.{rows_weight, tables_weight}
+use Rattle.dv_records.specs.Stores.{are_apart, are_snap_tables_apart, are_snapshots_in_order, have_kinds, is_new_snapshot, is_well_formed, snap_cmp, snap_id_eq, with_snapshot}
 use Rattle.dv_records.specs.declared.answers.InitAnswer.{InitAnswer}
 use Rattle.dv_records.specs.declared.answers.InitAnswer.TheVariants as init
 use Rattle.dv_records.specs.declared.snapshots.Snap.{Snap}
@@ -40,7 +35,6 @@ use Rattle.dv_records.specs.declared.snapshots.SnapId.TheVariants.{Pit, Bridge}
 use Rattle.dv_records.specs.declared.snapshots.SnapTable.{SnapTable}
 use Rattle.dv_records.specs.declared.stores.Rows.TheVariants.{Pits, Bridges}
 use Rattle.dv_records.specs.declared.stores.Store.{Store}
-use Rattle.dv_records.specs.Backwards.{backwards}
 
 -- ---- a mapping
 

@@ -1,5 +1,5 @@
 -- The periods that effectivity rows tell are the runs.
-use Rattle.std.specs.Prelude.{◌≡◌, ℕ, List, map, reverse}
+use Rattle.std.specs.Prelude.{◌≡◌, ℕ, List, map}
 use Rattle.dv_text.specs.declared.rows.Window.{Window}
 use Rattle.dv_text.specs.Keys.{Hashes}
 use Rattle.dv_text.specs.Sorting.{sorted_by}

@@ -1,5 +1,5 @@
 -- What an offered word can name: a feed of the mapping, or one of its tables.
-use Rattle.dv_mart.proofs.Vocabulary.{◌≡◌, ℕ, ◌<◌, Bool, true, false, List, [], ◌∷◌, Option, Some, None, refl, sym, ◌∙◌, ap, subst, arith, codes, length, nat_lt, option_map, Contains, cond, option_and_then, list_all, position_or_len, bytes_eq, nat_tests, TableId, unbuilt, Mapping, first_of}
+use Rattle.dv_mart.proofs.Vocabulary.{◌≡◌, ℕ, ◌<◌, Bool, true, false, List, [], ◌∷◌, Option, Some, None, refl, ◌∙◌, subst, arith, codes, length, nat_lt, option_map, Contains, cond, option_and_then, position_or_len, bytes_eq, nat_tests, TableId, unbuilt, Mapping, first_of}
 use Rattle.dv_mart.proofs.Vocabulary.{table_name, tables, found_member, passes_at, is_kept, tables_kept, What, Feed, Table, IsOffered, behind, feed_place, feed_word, table_named, table_word}
 
 abbrev pub CanBe : Mapping → What → Type 0

@@ -1,5 +1,5 @@
 -- What the tables of a vault hold: of each table rows of its kind, and by them its text.
-use Rattle.dv_mart.proofs.Vocabulary.{◌≡◌, ℕ, ◌<◌, true, false≢true, List, ◌∙◌, ap, refl, arith, length, nat_lt, reverse, Contains, nat_tests, Window, Hashes, TableId, Mapping, is_of_kind, is_table_of, tables, tables_in, Rows, rows_in, rows_up_to, table_after, vault_holds, HasSealed, RawVault}
+use Rattle.dv_mart.proofs.Vocabulary.{◌≡◌, ℕ, ◌<◌, true, false≢true, List, ◌∙◌, ap, refl, arith, length, nat_lt, Contains, nat_tests, Window, Hashes, TableId, Mapping, is_of_kind, is_table_of, tables, tables_in, Rows, rows_in, rows_up_to, table_after, vault_holds, HasSealed, RawVault}
 use Rattle.dv_mart.proofs.Vocabulary.{passes_at, HasKind, raw_text, table_text, TableRows, Hubs, Links, Multis, Sats, Statuses, hub_rows, link_rows, multi_rows, sat_rows, status_rows}
 use Rattle.dv_catalog.specs.declared.tables.TableId.TheVariants as ids
 use Rattle.dv_records.specs.Backwards.{Backwards, backwards}

@@ -24,7 +24,8 @@ pub use Rattle.dv_text.specs.declared.rows.Window.{Window}
 pub use Rattle.dv_text.specs.declared.rows.WindowHead.{WindowHead}
 pub use Rattle.dv_vault.proofs.AddedWindows.{full_with, last_same, not_full, rows_loaded, sealed_after}
 pub use Rattle.dv_vault.proofs.EmptyTables.{empty_rows}
-pub use Rattle.dv_vault.proofs.NoWindows.{none_sealed, none_valid}
+pub use Rattle.dv_records.proofs.NoWindows.{none_valid}
+pub use Rattle.dv_vault.proofs.NoWindows.{none_sealed}
 pub use Rattle.dv_vault.proofs.SealedContents.{sealed_rows}
 pub use Rattle.dv_vault.proofs.VaultCollisions.{apart_is_free, clash_collides}
 pub use Rattle.dv_vault.specs.declared.additions.Addition.{Addition}

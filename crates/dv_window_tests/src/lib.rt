@@ -1,4 +1,4 @@
-//! Tests of the rules of windows, of what a window delivers, of the office, and of the marts and their texts.
+//! Tests of the rules of windows, and of what a window delivers to hubs and links.
 #![tactic(auto)]
 
 #[cfg(test)]
@@ -7,9 +7,3 @@ mod gathering;
 mod judging;
 #[cfg(test)]
 mod mappings;
-#[cfg(test)]
-mod marts;
-#[cfg(test)]
-mod texts;
-#[cfg(test)]
-mod words;

@@ -146,13 +146,13 @@ const REFUSED_MAPPINGS: &[Case] = &[
         files: &[
             (
                 b"mapping.toml",
-                b"[[hub]]\nname = \"customer\"\nparts = 1\n[[feed]]\nname = \"customers\"\nsource = \"crm\"\nhub = \"customer\"\nkeys = [[\"CUST_NO\"]]\nsub = [\"KIND\"]\nattrs = [\"PHONE\"]\n",
+                b"[[hub]]\nname = \"employee\"\nparts = 1\n[[hub]]\nname = \"department\"\nparts = 1\n[[link]]\nname = \"works\"\nhubs = [\"employee\", \"department\"]\n[[feed]]\nname = \"assignments\"\nsource = \"hr\"\nlink = \"works\"\nkeys = [[\"EMP\"], [\"DEPT\"]]\ndriver = [\"employee\"]\n",
             ),
             (b"w1.toml", DAY_1),
             (b"c1.csv", ROWS),
         ],
         out: "",
-        err: "vaultdesk: mapping 0 NotYet place=feed 1 sub\n",
+        err: "vaultdesk: mapping 0 NotYet place=feed 1 driver\n",
         status: Status::Mapping,
     },
 ];

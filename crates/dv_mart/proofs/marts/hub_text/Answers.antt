@@ -1,4 +1,4 @@
-use Rattle.dv_mart.proofs.Vocabulary.{◌≡◌, ◌<◌, ◌∙◌, length, subst, sym, IfOk-weaker, Hub, Mapping, Hubs, hub_rows}
+use Rattle.dv_mart.proofs.Vocabulary.{◌<◌, ◌∙◌, length, subst, sym, IfOk-weaker, Hub, Mapping, Hubs, hub_rows}
 use Rattle.dv_mart.proofs.VaultMarts.{hubs_back, hub_within, said}
 use Rattle.dv_mart.proofs.marts.hub_text.Goals as goal
 

@@ -1,4 +1,4 @@
-use Rattle.dv_mart.proofs.Vocabulary.{◌≡◌, ◌<◌, ◌∙◌, length, subst, sym, IfOk-weaker, Link, Mapping, Links, link_rows}
+use Rattle.dv_mart.proofs.Vocabulary.{◌<◌, ◌∙◌, length, subst, sym, IfOk-weaker, Link, Mapping, Links, link_rows}
 use Rattle.dv_mart.proofs.VaultMarts.{links_back, link_within, said}
 use Rattle.dv_mart.proofs.marts.link_text.Goals as goal
 

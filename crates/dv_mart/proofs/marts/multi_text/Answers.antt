@@ -1,4 +1,4 @@
-use Rattle.dv_mart.proofs.Vocabulary.{◌≡◌, ◌<◌, ◌∙◌, length, subst, sym, IfOk-weaker, Multi, Mapping, Multis, multi_rows}
+use Rattle.dv_mart.proofs.Vocabulary.{◌<◌, ◌∙◌, length, subst, sym, IfOk-weaker, Multi, Mapping, Multis, multi_rows}
 use Rattle.dv_mart.proofs.VaultMarts.{said, multi_within, multis_back}
 use Rattle.dv_mart.proofs.marts.multi_text.Goals as goal
 

@@ -1,4 +1,4 @@
-use Rattle.dv_mart.proofs.Vocabulary.{◌≡◌, ◌<◌, ◌∙◌, length, subst, sym, IfOk-weaker, Sat, Mapping, Sats, sat_rows}
+use Rattle.dv_mart.proofs.Vocabulary.{◌<◌, ◌∙◌, length, subst, sym, IfOk-weaker, Sat, Mapping, Sats, sat_rows}
 use Rattle.dv_mart.proofs.VaultMarts.{said, sat_within, sats_back}
 use Rattle.dv_mart.proofs.marts.sat_text.Goals as goal
 

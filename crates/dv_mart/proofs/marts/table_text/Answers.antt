@@ -1,4 +1,4 @@
-use Rattle.dv_mart.proofs.Vocabulary.{◌≡◌, ◌∙◌, ap, sym, true, false≢true, is_kept}
+use Rattle.dv_mart.proofs.Vocabulary.{◌∙◌, ap, sym, false≢true, is_kept}
 use Rattle.dv_mart.proofs.OfferedTables.{named_kept}
 use Rattle.dv_mart.proofs.marts.table_text.Goals as goal
 

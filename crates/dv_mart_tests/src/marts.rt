@@ -1,13 +1,8 @@
 // The marts and tables of an office that has loaded three windows.
-use dv_catalog::{ExtractIn, TableId, WindowIn};
-use dv_digest::Md5Keys;
-use dv_mart::{What, feed_mart, mart_text};
-use dv_outside::OpenGate;
-use dv_records::{Keeper, KeeperError, LoadAnswer, Rows};
-use dv_text::{Duplicate, List, Stamp, Text, Window, WindowHead};
-use dv_window::{Office, Order};
+use crate::offices::{Arrival, FIRST, SECOND, THIRD, hold, office, stamp};
+use dv_mart::feed_mart;
+use dv_window::Office;
 use std::alloc::Global;
-use std::process::Abort;
 use std::test::Fail;
 
 // Two feeds of one hub, and one of a link.
@@ -40,150 +35,33 @@ const MAPPING: &[u8] = b"[[hub]]\n\
 
 const BEFORE: &str = "2024-02-29T23:59:59";
 
-const FIRST: &str = "2024-03-01T02:00:00";
-
-const SECOND: &str = "2024-03-02T02:00:00";
-
-const THIRD: &str = "2024-03-03T02:00:00";
-
 const LATER: &str = "2024-12-31T00:00:00";
 
-// The load date of each window, and its extracts. The first customer vanishes in the second window, and the
-// third one in the third.
-static WINDOWS: [(&str, &[(&[u8], &[u8])]); 3] = [
-    (
-        FIRST,
-        &[
+// The first customer vanishes in the second window, and the third one in the third.
+static WINDOWS: [Arrival; 3] = [
+    Arrival {
+        load: FIRST,
+        extracts: &[
             (b"customers", b"CUST_NO,NAME\n1,abc\n2,x\n"),
             (b"accounts", b"ACCOUNT,TIER\n2,gold\n"),
             (b"purchases", b"CUST_NO,ITEM\n1,P\n"),
         ],
-    ),
-    (SECOND, &[(b"customers", b"CUST_NO,NAME\n2,x\n3,z\n")]),
-    (
-        THIRD,
-        &[
+        rows: 11,
+    },
+    Arrival {
+        load: SECOND,
+        extracts: &[(b"customers", b"CUST_NO,NAME\n2,x\n3,z\n")],
+        rows: 4,
+    },
+    Arrival {
+        load: THIRD,
+        extracts: &[
             (b"customers", b"CUST_NO,NAME\n2,y\n"),
             (b"purchases", b"CUST_NO,ITEM\n2,P\n"),
         ],
-    ),
+        rows: 5,
+    },
 ];
-
-// A keeper that tells nothing of its store: it gives the mapping, and keeps nothing.
-#[derive(Drop)]
-struct Untold {
-    mapping: Text,
-}
-
-impl Keeper for Untold {
-    ghost use Rattle.std.specs.Prelude.{None};
-
-    ghost store = { λ keeper. None };
-
-    ghost faults = { λ keeper. 0 };
-
-    ghost well_formed = { λ keeper store told. Prim.search };
-
-    fn mapping(&mut self, _alloc: Global) -> Result<Option<Text>, KeeperError> {
-        Ok(Some(self.mapping.copy()?))
-    }
-
-    fn put_mapping(&mut self, _alloc: Global, _text: &Text) -> Result<(), KeeperError> {
-        Ok(())
-    }
-
-    fn windows(&mut self, alloc: Global) -> Result<List<WindowHead>, KeeperError> {
-        Ok(List::new(alloc))
-    }
-
-    fn stage(&mut self, _alloc: Global) -> Result<Option<Window>, KeeperError> {
-        Ok(None)
-    }
-
-    fn put_stage(&mut self, _alloc: Global, _window: &Window) -> Result<(), KeeperError> {
-        Ok(())
-    }
-
-    fn rows(
-        &mut self,
-        alloc: Global,
-        _table: TableId,
-        _from: u64,
-        _most: u32,
-    ) -> Result<Rows, KeeperError> {
-        Ok(Rows::Hubs(List::new(alloc)))
-    }
-
-    fn append(&mut self, _alloc: Global, _table: TableId, _rows: &Rows) -> Result<(), KeeperError> {
-        Ok(())
-    }
-
-    fn seal(&mut self, _alloc: Global, _head: &WindowHead) -> Result<(), KeeperError> {
-        Ok(())
-    }
-}
-
-fn stamp(text: &str) -> Result<Stamp, Fail> {
-    let stamp = Stamp::read(text.as_bytes()).ok_or("no stamp")?;
-    Ok(stamp)
-}
-
-fn window(alloc: Global, load: &str, given: &[(&[u8], &[u8])]) -> Result<WindowIn, Fail> {
-    let mut extracts = List::new(alloc);
-    for (feed, bytes) in given {
-        extracts.push(ExtractIn {
-            feed: Text::of(alloc, feed)?,
-            bytes: List::from_vec(bytes.to_vec(alloc)?),
-        })?;
-    }
-    let load = stamp(load)?;
-    Ok(WindowIn { load, extracts })
-}
-
-fn load(office: &mut Office, keeper: &mut Untold, given: &WindowIn) -> Result<(), Fail> {
-    match office.load(keeper, given, 1, Order::Declared, &Md5Keys, &OpenGate) {
-        LoadAnswer::Loaded { .. } => Ok(()),
-        _ => Err("not loaded")?,
-    }
-}
-
-// The office that has loaded the windows.
-fn office(alloc: Global) -> Result<Office, Fail> {
-    let mut keeper = Untold {
-        mapping: Text::of(alloc, MAPPING)?,
-    };
-    let Ok(mut office) = Office::start(alloc, &mut keeper, &Md5Keys) else {
-        return Err("no office")?;
-    };
-    for (day, extracts) in WINDOWS {
-        let given = window(alloc, day, extracts)?;
-        load(&mut office, &mut keeper, &given)?;
-    }
-    Ok(office)
-}
-
-// The text of what a word names.
-fn text_of(alloc: Global, office: &Office, word: &str, date: &str) -> Result<Text, Fail> {
-    let word = Text::of(alloc, word.as_bytes())?;
-    let date = stamp(date)?;
-    match What::read(alloc, office.catalog(), &word)? {
-        Some(what) => Ok(mart_text(alloc, office.vault(), &what, date)?),
-        None => Err("nothing offered")?,
-    }
-}
-
-fn hold(
-    rt: &impl Abort,
-    alloc: Global,
-    office: &Office,
-    cases: &[(&str, &str, &str)],
-) -> Result<(), Fail> {
-    for (word, date, expected) in cases {
-        let text = text_of(alloc, office, word, date)?;
-        assert_eq!(rt; text.bytes(), expected.as_bytes(), "for {word} at {date}");
-    }
-    Ok(())
-}
 
 static FEEDS: [(&str, &str, &str); 8] = [
     ("feed:customers", BEFORE, "CUST_NO,NAME\n"),
@@ -199,7 +77,7 @@ static FEEDS: [(&str, &str, &str); 8] = [
 #[test]
 fn a_mart_has_the_last_rows_that_are_not_later(rt: HostRuntime) -> Result<(), Fail> {
     let alloc = rt.alloc();
-    let office = office(alloc)?;
+    let office = office(&rt, alloc, MAPPING, &WINDOWS)?;
     hold(&rt, alloc, &office, &FEEDS)
 }
 
@@ -275,7 +153,7 @@ static FEED_TABLES: [(&str, &str, &str); 4] = [
 #[test]
 fn a_table_has_the_rows_that_are_not_later(rt: HostRuntime) -> Result<(), Fail> {
     let alloc = rt.alloc();
-    let office = office(alloc)?;
+    let office = office(&rt, alloc, MAPPING, &WINDOWS)?;
     hold(&rt, alloc, &office, &HUBS_AND_LINKS)?;
     hold(&rt, alloc, &office, &FEED_TABLES)
 }
@@ -294,7 +172,7 @@ fn row_count(alloc: Global, office: &Office, feed: u32, date: &str) -> Result<us
 #[test]
 fn a_feed_that_a_window_lacks_is_as_before(rt: HostRuntime) -> Result<(), Fail> {
     let alloc = rt.alloc();
-    let office = office(alloc)?;
+    let office = office(&rt, alloc, MAPPING, &WINDOWS)?;
     for (feed, date, expected) in [
         (0, BEFORE, 0),
         (0, FIRST, 2),

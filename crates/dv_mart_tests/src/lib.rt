@@ -1,0 +1,13 @@
+//! Tests of the marts and tables of an office that has loaded windows, of their texts, and of the words that name them.
+#![tactic(auto)]
+
+#[cfg(test)]
+mod marts;
+#[cfg(test)]
+mod multis;
+#[cfg(test)]
+mod offices;
+#[cfg(test)]
+mod texts;
+#[cfg(test)]
+mod words;
