@@ -1,4 +1,4 @@
-use Rattle.dv_window.proofs.Vocabulary.{None, false, refl, vault, Held}
+use Rattle.dv_window.proofs.Vocabulary.{None, false, refl, Held}
 use Rattle.dv_window.proofs.StartFacts.{agrees_new, stands_new}
 use Rattle.dv_window.proofs.offices.Office.begin.Goals as goal
 

@@ -1,4 +1,4 @@
-use Rattle.dv_window.proofs.Vocabulary.{subst, sym, ◌∙◌, vault, RawVault, Told, Agrees, Held, IsAtRest}
+use Rattle.dv_window.proofs.Vocabulary.{subst, sym, ◌∙◌, RawVault, Told, Agrees, Held, IsAtRest}
 use Rattle.dv_window.proofs.Agreed.{agrees_again}
 use Rattle.dv_window.proofs.offices.Office.carry_out.Goals as goal
 
