@@ -1,5 +1,6 @@
 -- Each step keeps the rule.
-use Rattle.dv_board.proofs.Vocabulary.{◌≡◌, ◌≢◌, ℕ, ◌+◌, ◌-◌, ◌%◌, ◌^◌, ◌<◌, ◌≤◌, min, List, [], ◌∷◌, ◌++◌, length, set, Bool, true, false, cond, nat_lt, true≢false, false≢true, refl, sym, ap, ◌∙◌, subst, ⊎_elim, arith, slice_index, ◌||◌, some, some-ne-none, some-injective, get_elem?, mod-eq_of_lt}
+use Rattle.dv_board.proofs.Vocabulary.{◌≡◌, ◌≢◌, ℕ, ◌+◌, ◌-◌, ◌%◌, ◌^◌, ◌<◌, ◌≤◌, min, List, [], ◌∷◌, ◌++◌, length, set, Bool, true, false, cond, nat_lt, true≢false, false≢true, refl, sym, ap, ◌∙◌, subst, ⊎_elim, arith, slice_index, ◌||◌, some, some-ne-none, some-injective, get_elem?}
+use Rattle.dv_board.proofs.Vocabulary.{mod-eq_of_lt}
 use Rattle.dv_board.proofs.Vocabulary.{cases_Bool, or_cases, State, Me, Allows, Splits, Joins, keeps, at_set, total, times, once_below, Sizes, BoardView, nobody, noted, drawn, less, portion, both_of}
 use Rattle.dv_board.proofs.Sums.{total_set, total_snoc, all_set, all_snoc, total_at, times-append, sole}
 use Rattle.dv_board.specs.BoardRule.{Fits, Holds}

@@ -89,11 +89,14 @@ lowers_as k law slots id me p x same live on met is room s h len at _ =
     let full : n ≢ 0 = subst (λ i. word_at s.words i ≢ 0) (sym is) (probe.met met).0 in
     let inside : p < length s.words = let z = h.sized in omega (arith, z, room) in
     let which : (min n (me.0.item + 1) ≡ n) ⊎ (min n (me.0.item + 1) ≡ me.0.item + 1) =
-    ⊎_elim (λ (lt : n < me.0.item + 1). inl (omega (arith, lt))) (λ (ge : me.0.item + 1 ≤ n). inr (omega (arith, ge))) (cases_lt n (me.0.item + 1)) in
-    (offered me.0, keeps, tt,
-    subst (λ y. Holds k record { words = set s.words p (min n (y + 1)); homes = s.homes; views = set s.views id (offered me.0) }) (sym same)
-    (lowers k law s id me.0 p (min n (me.0.item + 1)) h at live on met is inside (λ e. full (omega (arith, e))) (omega arith) (omega arith) which),
-    refl)
+    ⊎_elim (λ (lt : n < me.0.item + 1). inl (omega (arith, lt))) (λ (ge : me.0.item + 1 ≤ n). inr (omega (arith, ge))) (cases_lt n (me.0.item + 1)) in (
+      offered me.0,
+      keeps,
+      tt,
+      subst (λ y. Holds k record { words = set s.words p (min n (y + 1)); homes = s.homes; views = set s.views id (offered me.0) }) (sym same)
+          (lowers k law s id me.0 p (min n (me.0.item + 1)) h at live on met is inside (λ e. full (omega (arith, e))) (omega arith) (omega arith) which),
+      refl,
+    )
 
 -- offers of a view that is cut in two, or of any other
 split_offers : (views : List KeyView) (id : ℕ) (v l r : KeyView) → get_elem? views id ≡ some v → l.offers ≡ v.offers → (a : ℕ) → IsOffered views a → IsOffered (set views id l ++ r ∷ []) a

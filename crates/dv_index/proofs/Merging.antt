@@ -1,6 +1,7 @@
 -- Merging from the back: what was moved so far, and that it stands in order.
 use Rattle.dv_index.proofs.Vocabulary.{◌≡◌, ℕ, ◌+◌, ◌<◌, ◌≤◌, inl, inr, Bool, true, false, List, [], ◌∷◌, ◌++◌, length, get_or, take, drop, refl, sym, ◌∙◌, ap, subst, arith, append_assoc, append-nil, length-append, Contains, not, IsStrictWeakOrder, AllPairs, IsPartitionPoint, IsPartitionedBy}
-use Rattle.dv_index.proofs.Vocabulary.{IsPermutation, IsSortedBy, not_from_false, not-false, not-true, drop_all, drop-append-le, drop_more, get_or-append-add, get_or_append_left, get_or-take, get_or-drop, length-drop, get_or_default, length-take-le, take-append-drop, take-take, take_all, take_at, take_more, Contains-append_cases}
+use Rattle.dv_index.proofs.Vocabulary.{IsPermutation, IsSortedBy, not_from_false, not-false, not-true, drop_all, drop-append-le, drop_more, get_or-append-add, get_or_append_left, get_or-take, get_or-drop, length-drop, get_or_default, length-take-le, take-append-drop, take-take, take_all, take_at}
+use Rattle.dv_index.proofs.Vocabulary.{take_more, Contains-append_cases}
 use Rattle.dv_index.proofs.Vocabulary.{Contains-append_left, Contains-append_right, Contains-get_or, AllPairs-cons, IsPermutation-append_right, IsPermutation-cons, IsPermutation-middle, IsPermutation-refl, IsPermutation-trans, sorted_far, Contains-cons_cases, Contains-cons_here}
 use Rattle.dv_index.proofs.Vocabulary.{Contains-cons_there}
 

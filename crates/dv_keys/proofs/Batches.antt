@@ -1,5 +1,6 @@
 -- The rows of new lists are a batch, and may stand behind the rows of which the lists are new.
-use Rattle.dv_keys.proofs.Vocabulary.{◌≡◌, ℕ, inl, inr, Bool, true, false, List, [], ◌∷◌, ◌++◌, Option, Some, None, refl, sym, ◌∙◌, ap, subst, Contains, Contains-append_left, ◌||◌, if◌then◌else◌, AllByRecursion, filter_map, list_all, IsStrictlySortedBy, Ordering, Less, option_to_list, then_less, irreflexive}
+use Rattle.dv_keys.proofs.Vocabulary.{◌≡◌, ℕ, inl, inr, Bool, true, false, List, [], ◌∷◌, ◌++◌, Option, Some, None, refl, sym, ◌∙◌, ap, subst, Contains, Contains-append_left, ◌||◌, if◌then◌else◌, AllByRecursion, filter_map, list_all, IsStrictlySortedBy, Ordering, Less, option_to_list, then_less}
+use Rattle.dv_keys.proofs.Vocabulary.{irreflexive}
 use Rattle.dv_keys.proofs.Vocabulary.{filter_map-append, Hashes, is_missing, Contains-cons_here, Contains-cons_there, filter_map_member, member_of_filter_map, ascending-sorted_by, member_after_sort, Mapping, Delivery, batch_made, batch_of, digest_cmp, tied_by_digest, Hashed, HasNoClash}
 use Rattle.dv_keys.proofs.Vocabulary.{or_parts, HashedList, hashed_cmp, hashed_cmp-IsAntisymmetric, hashed_item, is_held, all_hashed, brought, new_item, new_lists}
 use Rattle.dv_keys.proofs.Brought.{item_in, one_list}

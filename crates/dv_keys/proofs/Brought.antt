@@ -1,6 +1,7 @@
 -- The hashed lists of deliveries are what they bring, and those that are new.
 use Rattle.dv_keys.proofs.Vocabulary.{◌≡◌, ℕ, inl, inr, Bool, true, false, List, [], ◌∷◌, ◌++◌, Some, None, refl, ◌∙◌, ap, subst, map, Contains, ◌||◌, filter, filter_map, list_all, IsStrictlySortedBy-filter, IsTotalOrder, Ordering, Less, Equal, Greater, turned, sorted_by, sorted_by-members}
-use Rattle.dv_keys.proofs.Vocabulary.{AllByRecursion, AreHashed, HashedDelivery, delivered, list_beside, recursion_from_All, Delivery, Key, Hashes, is_missing, refs_cmp, ◌⊎◌, map_member, Contains-cons_cases, Contains-nil, Contains-cons_here, Contains-cons_there, Contains-map, filtered_members, ascending-sorted_by, member_after_sort, member_before_sort, Mapping}
+use Rattle.dv_keys.proofs.Vocabulary.{AllByRecursion, AreHashed, HashedDelivery, delivered, list_beside, recursion_from_All, Delivery, Key, Hashes, is_missing, refs_cmp, ◌⊎◌, map_member, Contains-cons_cases, Contains-nil, Contains-cons_here, Contains-cons_there, Contains-map, filtered_members}
+use Rattle.dv_keys.proofs.Vocabulary.{ascending-sorted_by, member_after_sort, member_before_sort, Mapping}
 use Rattle.dv_keys.proofs.Vocabulary.{Hashed, HasNoClash, IsLeastClash, Rivals, are_held_apart, least_rivals, brought, hashed_by, missing_in, hashed_cmp, hashed_item, hashed_cmp-IsAntisymmetric, is_held, all_hashed, is_new, new_item, new_lists, refs_exact, refs_total, brought_lists, with_missing}
 use Rattle.dv_keys.proofs.Clashes.{as_hashed, hashed_total, least_clash, no_clash}
 

@@ -2,7 +2,8 @@
 use Rattle.dv_keys.proofs.Vocabulary.{◌≡◌, ◌⊎◌, ℕ, inl, inr, Bool, true, false, List, [], ◌∷◌, ◌++◌, Option, Some, None, refl, sym, ◌∙◌, ap, subst, map, option_map, Contains, find, slice_get, IsTotalOrder, on_total, then_total, tied_itself, nat_list_cmp_total, nat_cmp-IsAntisymmetric}
 use Rattle.dv_keys.proofs.Vocabulary.{slice_cmp-IsAntisymmetric, cons_option, filter_map, IsStrictlySortedBy, bytes_eq, Ordering, Less, Equal, Greater, nat_cmp_total, Contains-append_cases, Contains-append_left, Contains-append_right, Contains-map, map_member, bytes_eq-Decides, Key}
 use Rattle.dv_keys.proofs.Vocabulary.{refs_eq, refs_cmp, sorted_by, Contains-cons_cases, Contains-cons_here, Contains-cons_there, Contains-nil, filter_map_member, member_of_all, member_of_filter_map, ascending-sorted_by, member_after_sort, member_before_sort, digest_cmp, Pair, Hashed}
-use Rattle.dv_keys.proofs.Vocabulary.{HasNoClash, IsClash, IsLeastClash, HashedList, Rivals, hashed_cmp, hashed_cmp-IsAntisymmetric, rivals_cmp-IsAntisymmetric, are_held_apart, is_other_held, list_under, all_neighbours, all_rivals, least_rivals, neighbours, rivals_cmp, rivals_of, held_rival, refs_eq-Decides, refs_exact}
+use Rattle.dv_keys.proofs.Vocabulary.{HasNoClash, IsClash, IsLeastClash, HashedList, Rivals, hashed_cmp, hashed_cmp-IsAntisymmetric, rivals_cmp-IsAntisymmetric, are_held_apart, is_other_held, list_under, all_neighbours, all_rivals, least_rivals, neighbours, rivals_cmp, rivals_of, held_rival}
+use Rattle.dv_keys.proofs.Vocabulary.{refs_eq-Decides, refs_exact}
 use Rattle.dv_keys.proofs.Vocabulary.{refs_total, finds, found_member, made_of, asymmetric, irreflexive, turned, then_less}
 use Rattle.dv_keys.proofs.Held.{one_held}
 

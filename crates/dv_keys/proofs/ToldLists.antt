@@ -1,5 +1,6 @@
 -- The names of hubs tell the reference lists that windows bring to a link, so that its rows stand for them.
-use Rattle.dv_keys.proofs.Vocabulary.{◌≡◌, ◌<◌, ◌==◌, ℕ, Bool, true, false, List, [], ◌∷◌, Option, Some, None, refl, sym, ◌∙◌, ap, subst, length, map, option_map, reverse, reverse-reverse, eqb-true, ltb-true, Contains, not, slice_get, flat_map, list_all, some_passes, some_passes_at, is_offered-member, offered_member}
+use Rattle.dv_keys.proofs.Vocabulary.{◌≡◌, ◌<◌, ◌==◌, ℕ, Bool, true, false, List, [], ◌∷◌, Option, Some, None, refl, sym, ◌∙◌, ap, subst, length, map, option_map, reverse, reverse-reverse, eqb-true, ltb-true, Contains, not, slice_get, flat_map, list_all, some_passes, some_passes_at}
+use Rattle.dv_keys.proofs.Vocabulary.{is_offered-member, offered_member}
 use Rattle.dv_keys.proofs.Vocabulary.{and_parts, Key, NRow, Staged, Window, Hashes, is_missing, Contains-cons_there, Contains-flat_map, Contains-map, Contains-nil, filtered_members, is_offered, key_at_first, key_found, missing_unfound, the_missing}
 use Rattle.dv_keys.proofs.Vocabulary.{flat_map_member, map_member, FeedDef, LinkDef, Parent, Hub, Link, Mapping, feed_hubs, hubs_by, is_fed_by, keys_at, parent_eq, parent_hubs, is_hub, is_valid, valid_link, Delivery, HubRow, IsApart, appended, hashed_refs}
 use Rattle.dv_keys.proofs.Vocabulary.{is_known, offered_refs, offers, offers_of, refs_from, table_of, all_refs, HubName, key_named, each_hash, hub_batch, are_rows_of, fit_hubs, fits_hub, is_row_of, is_staged, is_window, collision_free, missing_key}

@@ -1,8 +1,10 @@
 -- What the proofs of this crate, and of those above it, take from elsewhere.
-pub use Rattle.dv_text.proofs.Vocabulary.{AllByRecursion, recursion_from_All, Bool, Contains, Contains-append_cases, Contains-append_left, Contains-append_right, IsTotalOrder, List, None, Option, Some, [], and_from, and_parts, ap, append_assoc, arith, bytes_eq-Decides, cond, cons_option, false, false≢true}
+pub use Rattle.dv_text.proofs.Vocabulary.{AllByRecursion, recursion_from_All, Bool, Contains, Contains-append_cases, Contains-append_left, Contains-append_right, IsTotalOrder, List, None, Option, Some, [], and_from, and_parts, ap, append_assoc, arith, bytes_eq-Decides, cond, cons_option, false}
+pub use Rattle.dv_text.proofs.Vocabulary.{false≢true}
 pub use Rattle.dv_text.proofs.Vocabulary.{filter_map, filter_map-append, flat_map, inl, inr, key_eq, length, list_all, list_any, map, nat_le, nat_list_cmp_total, nat_tests, option_to_list, ordering_reverse, refl, refs_cmp, refs_eq, replicate, reverse, slice_cmp-IsAntisymmetric, slice_get}
 pub use Rattle.dv_text.proofs.Vocabulary.{sorted_by, subst, suc, sym, take, texts_eq, tied_itself, true, zero, ℕ, ◌&&◌, ◌++◌, ◌-◌, ◌<◌, ◌==◌, ◌∙◌, ◌∷◌, ◌≡◌, ◌≤◌, ◌⊎◌}
-pub use Rattle.dv_records.proofs.Vocabulary.{turned, then_less, got_member, sorted_by-members, Contains-flat_map, Contains-map, Contains-nil, Hashes, IsApart, IsBatchOf, IsPairOf, Pair, all_refs, appended, are_rows_of, asymmetric, batch_of, collision_in, deliveries, digest_cmp, each_hash, feed_hubs, filtered_members, finds, first_offer}
+pub use Rattle.dv_records.proofs.Vocabulary.{turned, then_less, got_member, sorted_by-members, Contains-flat_map, Contains-map, Contains-nil, Hashes, IsApart, IsBatchOf, IsPairOf, Pair, all_refs, appended, are_rows_of, asymmetric, batch_of, collision_in, deliveries, digest_cmp, each_hash}
+pub use Rattle.dv_records.proofs.Vocabulary.{feed_hubs, filtered_members, finds, first_offer}
 pub use Rattle.dv_records.proofs.Vocabulary.{fit_hubs, fits_hub, flat_map_member, hashed_refs, hub_batch, irreflexive, is_fed_by, is_key_part, is_known, is_missing, is_offered, is_row_of, is_staged, is_window, keys_at, link_batch, link_hubs, ltb-true, made_of, member_before_sort, member_of_all}
 pub use Rattle.dv_records.proofs.Vocabulary.{missing_refs, nat_cmp-IsAntisymmetric, offered_refs, offers, offers_of, on_total, only_key, pair_cmp, refs_eq-Decides, refs_exact, refs_from, refs_total, reverse_member, some_passes, some_passes_at, sorted_by-sorted, source, table_of, then_total}
 pub use Rattle.dv_records.proofs.Vocabulary.{valid_link}

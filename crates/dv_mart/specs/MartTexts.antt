@@ -20,7 +20,8 @@ use Rattle.dv_mart.specs.declared.query_rules.QueryRule.{QueryRule}
 use Rattle.dv_mart.specs.declared.query_rules.QueryRule.TheVariants.{TooLarge}
 use Rattle.dv_mart.specs.declared.whats.What.{What}
 use Rattle.dv_mart.specs.declared.whats.What.TheVariants as what
-use Rattle.dv_mart.specs.Texts.{bridge_text, csv_text, effect_table_header, effect_table_record, feed_text, hub_table_header, hub_table_record, hub_text, link_table_header, link_table_record, multi_table_record, path_text, period_text, pit_text, sat_table_header, sat_table_record, status_table_header, status_table_record}
+use Rattle.dv_mart.specs.Texts.{bridge_text, csv_text, effect_table_header, effect_table_record, feed_text, hub_table_header, hub_table_record, hub_text, link_table_header, link_table_record, multi_table_record, path_text, period_text, pit_text, sat_table_header, sat_table_record}
+use Rattle.dv_mart.specs.Texts.{status_table_header, status_table_record}
 
 -- ---- raw tables
 

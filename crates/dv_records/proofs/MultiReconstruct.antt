@@ -2,7 +2,8 @@
 use Rattle.dv_records.specs.Reconstruction.{all_valid_at, described_row, loaded_with, HasOneRowPerSub}
 use Rattle.dv_records.specs.declared.stores.Rows.TheVariants.{Multis}
 use Rattle.dv_records.proofs.Vocabulary.{Contains, nat_le, find, ◌&&◌, bytes_eq, ◌≡◌, ◌↔◌, ℕ, ◌==◌, inl, inr, Bool, List, [], Option, Some, None, refl, sym, ◌∙◌, ap, subst, reverse, map, eq-eqb, eqb-true, ◌⊎◌, and_from}
-use Rattle.dv_records.proofs.Vocabulary.{and_parts, bytes_eq-Decides, Key, NRow, Window, Hashes, filtered_members, map_member, Contains-map, Contains-nil, Multi, Mapping, MultiRow, appended, IsApart, Extract, all_refs, delivered_refs, history, up_to, IsInLoadOrder, lists_of, multi_rows, last_rows, multi_batch, multi_cmp, rows_of, IsMultiBatch}
+use Rattle.dv_records.proofs.Vocabulary.{and_parts, bytes_eq-Decides, Key, NRow, Window, Hashes, filtered_members, map_member, Contains-map, Contains-nil, Multi, Mapping, MultiRow, appended, IsApart, Extract, all_refs, delivered_refs, history, up_to, IsInLoadOrder, lists_of, multi_rows}
+use Rattle.dv_records.proofs.Vocabulary.{last_rows, multi_batch, multi_cmp, rows_of, IsMultiBatch}
 use Rattle.dv_records.proofs.Vocabulary.{IsOnePerSub, table_after}
 use Rattle.dv_catalog.specs.Feeds.{source as source_of}
 use Rattle.dv_records.proofs.ChangedRows.{AreValid, of_list, valid_rows}

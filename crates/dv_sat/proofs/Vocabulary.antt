@@ -1,5 +1,6 @@
 -- What the proofs of this crate, and of those above it, take from elsewhere.
-pub use Rattle.dv_text.proofs.Vocabulary.{Bool, Contains, Contains-append_cases, Contains-append_left, Contains-append_right, IsTotalOrder, List, None, Option, Some, [], ap, arith, false, filter_map, inl, inr, is_eq, is_lt, list_all, map, nat_le, nat_list_cmp_total, option_map, refl, refs_eq, reverse, row_cmp}
+pub use Rattle.dv_text.proofs.Vocabulary.{Bool, Contains, Contains-append_cases, Contains-append_left, Contains-append_right, IsTotalOrder, List, None, Option, Some, [], ap, arith, false, filter_map, inl, inr, is_eq, is_lt, list_all, map, nat_le, nat_list_cmp_total, option_map, refl, refs_eq}
+pub use Rattle.dv_text.proofs.Vocabulary.{reverse, row_cmp}
 pub use Rattle.dv_text.proofs.Vocabulary.{row_eq, sorted_by, subst, sym, take, texts_eq, true, ℕ, ◌++◌, ◌<◌, ◌==◌, ◌∙◌, ◌∷◌, ◌≡◌, ◌⊎◌}
 pub use Rattle.dv_digest.specs.Fits.{attrs_fit}
 pub use Rattle.dv_index.proofs.Vocabulary.{Contains-cons_cases, Contains-cons_here, Contains-cons_there, always_returns_same, ascending-sorted_by, filter_map_member, find, list_all-map, not, ranks_by, rules}

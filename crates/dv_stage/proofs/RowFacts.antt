@@ -1,5 +1,6 @@
 -- The fields at places: one place more, and the row by the places of a feed's columns.
-use Rattle.dv_stage.proofs.Vocabulary.{IfOk-weaker, ◌≡◌, ◌+◌, ◌<◌, ◌∷◌, ◌++◌, ℕ, List, [], Option, Some, None, length, take, map, get_or, refl, ap, ◌∙◌, filter_map, option_and_then, option_to_list, cons_option, slice_get, map-append, norm_field, norm_key, filter_map_more, FeedDef, fields_under, key_under}
+use Rattle.dv_stage.proofs.Vocabulary.{IfOk-weaker, ◌≡◌, ◌+◌, ◌<◌, ◌∷◌, ◌++◌, ℕ, List, [], Option, Some, None, length, take, map, get_or, refl, ap, ◌∙◌, filter_map, option_and_then, option_to_list, cons_option, slice_get, map-append, norm_field, norm_key, filter_map_more, FeedDef, fields_under}
+use Rattle.dv_stage.proofs.Vocabulary.{key_under}
 use Rattle.dv_stage.proofs.Vocabulary.{place_of, row_of, Layout, IsLayoutOf, fields_at, key_at, places_of, row_at}
 
 -- what stands at one place more

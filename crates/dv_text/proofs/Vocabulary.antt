@@ -20,7 +20,8 @@ pub use Rattle.jiff_core.specs.Time.{time_seconds}
 pub use Rattle.jiff_core.specs.Timestamp.{IsTimestampNanos}
 pub use Rattle.jiff_core.specs.declared.civil.date.Date.{Date}
 pub use Rattle.jiff_core.specs.declared.civil.datetime.DateTime.{DateTime}
-pub use Rattle.std.proofs.Common.{Bool, List, None, Option, Some, [], ap, append_assoc, arith, codes, cond, false, filter, find, get_or, inl, inr, length, map, nat_le, neg_ℤ, not, of_z, pos, refl, replicate, reverse, subst, suc, sym, take, to_z, true, w64, zero, zero-add, ℕ, ℤ, ◌%◌, ◌&&◌, ◌*ℤ◌, rules}
+pub use Rattle.std.proofs.Common.{Bool, List, None, Option, Some, [], ap, append_assoc, arith, codes, cond, false, filter, find, get_or, inl, inr, length, map, nat_le, neg_ℤ, not, of_z, pos, refl, replicate, reverse, subst, suc, sym, take, to_z, true, w64, zero, zero-add, ℕ, ℤ, ◌%◌, ◌&&◌, ◌*ℤ◌}
+pub use Rattle.std.proofs.Common.{rules}
 pub use Rattle.std.proofs.Common.{◌*◌, ◌++◌, ◌+ℤ◌, ◌+◌, ◌-ℤ◌, ◌-◌, ◌/◌, ◌<ℤ◌, ◌<◌, ◌==◌, ◌^◌, ◌||◌, ◌↔◌, ◌∙◌, ◌∷◌, ◌≡◌, ◌≤ℤ◌, ◌≤◌, ◌⊎◌}
 pub use Rattle.std.proofs.lemmas.Bool.{and_from, and_parts, cases_order, eqb-true, false_from_ne_true, false≢true, le-ltb, lt-ltb, not-false}
 pub use Rattle.std.proofs.lemmas.Bool.Decides.{Decides-and, Decides-by_and, nat_tests, same_from_decides}

@@ -1,6 +1,7 @@
 -- What the proofs of this crate, and of those above it, take from elsewhere.
 pub use Rattle.dv_text.proofs.Vocabulary.{All, Bool, Contains, Contains-append_cases, Contains-append_left, Contains-append_right, Decides, IsAntisymmetric, IsTotalOrder, Less-from_sorted, List, None, Option, Some, [], and_parts, ap, append_assoc, arith, bytes_eq-Decides, drop_more, false}
-pub use Rattle.dv_text.proofs.Vocabulary.{false_from_ne_true, false≢true, filter, filter_map, get_or, inl, inr, is_lt, length, length-map, list_all-append, map, nat_le, nat_list_cmp_total, not, option_map, ordering_reverse, refl, reverse, slice_cmp-IsAntisymmetric, sorted_by, subst, suc, sym, take}
+pub use Rattle.dv_text.proofs.Vocabulary.{false_from_ne_true, false≢true, filter, filter_map, get_or, inl, inr, is_lt, length, length-map, list_all-append, map, nat_le, nat_list_cmp_total, not, option_map, ordering_reverse, refl, reverse, slice_cmp-IsAntisymmetric, sorted_by, subst, suc, sym}
+pub use Rattle.dv_text.proofs.Vocabulary.{take}
 pub use Rattle.dv_text.proofs.Vocabulary.{texts_ties, true, zero, ℕ, ◌&&◌, ◌||◌, ◌++◌, ◌+◌, ◌-◌, ◌<◌, ◌↔◌, ◌∙◌, ◌∷◌, ◌≡◌, ◌≤◌}
 pub use Rattle.dv_catalog.proofs.Vocabulary.{bytes_eq, drop, found_member, map_member}
 pub use Rattle.dv_index.proofs.Vocabulary.{Contains-cons_cases, IsPartitionPoint, IsSortedBy, IsStrictlySortedBy-filter_map, ascending-sorted_by, cases_lt, drop_all, filter_map_member, find, find-append, latest_at, latest_of_each, le-leb, length-drop}
