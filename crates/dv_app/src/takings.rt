@@ -69,7 +69,7 @@ fn load_window<H: KeyDigest, G: Gate>(
         LoadAnswer::Repeated => Ok(Taken::Repeated),
         LoadAnswer::Refused(rule) => Ok(Taken::Refused(rule)),
         LoadAnswer::Memory => Err(Memory),
-        LoadAnswer::KeeperFault => unreachable!(),
+        LoadAnswer::Damaged(_) | LoadAnswer::KeeperFault => unreachable!(),
     }
 }
 

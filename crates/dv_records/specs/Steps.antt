@@ -53,6 +53,7 @@ LoadStep mapping hashes state given (load.Loaded rows) state' =
     × (rows ≡ loaded mapping hashes state.sealed (window_of mapping given))
 LoadStep mapping hashes state given load.Repeated state' = (outcome mapping hashes state given ≡ outcomes.Repeated) × (state' ≡ state)
 LoadStep mapping hashes state given (load.Refused rule) state' = (outcome mapping hashes state given ≡ outcomes.Refused rule) × (state' ≡ state)
+LoadStep mapping hashes state given (load.Damaged damage) state' = state' ≡ state
 LoadStep mapping hashes state given load.KeeperFault state' = LoadBroke mapping hashes state given state'
 LoadStep mapping hashes state given load.Memory state' = LoadBroke mapping hashes state given state'
 
@@ -66,14 +67,9 @@ abbrev pub ResumeStep : Mapping → Hashes → State → ResumeAnswer → State 
 ResumeStep mapping hashes state (resume.Loaded rows) state' =
     (window : Window) × (state.begun ≡ Some window) × (state' ≡ sealed_with window state) × (rows ≡ loaded mapping hashes state.sealed window)
 ResumeStep mapping hashes state resume.NothingOpen state' = (state.begun ≡ None) × (state' ≡ state)
+ResumeStep mapping hashes state (resume.Damaged damage) state' = state' ≡ state
 ResumeStep mapping hashes state resume.KeeperFault state' = ResumeBroke state state'
 ResumeStep mapping hashes state resume.Memory state' = ResumeBroke state state'
-
--- ---- damage
-
--- a load or a completion that finds the store damaged: the state is as before
-abbrev pub DamagedStep : State → State → Type 0
-DamagedStep state state' = state' ≡ state
 
 -- ---- a snapshot
 

@@ -21,7 +21,7 @@ mod stores;
 mod turns;
 mod weights;
 
-pub use answers::{InitAnswer, LoadAnswer, Outcome, ResumeAnswer, SnapAnswer};
+pub use answers::{Damage, InitAnswer, LoadAnswer, Outcome, ResumeAnswer, SnapAnswer};
 pub use deliveries::{Delivery, DeltaFault, HashedDelivery, HubNames};
 pub use keepers::{Keeper, KeeperError};
 pub use mart_rows::{HubCell, HubMartRow, PathRow, PeriodRow};

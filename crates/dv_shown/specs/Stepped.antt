@@ -5,6 +5,7 @@ use Rattle.dv_catalog.specs.declared.rules.Rule.TheVariants.{NoExtracts}
 use Rattle.dv_catalog.specs.declared.tables.TableId.TheVariants.{Hub, Status}
 use Rattle.dv_records.specs.declared.raw_rows.Code.TheVariants.{I}
 use Rattle.dv_records.specs.declared.answers.InitAnswer.TheVariants as init
+use Rattle.dv_records.specs.declared.answers.Damage.{Damage}
 use Rattle.dv_records.specs.declared.answers.LoadAnswer.TheVariants as load
 use Rattle.dv_records.specs.declared.answers.ResumeAnswer.TheVariants as resume
 use Rattle.dv_records.specs.declared.answers.SnapAnswer.TheVariants as snap
@@ -17,7 +18,7 @@ use Rattle.dv_records.specs.MemoryKeepers.{empty_store}
 use Rattle.dv_records.specs.Standing.{IsFresh, Stands}
 use Rattle.dv_records.specs.States.{State, beginning}
 use Rattle.dv_records.specs.Snapshots.{snapshot}
-use Rattle.dv_records.specs.Steps.{DamagedStep, InitStep, LoadStep, ResumeStep, SnapStep, full_with, snapshot_refusal, with_date}
+use Rattle.dv_records.specs.Steps.{InitStep, LoadStep, ResumeStep, SnapStep, full_with, snapshot_refusal, with_date}
 use Rattle.dv_records.specs.Stores.{with_snapshot as with_one_more}
 use Rattle.dv_records.specs.Vault.{vault}
 use Rattle.dv_shown.specs.Answered.{begun, first, first_loaded, given, of_customers, sealed}
@@ -39,6 +40,10 @@ renaming dates = record { sealed = once; begun = Some renamed; dates = dates }
 
 abbrev pub renamed_at : List ℕ → State
 renamed_at dates = record { sealed = once ++ renamed ∷ []; begun = None; dates = dates }
+
+-- a hub's second row, which has a digest of another width
+abbrev pub second_hub_row : Damage
+second_hub_row = record { table = codes "hub_customer"; row = 1; rule = 4 }
 
 -- loads
 pub record LoadsStep : Type 0 where
@@ -68,6 +73,8 @@ pub record LoadsStep : Type 0 where
   pub refused_not_opened_for_memory : LoadStep with_names plain beginning (given 1 []) load.Memory (begun (window 1 [])) → ⊥
   pub fault_elsewhere : LoadStep with_names plain beginning first load.KeeperFault (sealed (once ++ once)) → ⊥
   pub memory_elsewhere : LoadStep with_names plain beginning first load.Memory (sealed (once ++ once)) → ⊥
+  pub damaged : LoadStep with_names plain beginning first (load.Damaged second_hub_row) beginning
+  pub damaged_not_opened : LoadStep with_names plain beginning first (load.Damaged second_hub_row) (begun first_loaded) → ⊥
   -- in a state with a snapshot: notices a load that loses it
   pub beside_snapshot : LoadStep with_names plain (dated (day 1 ∷ [])) (given 2 (of_customers (codes "CUST_NO,NAME\n1,abd\n"))) (load.Loaded 1) (renamed_at (day 1 ∷ []))
   pub snapshot_lost : LoadStep with_names plain (dated (day 1 ∷ [])) (given 2 (of_customers (codes "CUST_NO,NAME\n1,abd\n"))) (load.Loaded 1) (renamed_at []) → ⊥
@@ -97,8 +104,8 @@ pub record ResumesStep : Type 0 where
   pub fault_beside_snapshot : ResumeStep with_names plain (renaming (day 1 ∷ [])) resume.KeeperFault (renamed_at (day 1 ∷ []))
   pub fault_without : ResumeStep with_names plain (renaming (day 1 ∷ [])) resume.KeeperFault (renamed_at []) → ⊥
   -- damage leaves the state: notices a damaged store that loses its open window
-  pub damaged : DamagedStep (renaming (day 1 ∷ [])) (renaming (day 1 ∷ []))
-  pub damaged_not_sealed : DamagedStep (renaming (day 1 ∷ [])) (renamed_at (day 1 ∷ [])) → ⊥
+  pub damaged : ResumeStep with_names plain (renaming (day 1 ∷ [])) (resume.Damaged second_hub_row) (renaming (day 1 ∷ []))
+  pub damaged_not_sealed : ResumeStep with_names plain (renaming (day 1 ∷ [])) (resume.Damaged second_hub_row) (renamed_at (day 1 ∷ [])) → ⊥
 
 -- a state with a snapshot at the second day
 abbrev pub taken_at : List ℕ → State

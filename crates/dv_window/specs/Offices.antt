@@ -59,12 +59,14 @@ pub record IsNewOf (mapping : Mapping) (store : Store) : Type 0 where
 abbrev pub IsNew : Store → Type 0
 IsNew store = (mapping : Mapping) × IsNewOf mapping store
 
--- what the answer to a window says of its outcome; a fault and want of memory say nothing
+-- what the answer to a window says of its outcome; a fault and want of memory say nothing, and a store that stands for a
+-- state has no damage
 abbrev pub AnswerSays : Mapping → Hashes → State → WindowIn → LoadAnswer → Type 0
 AnswerSays mapping hashes state given (load.Loaded rows) =
     (outcome mapping hashes state given ≡ outcomes.Load) × (rows ≡ loaded mapping hashes state.sealed (window_of mapping given))
 AnswerSays mapping hashes state given load.Repeated = outcome mapping hashes state given ≡ outcomes.Repeated
 AnswerSays mapping hashes state given (load.Refused rule) = outcome mapping hashes state given ≡ outcomes.Refused rule
+AnswerSays mapping hashes state given (load.Damaged damage) = ⊥
 AnswerSays mapping hashes state given load.KeeperFault = Unit {0}
 AnswerSays mapping hashes state given load.Memory = Unit {0}
 
@@ -79,5 +81,6 @@ abbrev pub StoreAfter : Held → Option Store → LoadAnswer → Option Store �
 StoreAfter held' before (load.Loaded rows) after = Told after (Agrees held')
 StoreAfter held' before load.Repeated after = after ≡ before
 StoreAfter held' before (load.Refused rule) after = after ≡ before
+StoreAfter held' before (load.Damaged damage) after = after ≡ before
 StoreAfter held' before load.KeeperFault after = Unit {0}
 StoreAfter held' before load.Memory after = Unit {0}

@@ -3,6 +3,7 @@ ghost use Rattle.std.specs.Prelude.{◌≡◌, ◌≤◌, IfOk, OnErr, OnOk};
 ghost use Rattle.dv_text.specs.Causes.{Rose};
 ghost use Rattle.dv_text.specs.Keys.{hashes_of};
 ghost use Rattle.dv_text.specs.Told.{Told};
+ghost use Rattle.dv_records.specs.declared.answers.Damage.{Damage};
 ghost use Rattle.dv_records.specs.Changes.{KeeperCause};
 ghost use Rattle.dv_records.specs.States.{State};
 ghost use Rattle.dv_vault.specs.Additions.{Fits};
@@ -20,7 +21,8 @@ impl Office {
     /// Loads a window: decides what comes of it, gives it to the keeper, and adds it to the vault.
     ///
     /// `Refused` names the first rule that the window breaks, and `Repeated` says that it is a sealed one
-    /// again; both leave office and keeper as they are. `Loaded` gives the number of rows that the window adds
+    /// again; both leave office and keeper as they are. So would `Damaged`, which never comes, since a load reads
+    /// nothing of the keeper. `Loaded` gives the number of rows that the window adds
     /// to all tables. `KeeperFault` comes only where the keeper's count of faults rose. Condition: the keeper's
     /// store, where it is told, is what the office holds. One loader works through the tables in declared order,
     /// whatever `workers` and `order` say.
@@ -39,6 +41,7 @@ impl Office {
         ensures rest { IsAtRest self.old → IsAtRest self.new }
         ensures mapping { self.new.vault.mapping ≡ self.old.vault.mapping }
         ensures store { StoreAfter self.new (K.store keeper.old) result (K.store keeper.new) }
+        ensures undamaged { (damage : Damage) → result ≡ LoadAnswer.Damaged damage → ⊥ }
         ensures cause { result ≡ LoadAnswer.KeeperFault → Rose (K.faults keeper.old) (K.faults keeper.new) }
         ensures later { K.faults keeper.old ≤ K.faults keeper.new }
     {

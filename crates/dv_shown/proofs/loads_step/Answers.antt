@@ -40,6 +40,8 @@ returns c =
       refused_not_opened_for_memory = λ s. ⊎_elim (λ same. let e : 1 ≡ 0 = ap open_count same in omega (arith, e)) (λ r. let e : Refused NoExtracts ≡ Load = r.0 in cc) s;
       fault_elsewhere = λ s. ⊎_elim (λ same. let e : 2 ≡ 0 = ap sealed_count same in omega (arith, e)) (λ r. ⊎_elim (λ o. let e : 2 ≡ 0 = ap sealed_count o in omega (arith, e)) (λ o. let e : 2 ≡ 1 = ap sealed_count o in omega (arith, e)) r.1) s;
       memory_elsewhere = λ s. ⊎_elim (λ same. let e : 2 ≡ 0 = ap sealed_count same in omega (arith, e)) (λ r. ⊎_elim (λ o. let e : 2 ≡ 0 = ap sealed_count o in omega (arith, e)) (λ o. let e : 2 ≡ 1 = ap sealed_count o in omega (arith, e)) r.1) s;
+      damaged = refl;
+      damaged_not_opened = λ s. let e : 1 ≡ 0 = ap open_count s in omega (arith, e);
       beside_snapshot = (refl, refl, refl);
       snapshot_lost = λ s. let e : 0 ≡ 1 = ap date_count s.1 in omega (arith, e);
       open_beside_snapshot = inr (refl, inl refl);
