@@ -1,7 +1,6 @@
 pub mod Ascending
 pub mod CellLoads
-pub mod EffectRuns
-pub mod EffectTies
+pub mod EffectsTell
 pub mod HeaderSteps
 pub mod HubReconstruct
 pub mod PeriodTies

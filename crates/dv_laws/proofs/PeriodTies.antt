@@ -1,29 +1,18 @@
 -- The rows of a period mart are the periods in which the content delivers a list.
-use Rattle.dv_laws.proofs.Vocabulary.{Equal, IsTotalOrder, nat_cmp_total, on_total, then_total, nat_cmp-IsAntisymmetric, flat_map, IsStrictlySortedBy, Contains, nat_le, ◌≡◌, ◌↔◌, ℕ, ◌≤◌, Bool, true, false, List, [], ◌∷◌, refl, sym, ap}
-use Rattle.dv_laws.proofs.Vocabulary.{subst, filter, reverse, arith, leb-true, Key, Window, both_tied, refs_exact, refs_total, Contains-cons_here, filtered_members, flat_map_member, Contains-flat_map, map_member, Contains-map}
-use Rattle.dv_laws.proofs.Vocabulary.{ascending-sorted_by, member_after_sort, member_before_sort, same_ascending, PeriodRow, Extract, all_refs, content, delivers, history, newest_rows, up_to, IsInLoadOrder, period_cmp, period_mart}
-use Rattle.dv_laws.proofs.Vocabulary.{periods_of, Span, runs, Contains-all_refs, IsNewestFirst, history-newest_first, IsPeriod, rules, common_steps, nat_tests}
+use Rattle.dv_laws.proofs.Vocabulary.{flat_map, IsStrictlySortedBy, Contains, nat_le, ◌≡◌, ◌↔◌, ℕ, ◌≤◌, Bool, true, List, [], ◌∷◌, refl, sym, ap}
+use Rattle.dv_laws.proofs.Vocabulary.{filter, reverse, arith, leb-true, Key, Window, Contains-cons_here, filtered_members, flat_map_member, Contains-flat_map}
+use Rattle.dv_laws.proofs.Vocabulary.{ascending-sorted_by, same_ascending, PeriodRow, Extract, all_refs, content, delivers, history, newest_rows, up_to, IsInLoadOrder, period_cmp, period_mart}
+use Rattle.dv_laws.proofs.Vocabulary.{periods_of, Contains-all_refs, IsPeriod, rules, common_steps, nat_tests}
+use Rattle.dv_records.specs.Ranks.{period_total}
+use Rattle.dv_records.proofs.PeriodRuns.{in_order, mart_runs}
 use Rattle.dv_laws.proofs.RunTies.{is_run, never_both, present, runs_there}
 
 -- ---- periods of tests that say the same up to a date
 
-pub period-same : (p q : ℕ → Bool) (date b e : ℕ) → ((t : ℕ) → t ≤ date → p t ≡ q t) → IsPeriod p date b e → IsPeriod q date b e
+period-same : (p q : ℕ → Bool) (date b e : ℕ) → ((t : ℕ) → t ≤ date → p t ≡ q t) → IsPeriod p date b e → IsPeriod q date b e
 period-same p q date b e h1 h2 = search (rules)
 
--- ---- the order of periods
-
-period_total : IsTotalOrder period_cmp
-period_total = then_total (on_total (λ (row : PeriodRow). row.refs) refs_total) (on_total (λ (row : PeriodRow). row.begin) nat_cmp_total)
-
 -- ---- the extracts up to a date
-
-newest_first-filter : {X : Type 0} (load : X → ℕ) (p : X → Bool) (xs : List X) → IsNewestFirst load xs → IsNewestFirst load (filter p xs)
-newest_first-filter load p [] order = tt
-newest_first-filter {X} load p (x ∷ xs) order = by (p x) refl (newest_first-filter load p xs order.1)
-  where
-    by : (b : Bool) → p x ≡ b → IsNewestFirst load (filter p xs) → IsNewestFirst load (filter p (x ∷ xs))
-    by true e rest = rw e (λ y has. order.0 y ((filtered_members p xs y).0 has).0, rest)
-    by false e rest = rw e rest
 
 up_to_twice : (t date : ℕ) (all : List Extract) → t ≤ date → up_to t (up_to date all) ≡ up_to t all
 up_to_twice t date [] le = refl
@@ -33,31 +22,19 @@ module _ (feed : ℕ) (sealed : List Window) (date : ℕ) (order : IsInLoadOrder
   abbrev extracts : List Extract
   extracts = up_to date (history feed (reverse sealed))
 
-  pub in_order : IsNewestFirst (λ (x : Extract). x.load) extracts
-  in_order = newest_first-filter (λ (x : Extract). x.load) (λ (x : Extract). nat_le x.load date) (history feed (reverse sealed)) (history-newest_first feed sealed order)
-
-  pub reached : (x : Extract) → Contains extracts x → x.load ≤ date
+  reached : (x : Extract) → Contains extracts x → x.load ≤ date
   reached x has = leb-true x.load date ((filtered_members (λ (x : Extract). nat_le x.load date) (history feed (reverse sealed)) x).0 has).1
 
   -- they deliver at each date up to it what the content delivers, and afterwards what they deliver at it
-  pub as_content : (refs : List Key) (t : ℕ) → t ≤ date → present extracts refs t ≡ delivers (content feed sealed t) refs
+  as_content : (refs : List Key) (t : ℕ) → t ≤ date → present extracts refs t ≡ delivers (content feed sealed t) refs
   as_content refs t le = ap (λ all. delivers (newest_rows all) refs) (up_to_twice t date (history feed (reverse sealed)) le)
 
   -- each row is a run of its list, and so a period
-  run_of : (row : PeriodRow) → Contains (flat_map (periods_of extracts) (flat_map (λ (x : Extract). all_refs x.rows) extracts)) row
-      → IsPeriod (present extracts row.refs) date row.begin row.end
-  run_of row has =
-      let (refs, member, within) = flat_map_member (periods_of extracts) (flat_map (λ (x : Extract). all_refs x.rows) extracts) row has in
-      let (span, there, made) = map_member (λ (span : Span). record { refs = refs; begin = span.begin; end = span.end }) (runs extracts refs) row within in
-      subst (λ (r : PeriodRow). IsPeriod (present extracts r.refs) date r.begin r.end) made
-      (runs_there refs date extracts in_order reached span there)
-
   pub row_period : (row : PeriodRow) → Contains (period_mart sealed feed date) row → IsPeriod (λ t. delivers (content feed sealed t) row.refs) date row.begin row.end
-  row_period row has = search (rules, period-same, as_content, run_of, member_before_sort)
-
-  -- runs of one list that begin at one date are one
-  pub one_end : (p : ℕ → Bool) (b e f : ℕ) → IsPeriod p date b e → IsPeriod p date b f → e ≡ f
-  one_end p b e f h1 h2 = grind (arith, common_steps, nat_tests)
+  row_period row has =
+      let run = ((mart_runs feed sealed date order row).0 has).1 in
+      let there = runs_there row.refs date extracts (in_order feed sealed date order) reached (record { begin = row.begin; end = row.end }) run in
+      period-same (present extracts row.refs) (λ t. delivers (content feed sealed t) row.refs) date row.begin row.end (as_content row.refs) there
 
   -- a list that is in a run is one of the extracts' lists
   began : (p : ℕ → Bool) (b e : ℕ) → IsPeriod p date b e → p b ≡ true
@@ -66,7 +43,7 @@ module _ (feed : ℕ) (sealed : List Window) (date : ℕ) (order : IsInLoadOrder
   listed : (all : List Extract) (refs : List Key) → delivers (newest_rows all) refs ≡ true → Contains (flat_map (λ (x : Extract). all_refs x.rows) all) refs
   listed all refs h1 = grind (arith, common_steps, never_both, Contains-flat_map, Contains-cons_here, Contains-all_refs)
 
-  pub fewer : (all : List Extract) (p : Extract → Bool) (refs : List Key) → Contains (flat_map (λ (x : Extract). all_refs x.rows) (filter p all)) refs → Contains (flat_map (λ (x : Extract). all_refs x.rows) all) refs
+  fewer : (all : List Extract) (p : Extract → Bool) (refs : List Key) → Contains (flat_map (λ (x : Extract). all_refs x.rows) (filter p all)) refs → Contains (flat_map (λ (x : Extract). all_refs x.rows) all) refs
   fewer all p refs has =
       let (x, member, within) = flat_map_member (λ (x : Extract). all_refs x.rows) (filter p all) refs has in
       Contains-flat_map (λ (x : Extract). all_refs x.rows) all x refs ((filtered_members p all x).0 member).0 within
@@ -74,24 +51,10 @@ module _ (feed : ℕ) (sealed : List Window) (date : ℕ) (order : IsInLoadOrder
   pub period_row : (row : PeriodRow) → IsPeriod (λ t. delivers (content feed sealed t) row.refs) date row.begin row.end → Contains (period_mart sealed feed date) row
   period_row row is =
       let a_run = period-same (λ t. delivers (content feed sealed t) row.refs) (present extracts row.refs) date row.begin row.end (λ t le. sym (as_content row.refs t le)) is in
-      let span = is_run row.refs date extracts in_order reached row.begin row.end a_run in
+      let run = is_run row.refs date extracts (in_order feed sealed date order) reached row.begin row.end a_run in
       let in_list : Contains (flat_map (λ (x : Extract). all_refs x.rows) extracts) row.refs =
       fewer extracts (λ (x : Extract). nat_le x.load row.begin) row.refs (listed (up_to row.begin extracts) row.refs (began (present extracts row.refs) row.begin row.end a_run)) in
-      let made : Contains (periods_of extracts row.refs) row =
-      Contains-map (λ (span : Span). record { refs = row.refs; begin = span.begin; end = span.end }) (runs extracts row.refs) (record { begin = row.begin; end = row.end }) span in
-      let all : Contains (flat_map (periods_of extracts) (flat_map (λ (x : Extract). all_refs x.rows) extracts)) row =
-      Contains-flat_map (periods_of extracts) (flat_map (λ (x : Extract). all_refs x.rows) extracts) row.refs row in_list made in
-      member_after_sort period_cmp (flat_map (periods_of extracts) (flat_map (λ (x : Extract). all_refs x.rows) extracts)) row (λ other has tie. one_row a_run other (run_of other has) tie) all
-    where
-      one_row : IsPeriod (present extracts row.refs) date row.begin row.end → (other : PeriodRow) → IsPeriod (present extracts other.refs) date other.begin other.end → period_cmp other row ≡ Equal → other ≡ row
-      one_row mine other theirs tie =
-          let ties = both_tied _ _ tie in
-          let refs : other.refs ≡ row.refs = refs_exact other.refs row.refs ties.0 in
-          let begin : other.begin ≡ row.begin = nat_cmp-IsAntisymmetric other.begin row.begin ties.1 in
-          let moved : IsPeriod (present extracts row.refs) date row.begin other.end =
-          subst (λ b. IsPeriod (present extracts row.refs) date b other.end) begin (subst (λ r. IsPeriod (present extracts r) date other.begin other.end) refs theirs) in
-          let end : other.end ≡ row.end = one_end (present extracts row.refs) row.begin other.end row.end moved mine in
-          λ i. record { refs = refs i; begin = begin i; end = end i }
+      (mart_runs feed sealed date order row).1 (in_list, run)
 
 pub periods_tied : (feed : ℕ) (sealed : List Window) (date : ℕ) (row : PeriodRow) → IsInLoadOrder sealed → Contains (period_mart sealed feed date) row ↔ IsPeriod (λ t. delivers (content feed sealed t) row.refs) date row.begin row.end
 periods_tied feed sealed date row order = (row_period feed sealed date order row, period_row feed sealed date order row)

@@ -2,6 +2,7 @@
 use Rattle.dv_laws.proofs.Vocabulary.{Contains, nat_le, ◌≡◌, ◌⊎◌, ℕ, ◌+◌, ◌-◌, ◌<◌, ◌≤◌, inl, inr, Bool, true, false, List, [], ◌∷◌, Option, Some, None, refl, sym, ◌∙◌, ap, subst, arith, false≢true, le-leb, lt-leb, leb_tells}
 use Rattle.dv_laws.proofs.Vocabulary.{Contains-append_cases, Contains-append_left, Contains-append_right, Key, open_end, Contains-cons_cases, Contains-cons_here, Contains-cons_there, Contains-nil, Extract, delivers, newest_rows, up_to}
 use Rattle.dv_laws.proofs.Vocabulary.{Span, ended, ended_runs, open_run, run_begin, runs, AllBefore, IsNewestFirst, IsEndedPeriod, IsOpenPeriod, IsPeriod, filter-all, rules, common_steps}
+use Rattle.dv_records.proofs.EffectTies.{begins_before}
 
 -- ---- periods of a test of dates
 
@@ -40,16 +41,6 @@ module _ (refs : List Key) (date : ℕ) where
   no_run : (all : List Extract) → run_begin all refs ≡ None → delivers (newest_rows all) refs ≡ false
   no_run all h1 = search (rules)
 
-  begins_before : (limit : ℕ) (all : List Extract) → AllBefore (λ (x : Extract). x.load) limit all → (b : ℕ) → run_begin all refs ≡ Some b → b < limit
-  begins_before limit [] early b e = cc
-  begins_before limit (newest ∷ older) early b e =
-      by (delivers newest.rows refs) (run_begin older refs) refl refl (begins_before limit older (λ x has. early x (Contains-cons_there newest older x has)))
-    where
-      by : (now : Bool) (was : Option ℕ) → delivers newest.rows refs ≡ now → run_begin older refs ≡ was → ((c : ℕ) → run_begin older refs ≡ Some c → c < limit) → b < limit
-      by false was f g later = let no : None ≡ Some b = rw f at e in cc
-      by true None f g later = let is : Some newest.load ≡ Some b = rw (f, g) at e in let same : newest.load ≡ b = cc in subst (λ n. n < limit) same (early newest (Contains-cons_here newest older))
-      by true (Some c) f g later = let is : Some c ≡ Some b = rw (f, g) at e in let same : c ≡ b = cc in subst (λ n. n < limit) same (later c g)
-
   module _ (newest : Extract) (older : List Extract) (early : AllBefore (λ (x : Extract). x.load) newest.load older) (up : newest.load ≤ date) where
     -- from its load date on the newest extract decides, and before it the older ones do
     late : (t : ℕ) → newest.load ≤ t → present (newest ∷ older) refs t ≡ delivers newest.rows refs
@@ -65,7 +56,7 @@ module _ (refs : List Key) (date : ℕ) where
     -- a run that was open goes on, or begins
     open_more : (b : ℕ) → IsOpenPeriod (present older refs) date b → run_begin older refs ≡ Some b → delivers newest.rows refs ≡ true → IsOpenPeriod (present (newest ∷ older) refs) date b
     open_more b was is now =
-        let lt = begins_before newest.load older early b is in
+        let lt = begins_before refs newest.load older early b is in
         record {
           not_later = was.not_later;
           before = λ t e. soon t (omega arith) ∙ was.before t e;
@@ -82,7 +73,7 @@ module _ (refs : List Key) (date : ℕ) where
     -- or it ends
     ended_now : (b : ℕ) → IsOpenPeriod (present older refs) date b → run_begin older refs ≡ Some b → delivers newest.rows refs ≡ false → IsEndedPeriod (present (newest ∷ older) refs) date b newest.load
     ended_now b was is gone =
-        let lt = begins_before newest.load older early b is in
+        let lt = begins_before refs newest.load older early b is in
         record {
           not_later = up;
           ordered = lt;

@@ -33,7 +33,7 @@ pub use Rattle.dv_records.proofs.NewestRows.{content_extract}
 pub use Rattle.dv_records.proofs.ReadBack.{feed_tells}
 pub use Rattle.dv_records.proofs.Reversing.{AllBefore, IsNewestFirst, extract-load, history-newest_first, history_member}
 pub use Rattle.dv_records.proofs.SatReconstruct.{sat_tells}
-pub use Rattle.dv_records.proofs.SatelliteTies.{multi_tied, multi_total, sat_tied}
+pub use Rattle.dv_records.proofs.SatelliteTies.{multi_tied, sat_tied}
 pub use Rattle.dv_records.proofs.StatusReconstruct.{delivered_tells, status_tells}
 pub use Rattle.dv_records.proofs.StatusTies.{is_there, was_there}
 pub use Rattle.dv_records.proofs.ValidWindows.{load_order, unknown_unstaged}
@@ -72,3 +72,4 @@ pub use Rattle.std.specs.Prelude.{nat_le}
 pub use Rattle.std.specs.declared.cmp.Ordering.TheVariants.{Equal}
 pub use Rattle.std.proofs.lemmas.Grind.{common_steps}
 pub use Rattle.std.proofs.Common.{rules}
+pub use Rattle.dv_records.specs.Ranks.{multi_total}

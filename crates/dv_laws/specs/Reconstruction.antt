@@ -7,9 +7,10 @@ use Rattle.dv_text.specs.declared.rows.Window.{Window}
 use Rattle.dv_text.specs.Keys.{Hashes}
 use Rattle.dv_catalog.specs.declared.entries.FeedDef.{FeedDef}
 use Rattle.dv_catalog.specs.declared.entries.Parent.TheVariants.{Hub}
-use Rattle.dv_catalog.specs.declared.tables.TableId.TheVariants.{Hub as HubTable, Sat, Multi, Status}
+use Rattle.dv_catalog.specs.declared.tables.TableId.TheVariants.{Hub as HubTable, Sat, Multi, Status, Effect}
 use Rattle.dv_catalog.specs.Entries.{Mapping}
 use Rattle.dv_catalog.specs.Mappings.{is_valid}
+use Rattle.dv_catalog.specs.Tables.{tables}
 use Rattle.dv_records.specs.declared.raw_rows.HubRow.{HubRow}
 use Rattle.dv_records.specs.declared.raw_rows.MultiRow.{MultiRow}
 use Rattle.dv_records.specs.declared.raw_rows.SatRow.{SatRow}
@@ -17,7 +18,8 @@ use Rattle.dv_records.specs.declared.raw_rows.StatusRow.{StatusRow}
 use Rattle.dv_records.specs.declared.stores.Rows.TheVariants.{Hubs, Sats, Multis, Statuses}
 use Rattle.dv_records.specs.Collisions.{collision_in, IsApart}
 use Rattle.dv_records.specs.History.{content, delivered_refs, delivers, history, up_to, IsInLoadOrder}
-use Rattle.dv_records.specs.ReadBack.{any_content_read, content_read, multi_content_read}
+use Rattle.dv_records.specs.Marts.{period_mart}
+use Rattle.dv_records.specs.ReadBack.{any_content_read, content_read, multi_content_read, periods_read}
 use Rattle.dv_records.specs.Reconstruction.{first_attrs, HasKeysAlone, HasOneRowEach, HasOneRowPerSub, present_keys, all_valid_at, described_row, present_at, valid_at}
 use Rattle.dv_records.specs.Satellites.{last_rows}
 use Rattle.dv_records.specs.States.{are_windows_valid}
@@ -99,3 +101,10 @@ VaultTells =
     (mapping : Mapping) (hashes : Hashes) (sealed : List Window)
     → is_valid mapping ≡ true → are_windows_valid mapping hashes sealed ≡ true
     → (feed date : ℕ) → any_content_read mapping (vault mapping hashes sealed) feed date ≡ content feed sealed date
+
+-- and so the periods of a feed that has an effectivity table, at each date
+abbrev pub PeriodsTell : Type 0
+PeriodsTell =
+    (mapping : Mapping) (hashes : Hashes) (sealed : List Window) (feed : ℕ)
+    → is_valid mapping ≡ true → are_windows_valid mapping hashes sealed ≡ true → Contains (tables mapping) (Effect feed)
+    → (date : ℕ) → periods_read mapping (vault mapping hashes sealed) feed date ≡ period_mart sealed feed date

@@ -1,7 +1,7 @@
-ghost use Rattle.dv_laws.specs.EffectPeriods.{EffectsTell};
+ghost use Rattle.dv_laws.specs.EffectPeriods.{EffectsTell, SinceTells};
 ghost use Rattle.dv_laws.specs.Laws.{HubHolds, LinkHolds};
 ghost use Rattle.dv_laws.specs.PointInTime.{MultiCellsTell, SatCellsTell};
-ghost use Rattle.dv_laws.specs.Reconstruction.{DeliveredTells, FeedTells, KeysTell, MultiFeedTells, MultiTells, SatTells, StatusTells, VaultTells};
+ghost use Rattle.dv_laws.specs.Reconstruction.{DeliveredTells, FeedTells, KeysTell, MultiFeedTells, MultiTells, PeriodsTell, SatTells, StatusTells, VaultTells};
 
 /// A hub's table holds the keys that windows bring: each row is of such a key, and each such key has a row.
 /// A link's table so holds the reference lists.
@@ -23,11 +23,13 @@ pub fn tables_tell()
 {}
 
 /// The tables of the vault tell everything that the windows delivered: the content of each feed at each date
-/// is read back from them, of a hub's feed and of a link's, without a sub and with one.
+/// is read back from them, of a hub's feed and of a link's, without a sub and with one, and the period mart of
+/// each feed that has an effectivity table.
 pub fn vault_tells()
     ensures plain { FeedTells }
     ensures multi { MultiFeedTells }
     ensures any { VaultTells }
+    ensures periods { PeriodsTell }
 {}
 
 /// The load date of a point-in-time cell at a date is that of the feed's satellite row, or of its multi-active
@@ -37,7 +39,9 @@ pub fn cells_tell()
     ensures multi { MultiCellsTell }
 {}
 
-/// The periods that a feed's effectivity rows tell at a date are the rows of its period mart, by hash key.
+/// The periods that a feed's effectivity rows tell at a date are the rows of its period mart, by hash key, and
+/// since when a reference list is in effect then is the begin of the run that it is in.
 pub fn effects_tell()
-    ensures { EffectsTell }
+    ensures periods { EffectsTell }
+    ensures since { SinceTells }
 {}

@@ -5,6 +5,9 @@ pub mod CollisionTies
 pub mod DatedRows
 pub mod Deciding
 pub mod Delivered
+pub mod EffectReconstruct
+pub mod EffectRuns
+pub mod EffectTies
 pub mod FeedContents
 pub mod FeedRefs
 pub mod FeedSteps
@@ -18,10 +21,13 @@ pub mod MultiReconstruct
 pub mod NewestRows
 pub mod NoWindows
 pub mod ParentTables
+pub mod PeriodReadBack
+pub mod PeriodRuns
 pub mod Plans
 pub mod ReadBack
 pub mod Reversing
 pub mod RowViews
+pub mod RunOrder
 pub mod SatelliteTies
 pub mod SatReconstruct
 pub mod StatusReconstruct

@@ -10,7 +10,7 @@ use Rattle.dv_text.specs.declared.rows.Window.{Window}
 use Rattle.dv_text.specs.Exact.{row_cmp-IsAntisymmetric}
 use Rattle.dv_text.specs.Keys.{Hashes, refs_eq}
 use Rattle.dv_text.proofs.Deciding.{refs_eq-Decides, row_total}
-use Rattle.dv_text.proofs.Members.{Contains-cons_here, filter_map_member, filtered_members, flat_map_member, Contains-flat_map, Contains-nil, reverse_member}
+use Rattle.dv_text.proofs.Members.{filtered_members, flat_map_member, Contains-flat_map, Contains-nil}
 use Rattle.dv_text.proofs.Passing.{some_passes_at}
 use Rattle.dv_text.proofs.SortedLists.{sorted_by-members}
 use Rattle.dv_catalog.specs.declared.entries.FeedDef.{FeedDef}
@@ -19,16 +19,15 @@ use Rattle.dv_catalog.specs.Mappings.{is_valid}
 use Rattle.dv_catalog.proofs.ValidReads.{valid_feed}
 use Rattle.dv_records.specs.declared.stores.Rows.TheVariants.{Multis}
 use Rattle.dv_records.specs.declared.stores.TableRows.{TableRows}
-use Rattle.dv_records.specs.History.{Extract, content, delivered_refs, delivers, extract_of, history, newest_rows, up_to}
+use Rattle.dv_records.specs.History.{Extract, content, delivered_refs, delivers, history, newest_rows, up_to}
 use Rattle.dv_records.specs.ReadBack.{any_content_read, any_content_read_by, multi_content_read, multi_content_read_by, multi_rows_in, present_parents, rows_read, status_rows_in}
 use Rattle.dv_records.specs.Reconstruction.{all_valid_at, described_row, HasOneRowPerSub}
 use Rattle.dv_records.specs.Satellites.{last_rows, rows_of}
 use Rattle.dv_records.specs.States.{are_windows_valid}
 use Rattle.dv_records.specs.Vault.{vault}
 use Rattle.dv_records.proofs.FeedContents.{rows_of_extract, content_ascends, content_delivered, feed_apart, present_has, row_present, row_refs}
-use Rattle.dv_records.proofs.NewestRows.{content_extract}
 use Rattle.dv_records.proofs.ReadBack.{feed_tells}
-use Rattle.dv_records.proofs.ValidWindows.{load_order, unknown_unstaged}
+use Rattle.dv_records.proofs.ValidWindows.{load_order, no_history}
 use Rattle.dv_records.proofs.VaultRows.{vault_multi}
 use Rattle.std.proofs.lemmas.Bool.{not-true}
 use Rattle.dv_records.proofs.MultiReconstruct.{multi_tells}
@@ -112,17 +111,7 @@ module _ (mapping : Mapping) (hashes : Hashes) (sealed : List Window) (feed : �
 module _ (mapping : Mapping) (hashes : Hashes) (sealed : List Window) (valid : is_valid mapping ≡ true) (windows_valid : are_windows_valid mapping hashes sealed ≡ true) where
   -- a feed that the mapping hasn't has no content
   no_content : (feed date : ℕ) → slice_get mapping.feeds feed ≡ None → content feed sealed date ≡ []
-  no_content feed date none = by (content feed sealed date) (λ row has. unstaged row has)
-    where
-      unstaged : (row : NRow) → Contains (content feed sealed date) row → ⊥
-      unstaged row has =
-          let (extract, turned, within) = content_extract feed sealed date row has in
-          let (window, there, is) = filter_map_member (extract_of feed) (reverse sealed) extract turned in
-          unknown_unstaged mapping hashes sealed windows_valid feed none window ((reverse_member sealed window).0 there) extract is
-
-      by : (rows : List NRow) → ((row : NRow) → Contains rows row → ⊥) → rows ≡ []
-      by [] empty = refl
-      by (row ∷ rows) empty = absurd (empty row (Contains-cons_here row rows))
+  no_content feed date none = ap (λ (all : List Extract). newest_rows (up_to date all)) (no_history mapping hashes sealed windows_valid feed none)
 
   pub vault_tells : (feed date : ℕ) → any_content_read mapping (vault mapping hashes sealed) feed date ≡ content feed sealed date
   vault_tells feed date = by (slice_get mapping.feeds feed) refl

@@ -1,7 +1,8 @@
 -- Windows and extracts from the newest to the oldest.
 use Rattle.dv_records.proofs.Vocabulary.{Less, ranked, AllByRecursion, filter_map, IsStrictlySortedBy, nat_cmp, Contains, ◌≡◌, ◌↔◌, ℕ, ◌<◌, inl, inr, List, [], ◌∷◌, ◌++◌, Option, Some, None, refl, sym, subst, reverse, map, reverse-append}
 use Rattle.dv_records.proofs.Vocabulary.{Contains-append_cases, Window, reverse_member, Contains-cons_cases, Contains-cons_here, Contains-cons_there, filter_map_member, member_of_filter_map, Contains-nil, made_of, Extract, extract_of}
-use Rattle.dv_records.proofs.Vocabulary.{history, IsInLoadOrder, rules}
+use Rattle.dv_records.proofs.Vocabulary.{history, IsInLoadOrder, rules, Bool, true, false, filtered_members}
+use Rattle.std.specs.Prelude.{filter}
 
 -- each is before a date
 abbrev pub AllBefore : {X : Type 0} → (X → ℕ) → ℕ → List X → Type 0
@@ -57,6 +58,15 @@ newest_first-filter_map {X} {Y} load made_load h keeps (x ∷ xs) order = by (ne
           rw (keeps x y e, keeps w z is) (order.0 w member),
       rest,
     )
+
+-- so does what passes a test
+pub newest_first-filter : {X : Type 0} (load : X → ℕ) (p : X → Bool) (xs : List X) → IsNewestFirst load xs → IsNewestFirst load (filter p xs)
+newest_first-filter load p [] order = tt
+newest_first-filter {X} load p (x ∷ xs) order = by (p x) refl (newest_first-filter load p xs order.1)
+  where
+    by : (b : Bool) → p x ≡ b → IsNewestFirst load (filter p xs) → IsNewestFirst load (filter p (x ∷ xs))
+    by true e rest = rw e (λ y has. order.0 y ((filtered_members p xs y).0 has).0, rest)
+    by false e rest = rw e rest
 
 -- an extract has its window's load date
 pub extract-load : (feed : ℕ) (window : Window) (extract : Extract) → extract_of feed window ≡ Some extract → extract.load ≡ window.load

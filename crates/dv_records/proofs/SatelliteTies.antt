@@ -1,10 +1,8 @@
 -- Satellite batches are the lists that meet their records.
-use Rattle.dv_records.proofs.Vocabulary.{Equal, IsTotalOrder, on_total, then_total, lists_total, nat_list_cmp_total, nat_cmp-IsAntisymmetric, slice_cmp-IsAntisymmetric, Contains, ◌≡◌, ◌↔◌, ℕ, List, Some, sym, ◌∙◌, ap, NRow, both_tied}
+use Rattle.dv_records.proofs.Vocabulary.{Equal, nat_cmp-IsAntisymmetric, slice_cmp-IsAntisymmetric, Contains, ◌≡◌, ◌↔◌, ℕ, List, Some, sym, ◌∙◌, ap, NRow, both_tied}
 use Rattle.dv_records.proofs.Vocabulary.{Hashes, Contains-map, MultiRow, SatRow, IsApart, Extract, all_refs, multi_batch, multi_cmp, multi_row, sat_batch, sat_row, IsMultiBatch, IsSatBatch, IsOnePerList, IsOnePerSub, rules}
 use Rattle.dv_records.proofs.BatchTies.{tied, tied_by_digest}
-
-pub multi_total : IsTotalOrder multi_cmp
-multi_total = then_total (on_total (λ (row : MultiRow). row.parent) nat_list_cmp_total) (on_total (λ (row : MultiRow). row.sub) (lists_total nat_list_cmp_total))
+use Rattle.dv_records.specs.Ranks.{multi_total}
 
 module _ (hashes : Hashes) (source : List ℕ) (older : List Extract) (newest : Extract) where
   -- the row has the hash key of the extract row's list

@@ -2,7 +2,7 @@
 -- and each is a window of the definition.
 use Rattle.dv_records.proofs.Vocabulary.{list_all, range_with_len, Contains, is_none, slice_get, ◌≡◌, ℕ, ◌<◌, true, List, Some, None, sym, ◌∙◌, ap, length, map, and_parts, All-contains, Contains-append_right, none-some, Window, Hashes}
 use Rattle.dv_records.proofs.Vocabulary.{Contains-map, Contains-range, none_from, passes_at, Parent, Hub, Link, Mapping, IsApart, collision, collision_in, hashed_refs, parents, Extract, extract_of, IsInLoadOrder, are_windows_valid, ascends}
-use Rattle.dv_records.proofs.Vocabulary.{is_window, arith, common_steps, rules}
+use Rattle.dv_records.proofs.Vocabulary.{is_window, arith, common_steps, rules, [], ◌∷◌, refl, reverse, Contains-cons_here, filter_map_member, reverse_member, history}
 use Rattle.dv_records.proofs.CollisionTies.{collision_free, none_collide}
 use Rattle.dv_records.proofs.WindowRows.{in_order, staged_at, staged_rows}
 
@@ -13,6 +13,11 @@ is_parent_link : (mapping : Mapping) (link : ℕ) → link < length mapping.link
 is_parent_link mapping link under =
     Contains-append_right (map (λ n. Hub n) (range_with_len 0 (length mapping.hubs))) (map (λ n. Link n) (range_with_len 0 (length mapping.links))) (Link link)
     (Contains-map (λ n. Link n) (range_with_len 0 (length mapping.links)) link (Contains-range (length mapping.links) link under))
+
+-- a list without members is empty
+memberless : {X : Type 0} (xs : List X) → ((x : X) → Contains xs x → ⊥) → xs ≡ []
+memberless [] none = refl
+memberless (x ∷ xs) none = absurd (none x (Contains-cons_here x xs))
 
 module _ (mapping : Mapping) (hashes : Hashes) (sealed : List Window) (valid : are_windows_valid mapping hashes sealed ≡ true) where
   record Parts : Type 0 where
@@ -46,3 +51,11 @@ module _ (mapping : Mapping) (hashes : Hashes) (sealed : List Window) (valid : a
       let (staged, member, number, valid, rows) = staged_at mapping window (passes_at (is_window mapping) sealed window whole there) feed extract is in
       let (definition, got, are) = staged_rows mapping staged valid in
       none-some definition (sym none ∙ ap (slice_get mapping.feeds) (sym number) ∙ got)
+
+  pub no_history : (feed : ℕ) → slice_get mapping.feeds feed ≡ None → history feed (reverse sealed) ≡ []
+  no_history feed none = memberless (history feed (reverse sealed)) unstaged
+    where
+      unstaged : (extract : Extract) → Contains (history feed (reverse sealed)) extract → ⊥
+      unstaged extract has =
+          let (window, turned, is) = filter_map_member (extract_of feed) (reverse sealed) extract has in
+          unknown_unstaged feed none window ((reverse_member sealed window).0 turned) extract is

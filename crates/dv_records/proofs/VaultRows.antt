@@ -3,9 +3,11 @@ use Rattle.dv_records.proofs.Vocabulary.{range_with_len, Contains, slice_get, �
 use Rattle.dv_records.proofs.Vocabulary.{Contains-append_left, Contains-append_right, Window, Hashes, Contains-range, Contains-cons_cases, Contains-cons_here, Contains-cons_there, Contains-map, Contains-nil, FeedDef, TableId, Sat, Multi}
 use Rattle.dv_records.proofs.Vocabulary.{Status, Mapping, source, effect_tables, feed_tables, sat_tables, tables, appended, hub_batch, link_batch, hub_rows, hub_rows_in, link_rows, link_rows_in, multi_rows, multi_rows_in, sat_rows}
 use Rattle.dv_records.proofs.Vocabulary.{sat_rows_in, status_rows, status_rows_in, multi_batch, sat_batch, status_batch, no_rows, rows_in, table_eq, HoldsTable, feed_batch, table_after, table_entry, vault, rules}
-use Rattle.dv_catalog.specs.declared.tables.TableId.TheVariants.{Hub, Link}
+use Rattle.dv_catalog.specs.declared.tables.TableId.TheVariants.{Hub, Link, Effect}
 use Rattle.dv_records.proofs.WellFormedTables.{same_table, table_eq-itself}
 use Rattle.dv_records.specs.Backwards.{Backwards, backwards}
+use Rattle.dv_records.specs.Effects.{effect_batch}
+use Rattle.dv_records.specs.ReadBack.{effect_rows, effect_rows_in}
 
 -- ---- entries
 
@@ -98,6 +100,9 @@ module _ (mapping : Mapping) (hashes : Hashes) (sealed : List Window) where
 
   pub vault_link : (link : ℕ) → link < length mapping.links → link_rows_in link (vault mapping hashes sealed) ≡ appended (link_batch mapping hashes link) (reverse sealed)
   vault_link link under = ap link_rows (rows_in-entries mapping hashes (backwards sealed) (tables mapping) (Link link) (has_link mapping link under))
+
+  pub vault_effect : (feed : ℕ) → Contains (tables mapping) (Effect feed) → effect_rows_in feed (vault mapping hashes sealed) ≡ appended (feed_batch feed (effect_batch hashes (source mapping feed))) (reverse sealed)
+  vault_effect feed has = ap effect_rows (rows_in-entries mapping hashes (backwards sealed) (tables mapping) (Effect feed) has)
 
   module _ (feed : ℕ) (definition : FeedDef) (at : slice_get mapping.feeds feed ≡ Some definition) where
     pub vault_status : status_rows_in feed (vault mapping hashes sealed) ≡ appended (feed_batch feed (status_batch hashes (source mapping feed))) (reverse sealed)

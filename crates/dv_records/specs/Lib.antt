@@ -5,6 +5,7 @@ pub mod Collisions
 pub mod Deliveries
 pub mod Deltas
 pub mod EffectPeriods
+pub mod EffectPlaces
 pub mod Effects
 pub mod History
 pub mod HubNames
@@ -17,6 +18,7 @@ pub mod Marts
 pub mod MemoryKeepers
 pub mod MultiPlaces
 pub mod Outcomes
+pub mod Ranks
 pub mod RawTables
 pub mod ReadBack
 pub mod Reconstruction

@@ -1,5 +1,5 @@
--- The content of a feed read back from the tables alone, at any date (Linstedt and Olschimke 2015, chapter 11, on hash
--- keys, and chapter 5, on status tracking satellites).
+-- The content of a feed, and its periods, read back from the tables alone, at any date (Linstedt and Olschimke 2015,
+-- chapter 11, on hash keys, and chapter 5, on status tracking and effectivity satellites).
 use Rattle.std.specs.List.{filter_map, flat_map}
 use Rattle.std.specs.Option.{option_map, option_map_or}
 use Rattle.std.specs.Prelude.{ℕ, ◌==◌, List, [], ◌∷◌, Option, Some, None, filter, find, if◌then◌else◌, length, map, replicate, slice_get}
@@ -11,18 +11,23 @@ use Rattle.dv_text.specs.Sorting.{sorted_by}
 use Rattle.dv_catalog.specs.declared.entries.FeedDef.{FeedDef}
 use Rattle.dv_catalog.specs.declared.entries.Parent.{Parent}
 use Rattle.dv_catalog.specs.declared.entries.Parent.TheVariants.{Hub, Link}
-use Rattle.dv_catalog.specs.declared.tables.TableId.TheVariants.{Hub as HubTable, Link as LinkTable, Sat, Multi, Status}
+use Rattle.dv_catalog.specs.declared.tables.TableId.TheVariants.{Hub as HubTable, Link as LinkTable, Sat, Multi, Status, Effect}
 use Rattle.dv_catalog.specs.Entries.{Mapping}
 use Rattle.dv_catalog.specs.Feeds.{parent_hubs, parts_of}
+use Rattle.dv_records.specs.declared.mart_rows.Period.{Period}
+use Rattle.dv_records.specs.declared.mart_rows.PeriodRow.{PeriodRow}
+use Rattle.dv_records.specs.declared.raw_rows.EffectRow.{EffectRow}
 use Rattle.dv_records.specs.declared.raw_rows.HubRow.{HubRow}
 use Rattle.dv_records.specs.declared.raw_rows.LinkRow.{LinkRow}
 use Rattle.dv_records.specs.declared.raw_rows.MultiRow.{MultiRow}
 use Rattle.dv_records.specs.declared.raw_rows.SatRow.{SatRow}
 use Rattle.dv_records.specs.declared.raw_rows.StatusRow.{StatusRow}
 use Rattle.dv_records.specs.declared.stores.Rows.{Rows}
-use Rattle.dv_records.specs.declared.stores.Rows.TheVariants.{Hubs, Links, Sats, Multis, Statuses}
+use Rattle.dv_records.specs.declared.stores.Rows.TheVariants.{Hubs, Links, Sats, Multis, Statuses, Effects}
 use Rattle.dv_records.specs.declared.stores.TableRows.{TableRows}
 use Rattle.dv_records.specs.Batches.{digest_cmp}
+use Rattle.dv_records.specs.EffectPeriods.{effect_periods}
+use Rattle.dv_records.specs.Marts.{period_cmp}
 use Rattle.dv_records.specs.Reconstruction.{all_valid_at, described_row, present_at, valid_at}
 use Rattle.dv_records.specs.Stores.{rows_in}
 
@@ -48,7 +53,11 @@ abbrev pub status_rows : Rows → List StatusRow
 status_rows (Statuses rows) = rows
 status_rows rows = []
 
--- the rows of a hub, of a link, and of a feed's satellite, multi-active satellite and status table
+abbrev pub effect_rows : Rows → List EffectRow
+effect_rows (Effects rows) = rows
+effect_rows rows = []
+
+-- the rows of a hub, of a link, and of a feed's satellite, multi-active satellite, status table and effectivity table
 abbrev pub hub_rows_in : ℕ → List TableRows → List HubRow
 hub_rows_in hub tables = hub_rows (rows_in (HubTable hub) tables)
 
@@ -63,6 +72,9 @@ multi_rows_in feed tables = multi_rows (rows_in (Multi feed) tables)
 
 abbrev pub status_rows_in : ℕ → List TableRows → List StatusRow
 status_rows_in feed tables = status_rows (rows_in (Status feed) tables)
+
+abbrev pub effect_rows_in : ℕ → List TableRows → List EffectRow
+effect_rows_in feed tables = effect_rows (rows_in (Effect feed) tables)
 
 -- ---- reference lists by their hash keys
 
@@ -150,3 +162,21 @@ any_content_read_by mapping tables (Some definition) feed date =
 -- the content of a feed at a date, by the tables alone, whether it has a sub or not; none where the mapping hasn't the feed
 abbrev pub any_content_read : Mapping → List TableRows → ℕ → ℕ → List NRow
 any_content_read mapping tables feed date = any_content_read_by mapping tables (slice_get mapping.feeds feed) feed date
+
+-- ---- the periods of a feed
+
+-- the row of a period mart for a period; none where no row of the hub or the link has the hash key
+abbrev pub period_read : Mapping → List TableRows → FeedDef → Period → Option PeriodRow
+period_read mapping tables definition period =
+    option_map (λ refs. record { refs = refs; begin = period.begin; end = period.end }) (refs_read mapping tables definition.parent period.parent)
+
+-- the rows for the periods that the feed's effectivity table tells at a date, in order; none where the mapping hasn't the
+-- feed
+abbrev pub periods_read_by : Mapping → List TableRows → Option FeedDef → ℕ → ℕ → List PeriodRow
+periods_read_by mapping tables None feed date = []
+periods_read_by mapping tables (Some definition) feed date =
+    sorted_by period_cmp (filter_map (period_read mapping tables definition) (effect_periods (effect_rows_in feed tables) date))
+
+-- the period mart of a feed at a date, by the tables alone
+abbrev pub periods_read : Mapping → List TableRows → ℕ → ℕ → List PeriodRow
+periods_read mapping tables feed date = periods_read_by mapping tables (slice_get mapping.feeds feed) feed date

@@ -1,4 +1,4 @@
-use dv_text::{Key, List, Stamp, Text};
+use dv_text::{Digest, Key, List, Stamp, Text};
 
 /// What a hub mart shows of a key for one feed: whether it is present, and its attributes or blanks.
 #[derive(Debug, PartialEq, Eq, Drop)]
@@ -24,6 +24,14 @@ pub struct PathRow {
 #[derive(Debug, PartialEq, Eq, Drop)]
 pub struct PeriodRow {
     pub refs: List<Key>,
+    pub begin: Stamp,
+    pub end: Stamp,
+}
+
+/// One run of a parent: from when to when it was in effect; open where `end` is `Stamp::OPEN`.
+#[derive(Debug, PartialEq, Eq, Drop)]
+pub struct Period {
+    pub parent: Digest,
     pub begin: Stamp,
     pub end: Stamp,
 }

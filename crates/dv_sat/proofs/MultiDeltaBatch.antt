@@ -1,12 +1,12 @@
 -- Over the multi-active satellite of older extracts, what the newest one adds row by row is its batch.
-use Rattle.dv_sat.proofs.Vocabulary.{◌≡◌, ◌↔◌, ℕ, ◌==◌, ◌&&◌, Bool, true, false, Option, Some, None, List, [], ◌∷◌, refl, sym, ◌∙◌, ap, subst, arith, Contains, not, pointwise, Less, filter, filter_map, map, IsStrictlySortedBy, IsStrictlySortedBy-filter, Key, NRow, Hashes}
-use Rattle.dv_sat.proofs.Vocabulary.{refs_eq, row_eq, row_cmp, refs_cmp, sorted_by, Contains-append_left, Contains-append_right, Contains-cons_here, Contains-cons_there, Contains-map, filtered_members, refs_eq-Decides, refs_total, row_total, tied_itself, nat_cmp_total, nat_list_cmp_total}
-use Rattle.dv_sat.proofs.Vocabulary.{bytes_eq, bytes_eq-Decides, and_parts, eqb-true, some_passes, appended, IsApart, Extract, all_refs, delivers, lists_of, AreNewestFirst, is_changed, last_rows, rows_of, newest_first, none_loaded, all_up_to, batch_stamped}
+use Rattle.dv_sat.proofs.Vocabulary.{◌≡◌, ◌↔◌, ℕ, ◌==◌, ◌&&◌, Bool, true, false, Option, Some, None, List, [], ◌∷◌, refl, sym, ap, subst, arith, Contains, pointwise, Less, filter, filter_map, map, IsStrictlySortedBy, IsStrictlySortedBy-filter, Key, NRow, Hashes}
+use Rattle.dv_sat.proofs.Vocabulary.{refs_eq, row_eq, row_cmp, sorted_by, Contains-append_left, Contains-append_right, Contains-cons_here, Contains-cons_there, Contains-map, filtered_members, refs_total, row_total, tied_itself, nat_cmp_total, nat_list_cmp_total}
+use Rattle.dv_sat.proofs.Vocabulary.{bytes_eq, bytes_eq-Decides, and_parts, eqb-true, appended, IsApart, Extract, all_refs, delivers, lists_of, AreNewestFirst, is_changed, last_rows, rows_of, newest_first, none_loaded, all_up_to, batch_stamped}
 use Rattle.dv_sat.proofs.Vocabulary.{MultiRow, multi_batch, multi_change, multi_cmp, multi_delta, multi_order, multi_row}
 use Rattle.dv_sat.proofs.SatFollowing.{if_so}
 use Rattle.dv_records.proofs.MultiReconstruct.{tells}
 use Rattle.dv_records.specs.Reconstruction.{all_valid_at, described_row, loaded_with}
-use Rattle.dv_sat.specs.MultiRows.{are_same, has_load, IsTold}
+use Rattle.dv_sat.specs.MultiRows.{has_load, IsTold}
 use Rattle.dv_text.proofs.SortedLists.{same_ascending}
 use Rattle.dv_records.proofs.Reversing.{IsNewestFirst}
 use Rattle.dv_text.specs.Orders.{text_cmp}

@@ -1,5 +1,5 @@
 -- The rows that an extract's rows add to a multi-active satellite have the load date.
-use Rattle.dv_sat.proofs.Vocabulary.{◌≡◌, ℕ, List, Some, sym, ap, Contains, NRow, Hashes, MultiRow, batch_of, batch_stamped, multi_cmp, multi_change}
+use Rattle.dv_sat.proofs.Vocabulary.{◌≡◌, ℕ, List, sym, ap, Contains, NRow, Hashes, MultiRow, batch_of, batch_stamped, multi_cmp, multi_change}
 use Rattle.dv_sat.proofs.SatFollowing.{if_not}
 use Rattle.dv_records.specs.Reconstruction.{all_valid_at}
 use Rattle.dv_sat.specs.MultiRows.{are_same}

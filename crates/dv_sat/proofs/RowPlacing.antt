@@ -1,5 +1,5 @@
 -- Where rows of a multi-active satellite stand: by load date, then by parent.
-use Rattle.dv_sat.proofs.Vocabulary.{◌≡◌, ◌==◌, ◌&&◌, ◌∙◌, ℕ, Bool, true, false, List, refl, sym, ap, Ordering, Less, Equal, Greater, is_lt, ordering_then, IsTotalOrder, IsSortedBy, IsStrictlySortedBy, then_total, on_total, nat_cmp, nat_cmp_total, nat_list_cmp_total, nat_cmp-IsAntisymmetric}
+use Rattle.dv_sat.proofs.Vocabulary.{◌≡◌, ◌==◌, ◌&&◌, ◌∙◌, ℕ, true, List, refl, Ordering, Less, Equal, Greater, is_lt, ordering_then, IsTotalOrder, IsSortedBy, IsStrictlySortedBy, then_total, on_total, nat_cmp, nat_cmp_total, nat_list_cmp_total, nat_cmp-IsAntisymmetric}
 use Rattle.dv_sat.proofs.Vocabulary.{slice_cmp-IsAntisymmetric, bytes_eq, bytes_eq-Decides, and_from, and_parts, eq-eqb, eqb-true, both_tied, tied_itself, digest_cmp, MultiRow, Place, multi_place, multi_order}
 use Rattle.dv_sat.proofs.Together.{not_less, sorted_by_key}
 use Rattle.dv_text.specs.Orders.{text_cmp}

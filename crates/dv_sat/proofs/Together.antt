@@ -1,5 +1,5 @@
 -- Elements that stand together in a list: those that are neither before nor behind.
-use Rattle.dv_sat.proofs.Vocabulary.{◌≡◌, ◌∙◌, ◌++◌, ◌+◌, ◌≤◌, ◌<◌, ℕ, Bool, true, false, not, List, [], length, take, drop, sym, ap, subst, arith, append-nil, filter, get_or, refl, false≢true, Contains, Contains-append_left, filter-all, filter-none, filter-append, IsTotalOrder}
+use Rattle.dv_sat.proofs.Vocabulary.{◌≡◌, ◌∙◌, ◌++◌, ◌+◌, ◌≤◌, ◌<◌, ℕ, Bool, true, false, not, List, length, take, drop, sym, ap, subst, arith, append-nil, filter, get_or, refl, false≢true, Contains, Contains-append_left, filter-all, filter-none, filter-append, IsTotalOrder}
 use Rattle.dv_sat.proofs.Vocabulary.{Ordering, Less, Equal, Greater, is_lt, IsPartitionPoint, IsPartitionedBy, IsSortedBy, length-drop, IsStrictlySortedBy, Less-from_sorted, ordering_reverse, ordering_then}
 use Rattle.std.proofs.Common.{rules}
 use Rattle.std.specs.List.{AllWithin}

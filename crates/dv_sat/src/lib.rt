@@ -8,7 +8,6 @@ mod multi_tables;
 mod runs;
 mod sat_changes;
 mod sat_tables;
-mod sorting;
 
 pub use multi_tables::MultiTable;
 pub use sat_tables::SatTable;

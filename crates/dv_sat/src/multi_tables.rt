@@ -14,11 +14,10 @@ ghost use Rattle.dv_sat.specs.MultiRows as spec;
 use crate::multi_changes::{are_described, new_multi_row};
 use crate::runs::{rows_of_list, rows_with};
 use crate::sat_changes::{add, diff};
-use crate::sorting::in_batch_order;
 use dv_catalog::{Catalog, record_source};
 use dv_digest::{HashedExtract, Room};
 use dv_index::IndexedRows;
-use dv_records::MultiRow;
+use dv_records::{MultiRow, sorted_firsts};
 use dv_text::{Digest, KeyDigest, List, Memory, NRow, Stamp, Text};
 use std::alloc::Global;
 use std::marker::Model;
@@ -62,6 +61,7 @@ impl MultiTable {
         self.indexed.rows()
     }
 
+    /// The allocator that the table keeps: there is one, so no clause says which.
     pub(crate) fn allocator(&self) -> Global {
         self.indexed.allocator()
     }
@@ -223,7 +223,7 @@ impl MultiTable {
         let source = record_source(self.allocator(), catalog.feed(staged.feed))?;
         let rows = staged.rows.items();
         let changes = self.changes(load, &source, rows, extract.keys.items(), digest)?;
-        let rows = in_batch_order(changes)?;
+        let rows = sorted_firsts(changes)?;
         Ok(rows)
     }
 }

@@ -10,11 +10,10 @@ ghost use Rattle.dv_sat.specs.SatRows.{are_up_to, current_of, sat_change, sat_de
 ghost use Rattle.dv_sat.specs.SatRows as spec;
 
 use crate::sat_changes::{add, diff, new_row};
-use crate::sorting::in_batch_order;
 use dv_catalog::{Catalog, record_source};
 use dv_digest::{HashedExtract, Room};
 use dv_index::IndexedRows;
-use dv_records::SatRow;
+use dv_records::{SatRow, sorted_firsts};
 use dv_text::{Digest, KeyDigest, List, Memory, NRow, Stamp, Text};
 use std::alloc::Global;
 use std::marker::Model;
@@ -218,7 +217,7 @@ impl SatTable {
         let source = record_source(self.allocator(), catalog.feed(staged.feed))?;
         let rows = staged.rows.items();
         let changes = self.changes(load, &source, rows, extract.keys.items(), digest)?;
-        let rows = in_batch_order(changes)?;
+        let rows = sorted_firsts(changes)?;
         Ok(rows)
     }
 }

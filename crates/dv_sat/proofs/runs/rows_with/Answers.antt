@@ -1,4 +1,4 @@
-use Rattle.dv_sat.proofs.Vocabulary.{◌≡◌, ◌==◌, ◌&&◌, not, is_lt, bytes_eq, MultiRow, Place, multi_place}
+use Rattle.dv_sat.proofs.Vocabulary.{◌==◌, ◌&&◌, not, is_lt, bytes_eq, MultiRow, Place, multi_place}
 use Rattle.dv_sat.proofs.RowPlacing.{place_total, rows_by_place, same_place, tied_place}
 use Rattle.dv_sat.proofs.Together.{alike_tied, before_first, behind_last, parted_rest, run_is, unlike_greater, unlike_less}
 use Rattle.dv_sat.specs.RowPlaces.{place_cmp}

@@ -1,7 +1,7 @@
 use Rattle.dv_sat.proofs.Vocabulary.{◌∙◌, filter_map, ascending-sorted_by, batch_of, hashes_of, source, MultiRow, multi_cmp, multi_change, delta_follows, delta_stamped}
 use Rattle.dv_sat.proofs.MultiDeltaBatch.{delta_is_batch}
 use Rattle.dv_sat.proofs.MultiFollowing.{made_stamped}
-use Rattle.dv_records.proofs.SatelliteTies.{multi_total}
+use Rattle.dv_records.specs.Ranks.{multi_total}
 use Rattle.dv_sat.proofs.multi_tables.MultiTable.delta.Goals as goal
 
 pub returns-clause-stamped : goal.returns-clause-stamped

@@ -1,6 +1,22 @@
 -- Effectivity batches are the lists that meet their records.
-use Rattle.dv_laws.proofs.Vocabulary.{Contains, ◌≡◌, ◌↔◌, ℕ, Bool, true, false, List, ◌++◌, Option, Some, None, refl, Key, Hashes, EffectRow, IsApart, effect_batch, effect_row, span_between, IsEffectBatch, Extract, all_refs, delivers}
-use Rattle.dv_laws.proofs.Vocabulary.{newest_rows, run_begin, given, tied_by_digest, tied_whole, is_there, was_there, rules}
+use Rattle.dv_records.proofs.Vocabulary.{Contains, ◌≡◌, ◌↔◌, ℕ, ◌<◌, Bool, true, false, List, [], ◌∷◌, ◌++◌, Option, Some, None, refl, subst, Contains-cons_here, Contains-cons_there, Key, Hashes, IsApart, Extract, all_refs, delivers, newest_rows, rules}
+use Rattle.dv_records.specs.declared.raw_rows.EffectRow.{EffectRow}
+use Rattle.dv_records.specs.Effects.{effect_batch, effect_row, span_between, IsEffectBatch}
+use Rattle.dv_records.specs.Runs.{run_begin}
+use Rattle.dv_records.proofs.BatchTies.{given, tied_by_digest, tied_whole}
+use Rattle.dv_records.proofs.Reversing.{AllBefore}
+use Rattle.dv_records.proofs.StatusTies.{is_there, was_there}
+
+-- a run began with one of the extracts
+pub begins_before : (refs : List Key) (limit : ℕ) (all : List Extract) → AllBefore (λ (x : Extract). x.load) limit all → (b : ℕ) → run_begin all refs ≡ Some b → b < limit
+begins_before refs limit [] early b e = cc
+begins_before refs limit (newest ∷ older) early b e =
+    by (delivers newest.rows refs) (run_begin older refs) refl refl (begins_before refs limit older (λ x has. early x (Contains-cons_there newest older x has)))
+  where
+    by : (now : Bool) (was : Option ℕ) → delivers newest.rows refs ≡ now → run_begin older refs ≡ was → ((c : ℕ) → run_begin older refs ≡ Some c → c < limit) → b < limit
+    by false was f g later = let no : None ≡ Some b = rw f at e in cc
+    by true None f g later = let is : Some newest.load ≡ Some b = rw (f, g) at e in let same : newest.load ≡ b = cc in subst (λ n. n < limit) same (early newest (Contains-cons_here newest older))
+    by true (Some c) f g later = let is : Some c ≡ Some b = rw (f, g) at e in let same : c ≡ b = cc in subst (λ n. n < limit) same (later c g)
 
 -- a run that goes on holds the list
 pub in_run : (older : List Extract) (refs : List Key) (begin : ℕ) → run_begin older refs ≡ Some begin → delivers (newest_rows older) refs ≡ true

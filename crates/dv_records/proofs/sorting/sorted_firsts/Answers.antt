@@ -1,10 +1,14 @@
-use Rattle.dv_sat.proofs.Vocabulary.{◌∙◌, refl, rules, is_eq, is_lt, always_returns_same, dedup_same, ranks_by, firsts-sort_dedup}
-use Rattle.dv_sat.proofs.sorting.in_batch_order.Goals as goal
+use Rattle.dv_records.proofs.Vocabulary.{◌∙◌, refl, rules}
+use Rattle.std.proofs.lemmas.Fn.{always_returns_same, dedup_same}
+use Rattle.std.proofs.lemmas.List.MinMax.{ranks_by}
+use Rattle.std.specs.Ordering.{is_eq, is_lt}
+use Rattle.dv_text.proofs.StableSorts.{firsts-sort_dedup}
+use Rattle.dv_records.proofs.sorting.sorted_firsts.Goals as goal
 
 pub returns : goal.returns
 returns g c =
-    let cmp = g.R.Batched.batch_cmp in
-    let total = g.met.R.Batched.total in
+    let cmp = g.R.Ranked.rank_cmp in
+    let total = g.met.R.Ranked.total in
     let sorted = c.in_ok-sort_by.ensures.sorted (λ x y. is_lt (cmp x y)) (ranks_by total (λ x. x)) (always_returns_same _ _ _ (λ a r f' called. search rules)) in
     let stable = c.in_ok-sort_by.ensures.stable (λ x y. is_lt (cmp x y)) (ranks_by total (λ x. x)) (always_returns_same _ _ _ (λ a r f' called. search rules)) in
     let kept = dedup_same _ (λ x y. is_eq (cmp x y)) _ (λ x y b f' x' y' called. search rules) _ _ c.dedup_by.ensures.filtered in

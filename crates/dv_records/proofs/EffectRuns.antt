@@ -1,31 +1,23 @@
 -- The last rows of the runs in an effectivity table are the runs of its feed's extracts.
-use Rattle.dv_laws.proofs.Vocabulary.{Bool, Contains, Contains-append_right, Contains-cons_cases, Contains-cons_here, Contains-cons_there, Contains-map, Contains-nil, IsTotalOrder, List, None, Option, Some, [], ◌∷◌, ◌++◌}
-use Rattle.dv_laws.proofs.Vocabulary.{◌≡◌, ◌⊎◌, ◌==◌, ◌≤◌, ◌<◌, ◌∙◌, ℕ, true, false, false≢true, and_from, and_parts, ap, arith, bytes_eq, bytes_eq-Decides, eq-eqb, eqb-true, filter, filter-all, filter-append, filter-none, flat_map_member, inl, inr, leb-true, map}
-use Rattle.dv_laws.proofs.Vocabulary.{map_member, member_after_sort, member_before_sort, nat_cmp-IsAntisymmetric, nat_cmp_total, nat_le, nat_list_cmp_total, on_total, open_end, refl}
-use Rattle.dv_laws.proofs.Vocabulary.{reverse, same_ascending, slice_cmp-IsAntisymmetric, some_passes, some_passes_at, sorted_by, subst, sym, then_total, both_tied}
-use Rattle.dv_laws.proofs.Vocabulary.{Key, Window, Hashes, Mapping, EffectRow, PeriodRow, Extract, IsApart, IsInLoadOrder, IsNewestFirst, IsEffectBatch, IsPeriod, Span, all_refs, appended, batch_made, content, delivered_refs, delivers, effect_batch, effect_cmp, effect_row}
-use Rattle.dv_laws.proofs.Vocabulary.{ended_runs, feed_rows, history, history-newest_first, lists_of, newest_rows, period_mart, run_begin, runs, source, span_between, table_after, up_to, ascending-sorted_by, append-nil}
-use Rattle.std.specs.List.{list_any}
-use Rattle.std.specs.List.Sorted.{IsStrictlySortedBy}
+use Rattle.dv_records.proofs.Vocabulary.{Bool, Contains, Contains-append_right, Contains-cons_cases, Contains-cons_here, Contains-cons_there, Contains-nil, List, None, Option, Some, [], ◌∷◌, ◌++◌}
+use Rattle.dv_records.proofs.Vocabulary.{◌≡◌, ◌⊎◌, ◌==◌, ◌<◌, ◌∙◌, ℕ, true, false, false≢true, and_from, and_parts, ap, arith, bytes_eq, bytes_eq-Decides, eq-eqb, eqb-true, filter-all, inl, inr, leb-true}
+use Rattle.dv_records.proofs.Vocabulary.{nat_le, nat_list_cmp_total, refl, some_passes, some_passes_at, subst, sym, irreflexive, list_any, IsStrictlySortedBy, Less, member_of_all, digest_cmp, made_of, append-nil}
+use Rattle.dv_records.proofs.Vocabulary.{Key, Hashes, Extract, IsApart, all_refs, appended, delivers, lists_of, newest_rows, up_to}
+use Rattle.std.proofs.lemmas.List.Elements.{filter-append}
 use Rattle.std.proofs.lemmas.List.Folds.{list_any-append}
-use Rattle.std.specs.declared.cmp.Ordering.TheVariants.{Less, Equal}
-use Rattle.dv_text.proofs.Members.{member_of_all}
-use Rattle.dv_text.proofs.Orderings.{irreflexive}
-use Rattle.dv_catalog.specs.declared.tables.TableId.TheVariants.{Effect}
-use Rattle.dv_laws.proofs.EffectTies.{effect_parent, effect_stands, effect_tied}
-use Rattle.dv_laws.proofs.PeriodTies.{as_content, fewer, in_order, one_end, period-same, period_row, reached as reached_all}
-use Rattle.dv_laws.proofs.RunTies.{ended_there, opened, present, runs_there}
-use Rattle.dv_laws.specs.EffectPeriods.{by_hash_key}
-use Rattle.dv_records.proofs.LastChange.{IsOwn, all_up_to, lists_reversed}
-use Rattle.dv_text.proofs.Options.{made_of}
-use Rattle.dv_records.specs.Batches.{digest_cmp}
-use Rattle.dv_records.specs.Marts.{period_cmp, periods_of}
-use Rattle.std.specs.List.{flat_map}
+use Rattle.std.specs.Prelude.{filter}
+use Rattle.dv_text.proofs.Passing.{filter-none}
+use Rattle.dv_text.specs.Stamps.{open_end}
+use Rattle.dv_records.specs.declared.raw_rows.EffectRow.{EffectRow}
+use Rattle.dv_records.specs.EffectPeriods.{is_of_one_run, last_of_runs}
+use Rattle.dv_records.specs.Effects.{effect_batch, effect_cmp, effect_row, span_between, IsEffectBatch}
+use Rattle.dv_records.specs.Runs.{Span, ended_runs, run_begin, runs}
+use Rattle.dv_records.proofs.BatchTies.{batch_made}
+use Rattle.dv_records.proofs.EffectTies.{effect_parent, effect_stands, effect_tied}
+use Rattle.dv_records.proofs.LastChange.{IsOwn, all_up_to}
+use Rattle.dv_records.proofs.Reversing.{IsNewestFirst}
+use Rattle.dv_records.proofs.RunOrder.{apart as apart_open, run_ended, run_ordered}
 use Rattle.dv_records.proofs.StatusReconstruct.{both_lists}
-use Rattle.dv_records.specs.EffectPeriods.{Period, effect_periods, is_of_one_run, last_of_runs, parent_period_cmp, period_in}
-use Rattle.dv_records.specs.declared.stores.Rows.{Rows}
-use Rattle.dv_records.specs.declared.stores.Rows.TheVariants.{Effects}
-use Rattle.dv_records.specs.Backwards.{backwards}
 
 -- ---- the last rows of runs
 
@@ -126,20 +118,12 @@ module _ (hashes : Hashes) (source : List ℕ) where
     is_batch : IsEffectBatch hashes source older newest batch
     is_batch = (effect_tied hashes source older newest (λ a b a_in b_in. apart a b (both_lists newest older a a_in) (both_lists newest older b b_in)) batch).0 refl
 
-    reached : (extract : Extract) → Contains older extract → extract.load ≤ newest.load
-    reached extract has = let lt = order.0 extract has in omega (arith, lt)
-
     -- an ended run of the older extracts began before the newest one, and isn't the open one
     early : (refs : List Key) (span : Span) → Contains (ended_runs older refs) span → span.begin < newest.load
-    early refs span has = let is = ended_there refs newest.load older order.1 reached span has in let a = is.ordered in let b = is.not_later in omega (arith, a, b)
+    early refs span has = let less = run_ordered refs older order.1 span has in let within = run_ended refs newest.load older order.0 span has in omega (arith, less, within)
 
     not_open : (refs : List Key) (begin : ℕ) (span : Span) → run_begin older refs ≡ Some begin → Contains (ended_runs older refs) span → span.begin ≡ begin → ⊥
-    not_open refs begin span going has same =
-        let ends = ended_there refs newest.load older order.1 reached span has in
-        let goes_on = opened refs newest.load older order.1 reached begin going in
-        let a = ends.ordered in
-        let b = ends.not_later in
-        false≢true (sym ends.after ∙ goes_on.during span.end (omega (arith, a, b, same)) b)
+    not_open refs begin span going has same = apart_open refs older order.1 begin span going has (sym same)
 
     -- the row that opens a run, and the one that closes it
     opening : (refs : List Key) → run_begin older refs ≡ None → delivers newest.rows refs ≡ true
@@ -307,104 +291,3 @@ module _ (hashes : Hashes) (source : List ℕ) where
       by false e rest =
           let now : filter test (effect_batch hashes source older newest) ≡ [] = filter-none test (effect_batch hashes source older newest) (λ row has. rw (batch_load newest older row has) e) in
           rw (e, now, rest) (append-nil (rows_after (up_to date older)))
-
--- ---- periods
-
--- of one kind
-abbrev effect_rows : Rows → List EffectRow
-effect_rows (Effects rows) = rows
-effect_rows rows = []
-
-period_total : IsTotalOrder parent_period_cmp
-period_total = then_total (on_total (λ (period : Period). period.parent) nat_list_cmp_total) (on_total (λ (period : Period). period.begin) nat_cmp_total)
-
-module _ (hashes : Hashes) (feed : ℕ) (sealed : List Window) (date : ℕ) (order : IsInLoadOrder sealed) (apart : IsApart hashes (delivered_refs feed sealed)) where
-  abbrev extracts : List Extract
-  extracts = up_to date (history feed (reverse sealed))
-
-  extracts_apart : IsApart hashes (lists_of extracts)
-  extracts_apart a b a_in b_in = apart a b (delivered a a_in) (delivered b b_in)
-    where
-      delivered : (refs : List Key) → Contains (lists_of extracts) refs → Contains (delivered_refs feed sealed) refs
-      delivered refs has = lists_reversed feed sealed refs (fewer feed sealed date order (history feed (reverse sealed)) (λ extract. nat_le extract.load date) refs has)
-
-  -- a run of one of the extracts' lists, by the hash key of the list
-  record IsRun (period : Period) : Type 0 where
-    refs : List Key
-    member : Contains (lists_of extracts) refs
-    parent : period.parent ≡ hashes.hash refs
-    run : Contains (runs extracts refs) (record { begin = period.begin; end = period.end })
-
-  -- runs of one list that begin at one date are one
-  one_run : (a b : Period) → IsRun a → IsRun b → parent_period_cmp a b ≡ Equal → a ≡ b
-  one_run a b mine theirs tie =
-      let (parents, begins) = both_tied _ _ tie in
-      let parent : a.parent ≡ b.parent = slice_cmp-IsAntisymmetric nat_cmp-IsAntisymmetric a.parent b.parent parents in
-      let begin : a.begin ≡ b.begin = nat_cmp-IsAntisymmetric a.begin b.begin begins in
-      let refs : mine.refs ≡ theirs.refs = extracts_apart mine.refs theirs.refs mine.member theirs.member (sym mine.parent ∙ parent ∙ theirs.parent) in
-      let first = period_of mine.refs a.begin a.end mine.run in
-      let second = period_of theirs.refs b.begin b.end theirs.run in
-      let moved : IsPeriod (present extracts theirs.refs) date b.begin a.end = subst (λ n. IsPeriod (present extracts theirs.refs) date n a.end) begin (subst (λ r. IsPeriod (present extracts r) date a.begin a.end) refs first) in
-      let end : a.end ≡ b.end = one_end feed sealed date order (present extracts theirs.refs) b.begin a.end b.end moved second in
-      λ i. record { parent = parent i; begin = begin i; end = end i }
-    where
-      period_of : (refs : List Key) (b e : ℕ) → Contains (runs extracts refs) (record { begin = b; end = e }) → IsPeriod (present extracts refs) date b e
-      period_of refs b e has = runs_there refs date extracts (in_order feed sealed date order) (reached_all feed sealed date order) (record { begin = b; end = e }) has
-
-  -- two lists of periods that have just the runs are one list in order
-  same_sorted : (xs ys : List Period) → ((p : Period) → Contains xs p → IsRun p) → ((p : Period) → IsRun p → Contains xs p) → ((p : Period) → Contains ys p → IsRun p) → ((p : Period) → IsRun p → Contains ys p)
-      → sorted_by parent_period_cmp xs ≡ sorted_by parent_period_cmp ys
-  same_sorted xs ys only_x each_x only_y each_y =
-      same_ascending parent_period_cmp period_total (sorted_by parent_period_cmp xs) (sorted_by parent_period_cmp ys)
-      (ascending-sorted_by parent_period_cmp period_total xs) (ascending-sorted_by parent_period_cmp period_total ys)
-      (moved xs ys only_x only_y each_y) (moved ys xs only_y only_x each_x)
-    where
-      moved : (xs ys : List Period) → ((p : Period) → Contains xs p → IsRun p) → ((p : Period) → Contains ys p → IsRun p) → ((p : Period) → IsRun p → Contains ys p)
-          → (p : Period) → Contains (sorted_by parent_period_cmp xs) p → Contains (sorted_by parent_period_cmp ys) p
-      moved xs ys only_x only_y each_y p has =
-          let is = only_x p (member_before_sort parent_period_cmp xs p has) in
-          member_after_sort parent_period_cmp ys p (λ other there tie. one_run other p (only_y other there) is tie) (each_y p is)
-
-  module _ (source : List ℕ) where
-    abbrev last_rows_in : List EffectRow
-    last_rows_in = last_of_runs (appended (effect_batch hashes source) extracts)
-
-    told_only : (p : Period) → Contains (map period_in last_rows_in) p → IsRun p
-    told_only p has =
-        let (row, member, is) = map_member period_in last_rows_in p has in
-        let (refs, delivered, parent, run) = only_runs hashes source extracts (in_order feed sealed date order) extracts_apart row member in
-        subst IsRun is (record { refs = refs; member = delivered; parent = parent; run = run })
-
-    told_each : (p : Period) → IsRun p → Contains (map period_in last_rows_in) p
-    told_each p is =
-        let (row, member, parent, begin, end) =
-        all_runs hashes source extracts (in_order feed sealed date order) extracts_apart is.refs (λ other there same. extracts_apart other is.refs there is.member same) (record { begin = p.begin; end = p.end }) is.run in
-        let same : period_in row ≡ p = λ i. record { parent = (parent ∙ sym is.parent) i; begin = begin i; end = end i } in
-        subst (Contains (map period_in last_rows_in)) same (Contains-map period_in last_rows_in row member)
-
-  mart_only : (p : Period) → Contains (map (by_hash_key hashes) (period_mart sealed feed date)) p → IsRun p
-  mart_only p has =
-      let (row, member, is) = map_member (by_hash_key hashes) (period_mart sealed feed date) p has in
-      let (refs, delivered, within) = flat_map_member (periods_of extracts) (lists_of extracts) row (member_before_sort period_cmp (flat_map (periods_of extracts) (lists_of extracts)) row member) in
-      let (span, run, made) = map_member (λ (span : Span). record { refs = refs; begin = span.begin; end = span.end }) (runs extracts refs) row within in
-      subst IsRun (ap (by_hash_key hashes) made ∙ is) (record { refs = refs; member = delivered; parent = refl; run = run })
-
-  mart_each : (p : Period) → IsRun p → Contains (map (by_hash_key hashes) (period_mart sealed feed date)) p
-  mart_each p is =
-      let row : PeriodRow = record { refs = is.refs; begin = p.begin; end = p.end } in
-      let there = runs_there is.refs date extracts (in_order feed sealed date order) (reached_all feed sealed date order) (record { begin = p.begin; end = p.end }) is.run in
-      let in_mart = period_row feed sealed date order row
-      (period-same (present extracts is.refs) (λ t. delivers (content feed sealed t) is.refs) date p.begin p.end (λ t le. as_content feed sealed date order is.refs t le) there) in
-      let same : by_hash_key hashes row ≡ p = λ i. record { parent = sym is.parent i; begin = p.begin; end = p.end } in
-      subst (Contains (map (by_hash_key hashes) (period_mart sealed feed date))) same (Contains-map (by_hash_key hashes) (period_mart sealed feed date) row in_mart)
-
-pub effects_tell : (mapping : Mapping) (hashes : Hashes) (feed : ℕ) (sealed : List Window) (rows : List EffectRow) → table_after mapping hashes (backwards sealed) (Effect feed) ≡ Effects rows
-    → IsInLoadOrder sealed → IsApart hashes (delivered_refs feed sealed) → (date : ℕ) → effect_periods rows date ≡ sorted_by parent_period_cmp (map (by_hash_key hashes) (period_mart sealed feed date))
-effects_tell mapping hashes feed sealed rows table order apart date =
-    let made : rows ≡ appended (effect_batch hashes (source mapping feed)) (history feed (reverse sealed)) = feed_rows feed (effect_batch hashes (source mapping feed)) (reverse sealed) rows (ap effect_rows table) in
-    let early : filter (λ row. nat_le row.load date) rows ≡ appended (effect_batch hashes (source mapping feed)) (up_to date (history feed (reverse sealed))) =
-    ap (filter (λ (row : EffectRow). nat_le row.load date)) made ∙ rows_up_to hashes (source mapping feed) date (history feed (reverse sealed)) (history-newest_first feed sealed order) in
-    ap (λ rows. sorted_by parent_period_cmp (map period_in (last_of_runs rows))) early
-    ∙ same_sorted hashes feed sealed date order apart _ _
-    (told_only hashes feed sealed date order apart (source mapping feed)) (told_each hashes feed sealed date order apart (source mapping feed))
-    (mart_only hashes feed sealed date order apart) (mart_each hashes feed sealed date order apart)

@@ -1,0 +1,58 @@
+-- The periods that effectivity rows tell are the rows of the period mart, by hash key, and what is in effect is in a run.
+use Rattle.dv_laws.proofs.Vocabulary.{Contains, Contains-map, List, ◌≡◌, ◌↔◌, ◌∙◌, ℕ, ap, ascending-sorted_by, filter, map, map_member, member_after_sort, member_before_sort, nat_le, refl, reverse, same_ascending}
+use Rattle.dv_laws.proofs.Vocabulary.{sorted_by, subst, sym, Window, Hashes, Mapping, EffectRow, PeriodRow, Extract, IsApart, IsInLoadOrder, appended, delivered_refs, effect_batch, feed_rows, history, period_mart, source, table_after, up_to}
+use Rattle.dv_laws.proofs.Vocabulary.{Key, apart-reversed, history-newest_first, run_begin}
+use Rattle.dv_catalog.specs.declared.tables.TableId.TheVariants.{Effect}
+use Rattle.dv_records.specs.declared.mart_rows.Period.{Period}
+use Rattle.dv_records.specs.declared.stores.Rows.TheVariants.{Effects}
+use Rattle.dv_records.specs.Backwards.{backwards}
+use Rattle.dv_records.specs.EffectPeriods.{effect_periods, in_effect_since, last_of_runs, parent_period_cmp, period_in}
+use Rattle.dv_records.specs.Ranks.{parent_period_total}
+use Rattle.dv_records.specs.ReadBack.{effect_rows}
+use Rattle.dv_records.proofs.EffectReconstruct.{effects_say}
+use Rattle.dv_records.proofs.PeriodRuns.{mart_runs, one_period, periods_told, IsRun}
+use Rattle.dv_laws.specs.EffectPeriods.{by_hash_key}
+
+module _ (mapping : Mapping) (hashes : Hashes) (feed : ℕ) (sealed : List Window) (rows : List EffectRow) (table : table_after mapping hashes (backwards sealed) (Effect feed) ≡ Effects rows)
+    (order : IsInLoadOrder sealed) (apart : IsApart hashes (delivered_refs feed sealed)) where
+  made : rows ≡ appended (effect_batch hashes (source mapping feed)) (history feed (reverse sealed))
+  made = feed_rows feed (effect_batch hashes (source mapping feed)) (reverse sealed) rows (ap effect_rows table)
+
+  module _ (date : ℕ) where
+    abbrev extracts : List Extract
+    extracts = up_to date (history feed (reverse sealed))
+
+    abbrev by_key : List Period
+    by_key = map (by_hash_key hashes) (period_mart sealed feed date)
+
+    -- the rows of the mart are the runs
+    mart_only : (period : Period) → Contains by_key period → IsRun hashes extracts period
+    mart_only period has =
+        let (row, member, is) = map_member (by_hash_key hashes) (period_mart sealed feed date) period has in
+        subst (IsRun hashes extracts) is (record { refs = row.refs; parent = refl; run = (mart_runs feed sealed date order row).0 member })
+
+    mart_each : (period : Period) → IsRun hashes extracts period → Contains by_key period
+    mart_each period is =
+        let row : PeriodRow = record { refs = is.refs; begin = period.begin; end = period.end } in
+        let same : by_hash_key hashes row ≡ period = λ i. record { parent = sym is.parent i; begin = period.begin; end = period.end } in
+        subst (Contains by_key) same (Contains-map (by_hash_key hashes) (period_mart sealed feed date) row ((mart_runs feed sealed date order row).1 is.run))
+
+    -- and so are the periods that the table tells
+    told : (period : Period) → Contains (effect_periods rows date) period ↔ IsRun hashes extracts period
+    told = periods_told feed sealed date order hashes apart (source mapping feed) rows made
+
+    pub effects_tell : effect_periods rows date ≡ sorted_by parent_period_cmp (map (by_hash_key hashes) (period_mart sealed feed date))
+    effects_tell =
+        same_ascending parent_period_cmp parent_period_total (effect_periods rows date) (sorted_by parent_period_cmp by_key)
+        (ascending-sorted_by parent_period_cmp parent_period_total (map period_in (last_of_runs (filter (λ row. nat_le row.load date) rows)))) (ascending-sorted_by parent_period_cmp parent_period_total by_key)
+        (λ period has.
+        let is = (told period).0 has in
+        member_after_sort parent_period_cmp by_key period (λ other there tie. one_period feed sealed date order hashes apart other period (mart_only other there) is tie) (mart_each period is))
+        (λ period has. (told period).1 (mart_only period (member_before_sort parent_period_cmp by_key period has)))
+
+  pub since_tells : (refs : List Key) → ((other : List Key) → Contains (delivered_refs feed sealed) other → hashes.hash other ≡ hashes.hash refs → other ≡ refs)
+      → (date : ℕ) → in_effect_since rows (hashes.hash refs) date ≡ run_begin (up_to date (history feed (reverse sealed))) refs
+  since_tells refs own date =
+      let all = apart-reversed hashes feed sealed refs apart own in
+      ap (λ (rows : List EffectRow). in_effect_since rows (hashes.hash refs) date) made
+      ∙ effects_say hashes (source mapping feed) refs date (history feed (reverse sealed)) (history-newest_first feed sealed order) all.0 all.1
