@@ -1,5 +1,4 @@
 pub mod Again
-pub mod BuiltMappings
 pub mod FirstAnswers
 pub mod PlaceSteps
 mod SameEntries

@@ -18,8 +18,8 @@ pub(crate) trait Entry: Drop {
         ensures { Meets result (entry_of (table_view table.now)) };
 }
 
-/// The place of a key in an entry: the entry's kind, its number and the key.
-pub(crate) fn place(alloc: Global, kind: &str, number: u64, key: &[u8]) -> Result<Text, Memory>
+// The place of a key in an entry: the entry's kind, its number and the key.
+fn place(alloc: Global, kind: &str, number: u64, key: &[u8]) -> Result<Text, Memory>
     ensures { IfOk result (λ place. place ≡ shape.place_of kind.now number key.now) }
 {
     let mut place = format!(in alloc; "{kind} {number} ")?.into_bytes();

@@ -2,7 +2,7 @@
 
 use crate::sample_files::{
     ACCOUNTS, ASSIGNMENTS, BY_EMPLOYEE, BY_ORDER, CUSTOMERS, NAMES, ORDERS, PHONES, SITES, SOLD,
-    fault,
+    TEAMS, fault,
 };
 use dv_catalog::{Catalog, FeedDef, HubDef, LinkDef, Parent, PathDef, TableId, record_source};
 use dv_mapfile::read_catalog;
@@ -145,6 +145,16 @@ accounts shop hub 0 key ACCOUNT sub attrs TIER ignore driver\n",
 department parts 1
 works hubs 0 1
 assignments hr link 0 key EMP key DEPT sub attrs ignore driver 0\n",
+    ),
+    (
+        TEAMS,
+        "",
+        "",
+        "employee parts 1
+department parts 1
+project parts 1
+staffs hubs 2 0 1
+teams hr link 0 key PROJ key EMP key DEPT sub attrs ROLE ignore driver 2 0\n",
     ),
     (
         SOLD,

@@ -77,6 +77,29 @@ keys = [["EMP"], ["DEPT"]]
 /// One of the link's hubs drives.
 pub(crate) const BY_EMPLOYEE: &str = "driver = [\"employee\"]\n";
 
+/// A link of three hubs in another order than theirs, of which two drive, in another order than the link's.
+pub(crate) const TEAMS: &str = r#"
+[[hub]]
+name = "employee"
+parts = 1
+[[hub]]
+name = "department"
+parts = 1
+[[hub]]
+name = "project"
+parts = 1
+[[link]]
+name = "staffs"
+hubs = ["project", "employee", "department"]
+[[feed]]
+name = "teams"
+source = "hr"
+link = "staffs"
+keys = [["PROJ"], ["EMP"], ["DEPT"]]
+attrs = ["ROLE"]
+driver = ["department", "project"]
+"#;
+
 /// Two links with a hub in common, and a path over their feeds up to that hub.
 pub(crate) const SOLD: &str = r#"
 [[hub]]
