@@ -1,7 +1,7 @@
 use crate::faults::StageFault;
 use crate::stages::read_extract;
 use crate::whole::whole_extract;
-use dv_catalog::{FeedDef, Parent, Rule};
+use dv_catalog::{FeedDef, Parent, Rule, rule_text};
 use dv_text::{Key, List, Memory, NRow, Text};
 use std::alloc::AllocError;
 use std::test::Fail;
@@ -204,6 +204,69 @@ fn references_are_taken(rt: HostRuntime) -> Result<(), Fail> {
         assert_eq!(rt; got.as_slice(), shown);
     }
     Ok(())
+}
+
+static TEAMS: [(&[u8], &[u8]); 7] = [
+    (
+        b"E,D,P\n2,a,x\n1,b,y\n1,a,x\n 1 ,A,X\n",
+        b"4:1,/A,/X,/|\n1,/B,/Y,/|\n2,/A,/X,/|\n",
+    ),
+    (b"E,D,P\n1,a,x\n1,,y\n", b"2:1,/,/Y,/|\n1,/A,/X,/|\n"),
+    (b"E,D,P\n1,a,x\n1,b,\n", b"W15 2 0 "),
+    (b"E,D,P\n1,a,x\n1,b,x\n,b,x\n", b"W15 3 0 "),
+    (b"E,D,P\n2,a,x\n2,b,X\n", b"W18 0 0 X,/2,/"),
+    (
+        b"E,D,P\n1,a,y\n1,b,y\n9,a,x\n9,b,x\n10,a,x\n10,,x\n2,a,x\n",
+        b"W18 0 0 X,/10,/",
+    ),
+    (b"E,D,P\n1,a,x\n1,b,x\n1,a\n", b"W12 3 0 "),
+];
+
+#[test]
+fn two_of_three_references_drive(rt: HostRuntime) -> Result<(), Fail> {
+    let keys: [&[&[u8]]; 3] = [&[b"E"], &[b"D"], &[b"P"]];
+    let teams = feed(&rt, &keys, &[], &[], &[2, 0])?;
+    for (bytes, shown) in TEAMS {
+        let got = read(&rt, &teams, bytes, 9)?;
+        assert_eq!(rt; got.as_slice(), shown);
+    }
+    Ok(())
+}
+
+static ROLES: [(&[u8], &[u8]); 5] = [
+    (
+        b"E,D,R\n1,p,x\n2,p,y\n1,P, x\n",
+        b"3:1,/P,/|x,\n2,/P,/|y,\n",
+    ),
+    (b"E,D,R\n1,p,x\n1,q,x\n", b"W18 0 0 1,/"),
+    (b"E,D,R\n1,p,x\n1,q,x\n2,p,x\n1,p,y\n", b"W16 1 4 "),
+    (b"E,D,R\n1,p,x\n1,q,x\n2,p,x\n2,r,x\n3,p,x\n", b"W17 5 0 "),
+    (b"E,D,R\n1,p,x\n1,,x\n", b"W18 0 0 1,/"),
+];
+
+#[test]
+fn records_are_asked_before_driving_keys(rt: HostRuntime) -> Result<(), Fail> {
+    let roles = feed(&rt, &[&[b"E"], &[b"D"]], &[], &[b"R"], &[0])?;
+    for (bytes, shown) in ROLES {
+        let got = read(&rt, &roles, bytes, 4)?;
+        assert_eq!(rt; got.as_slice(), shown);
+    }
+    Ok(())
+}
+
+#[test]
+fn shared_driving_keys_are_printed(rt: HostRuntime) -> Result<(), Fail> {
+    let mut assignments = feed(&rt, &[&[b"EMP"], &[b"DEPT"]], &[], &[], &[0])?;
+    assignments.name = Text::of(rt.alloc(), b"assignments")?;
+    match read_extract(rt.alloc(), &assignments, b"EMP,DEPT\n1,P\n1,Q\n", 9) {
+        Err(StageFault::Broken(rule)) => {
+            let text = rule_text(rt.alloc(), &rule)?;
+            let expected = b"W18 TwoDrivers feed=assignments driver=[1]";
+            assert_eq!(rt; text.bytes(), expected.as_slice());
+            Ok(())
+        }
+        _ => Err("not refused".into()),
+    }
 }
 
 #[test]
