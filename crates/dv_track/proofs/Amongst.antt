@@ -1,8 +1,9 @@
 -- Digests in a list, sorted or not.
 use Rattle.dv_track.proofs.Vocabulary.{◌≡◌, ◌↔◌, ℕ, ◌+◌, inl, inr, List, [], ◌∷◌, Option, Some, None, Result, Ok, Err, refl, ap, subst, arith, length, get_or, filter, reverse, ◌&&◌, nat_le, Contains, is_ok, Decides, IsTrue, Ordering, Equal, IsTotalOrder}
 use Rattle.dv_track.proofs.Vocabulary.{nat_cmp-IsAntisymmetric, slice_cmp-IsAntisymmetric, IsAntisymmetric, filter_map, IsBinarySearchResult, IsSearchInRange, IsStrictlySortedBy, IsSortedBy, is_lt, bytes_eq, and_parts, cases_lt, false≢true, tied_itself, searchable_from_sorted, Less-from_sorted}
-use Rattle.dv_track.proofs.Vocabulary.{bytes_eq-Decides, sorted_by, found_member, same_answer, some_passes, some_passes_at, member_after_sort, member_before_sort, StatusRow, Code, I, D, digest_cmp, status_place, latest_at, latest_of_each, is_appearance, says_present, is_among, parents_of}
-use Rattle.dv_track.proofs.Vocabulary.{Bool, sym, ◌++◌, ◌||◌, ◌∙◌, any-filter_same, list_any-append, nat_list_cmp_total, same_ascending, present_parents}
+use Rattle.dv_track.proofs.Vocabulary.{bytes_eq-Decides, sorted_by, found_member, same_answer, some_passes, some_passes_at, member_after_sort, member_before_sort, StatusRow, digest_cmp, status_place, latest_at, latest_of_each, is_appearance, says_present, is_among, parents_of}
+use Rattle.dv_index.specs.Places.{Place}
+use Rattle.dv_track.proofs.Vocabulary.{Bool, true, false, map, sym, ◌++◌, ◌||◌, ◌∙◌, any-filter_same, list_any-append, nat_list_cmp_total, same_ascending, present_parents}
 
 -- two digests that tie are one
 pub exact : (a b : List ℕ) → digest_cmp a b ≡ Equal → a ≡ b
@@ -57,26 +58,28 @@ same_among xs ys up vp same =
     (λ digest has. (is_among-Decides ys digest).0 (sym (same digest) ∙ (is_among-Decides xs digest).1 has))
     (λ digest has. (is_among-Decides xs digest).0 (same digest ∙ (is_among-Decides ys digest).1 has))
 
--- the parents of those latest rows that say that it appeared are the parents that are present
-pub appeared_present : (latest : List ℕ → Option StatusRow) → ((parent : List ℕ) (row : StatusRow) → latest parent ≡ Some row → row.parent ≡ parent) → (parents : List (List ℕ))
-    → parents_of (filter (λ row. is_appearance row.code) (filter_map latest parents)) ≡ filter (λ parent. says_present (latest parent)) parents
-appeared_present latest own [] = refl
-appeared_present latest own (parent ∷ parents) = by (latest parent) refl (appeared_present latest own parents)
+-- the parents of those latest rows that say something are the parents of which it is said
+pub said_parents : {R : Type 0} (parent_of : R → List ℕ) (says : R → Bool) (said : Option R → Bool) → said None ≡ false → ((row : R) → said (Some row) ≡ says row) → (latest : List ℕ → Option R)
+    → ((parent : List ℕ) (row : R) → latest parent ≡ Some row → parent_of row ≡ parent) → (parents : List (List ℕ)) → map parent_of (filter says (filter_map latest parents)) ≡ filter (λ parent. said (latest parent)) parents
+said_parents parent_of says said none some latest own [] = refl
+said_parents {R} parent_of says said none some latest own (parent ∷ parents) = by (latest parent) refl (said_parents parent_of says said none some latest own parents)
   where
-    by : (o : Option StatusRow) → latest parent ≡ o → parents_of (filter (λ row. is_appearance row.code) (filter_map latest parents)) ≡ filter (λ parent. says_present (latest parent)) parents
-        → parents_of (filter (λ row. is_appearance row.code) (filter_map latest (parent ∷ parents))) ≡ filter (λ parent. says_present (latest parent)) (parent ∷ parents)
-    by None e rest = rw e rest
-    by (Some row) e rest = code row.code refl
+    by : (o : Option R) → latest parent ≡ o → map parent_of (filter says (filter_map latest parents)) ≡ filter (λ parent. said (latest parent)) parents
+        → map parent_of (filter says (filter_map latest (parent ∷ parents))) ≡ filter (λ parent. said (latest parent)) (parent ∷ parents)
+    by None e rest = rw (e, none) rest
+    by (Some row) e rest = told (says row) refl
       where
-        code : (c : Code) → row.code ≡ c → parents_of (filter (λ row. is_appearance row.code) (filter_map latest (parent ∷ parents))) ≡ filter (λ parent. says_present (latest parent)) (parent ∷ parents)
-        code I is = rw (e, is, own parent row e) (ap (λ list. parent ∷ list) rest)
-        code D is = rw (e, is) rest
+        told : (b : Bool) → says row ≡ b → map parent_of (filter says (filter_map latest (parent ∷ parents))) ≡ filter (λ parent. said (latest parent)) (parent ∷ parents)
+        told true is = rw (e, some row, is, own parent row e) (ap (λ list. parent ∷ list) rest)
+        told false is = rw (e, some row, is) rest
 
 -- a parent's latest row is its own
-own_row : (rows : List StatusRow) (date : ℕ) (parent : List ℕ) (row : StatusRow) → latest_at status_place rows parent date ≡ Some row → row.parent ≡ parent
-own_row rows date parent row e =
-    (bytes_eq-Decides row.parent parent).0 (and_parts _ (nat_le row.load date) (found_member (λ (row : StatusRow). bytes_eq row.parent parent && nat_le row.load date) (reverse rows) row e).1).0
+pub own_row : {R : Type 0} (place : R → Place) (rows : List R) (date : ℕ) (parent : List ℕ) (row : R) → latest_at place rows parent date ≡ Some row → (place row).parent ≡ parent
+own_row {R} place rows date parent row e =
+    (bytes_eq-Decides (place row).parent parent).0
+    (and_parts _ (nat_le (place row).load date) (found_member (λ (row : R). bytes_eq (place row).parent parent && nat_le (place row).load date) (reverse rows) row e).1).0
 
 -- so the walk over the latest rows gives the parents that are present
 pub latest_present : (rows : List StatusRow) (date : ℕ) → parents_of (filter (λ row. is_appearance row.code) (latest_of_each status_place rows date)) ≡ present_parents rows date
-latest_present rows date = appeared_present (λ parent. latest_at status_place rows parent date) (own_row rows date) (sorted_by digest_cmp (parents_of rows))
+latest_present rows date =
+    said_parents (λ (row : StatusRow). row.parent) (λ row. is_appearance row.code) says_present refl (λ row. refl) (λ parent. latest_at status_place rows parent date) (own_row status_place rows date) (sorted_by digest_cmp (parents_of rows))

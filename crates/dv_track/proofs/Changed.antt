@@ -6,7 +6,7 @@ use Rattle.dv_track.proofs.Amongst.{among-filter, among_both, among_sorted, is_a
 use Rattle.dv_track.proofs.Presence.{among_present, present_parent}
 
 -- items without a value may be left out
-filter_map_some : {X Y : Type 0} (h : X → Option Y) (xs : List X) → filter_map h (filter (λ x. is_some (h x)) xs) ≡ filter_map h xs
+pub filter_map_some : {X Y : Type 0} (h : X → Option Y) (xs : List X) → filter_map h (filter (λ x. is_some (h x)) xs) ≡ filter_map h xs
 filter_map_some h [] = refl
 filter_map_some h (x ∷ xs) = by (h x) refl (filter_map_some h xs)
   where

@@ -1,6 +1,10 @@
 pub mod Amongst
 pub mod Changed
 pub mod DeltaBatch
+pub mod EffectBatches
+pub mod EffectChanged
+pub mod EffectFollowing
+pub mod EffectTold
 pub mod Following
 pub mod Merged
 pub mod Presence

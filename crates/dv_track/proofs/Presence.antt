@@ -22,7 +22,7 @@ present_parent rows parent date present = by (find p (reverse rows)) refl
         subst (Contains (parents_of rows)) same (Contains-map (λ (row : StatusRow). row.parent) rows row ((reverse_member rows row).0 member))
 
 -- so the list of those who are present has just these
-implied : (p q : Bool) → (p ≡ true → q ≡ true) → (p && q) ≡ p
+pub implied : (p q : Bool) → (p ≡ true → q ≡ true) → (p && q) ≡ p
 implied true q has = has refl
 implied false q has = refl
 

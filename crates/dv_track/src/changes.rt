@@ -48,15 +48,15 @@ fn change(
 }
 
 // Whether a digest is one of some digests, which ascend. Takes no memory.
-fn is_among(digests: &[Digest], digest: &Digest) -> bool
+pub(crate) fn is_among(digests: &[Digest], digest: &Digest) -> bool
     requires { IsStrictlySortedBy digest_cmp digests.now }
     ensures { result ≡ track.is_among digests.now digest.now }
 {
     digests.binary_search(digest).is_ok()
 }
 
-// Puts a row, if there is one, at the end.
-fn add(rows: &mut List<StatusRow>, row: Option<StatusRow>) -> Result<(), Memory>
+/// Puts a row, if there is one, at the end.
+pub(crate) fn add<R: Drop>(rows: &mut List<R>, row: Option<R>) -> Result<(), Memory>
     ensures { OnOk result (rows.new ≡ rows.old ++ option_to_list row) }
 {
     match row {

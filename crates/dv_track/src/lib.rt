@@ -1,11 +1,17 @@
-//! Status tables: which parents are present at a date, and what an extract adds.
+//! Status tables: which parents are present at a date. Effectivity tables: from when to when each was in effect. And
+//! what an extract adds to them.
 #![tactic(auto)]
 
 mod changes;
+mod effect_changes;
+mod effect_feed_tables;
+mod effect_periods;
+mod effect_tables;
 mod feed_tables;
 mod loads;
 mod merges;
 mod presences;
 mod status_tables;
 
+pub use effect_tables::EffectTable;
 pub use status_tables::StatusTable;

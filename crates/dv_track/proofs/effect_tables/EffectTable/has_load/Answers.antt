@@ -1,0 +1,10 @@
+use Rattle.dv_track.proofs.Vocabulary.{◌∙◌, sym, last_load}
+use Rattle.dv_records.specs.declared.raw_rows.EffectRow.{EffectRow}
+use Rattle.dv_records.specs.Effects.{effect_cmp}
+use Rattle.dv_track.proofs.effect_tables.EffectTable.has_load.Goals as goal
+
+pub returns-in-Some-clause-value : goal.returns-in-Some-clause-value
+returns-in-Some-clause-value c =
+    rw (← c.self.view_is)
+    (c.eq.ensures
+    ∙ last_load (λ (row : EffectRow). row.load) effect_cmp c.self.inside.indexed.rows c.in-Some.row.now c.args.load c.self.invariant (rw (← c.self.view_is) at c.requires) (rw c.rows.ensures at (sym c.in-Some.ensures.value)))

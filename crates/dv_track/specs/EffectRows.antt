@@ -1,0 +1,68 @@
+-- Effectivity tables row by row: what an extract adds to one, by the hash keys alone.
+use Rattle.std.specs.Prelude.{◌≡◌, ℕ, ◌==◌, nat_le, Bool, List, [], ◌∷◌, ◌++◌, Option, filter, is_some, map, if◌then◌else◌}
+use Rattle.std.specs.List.{filter_map, list_all, list_any}
+use Rattle.std.specs.Option.{option_map}
+use Rattle.std.specs.Ordering.{nat_cmp, ordering_then}
+use Rattle.std.specs.declared.cmp.Ordering.{Ordering}
+use Rattle.dv_text.specs.declared.rows.Key.{Key}
+use Rattle.dv_text.specs.Keys.{Hashes}
+use Rattle.dv_text.specs.Sorting.{sorted_by}
+use Rattle.dv_records.specs.declared.raw_rows.EffectRow.{EffectRow}
+use Rattle.dv_records.specs.Batches.{appended, digest_cmp}
+use Rattle.dv_records.specs.Collisions.{IsApart}
+use Rattle.dv_records.specs.EffectPeriods.{in_effect_since}
+use Rattle.dv_records.specs.Effects.{effect_batch, effect_cmp, span_between}
+use Rattle.dv_records.specs.History.{Extract, lists_of, AreNewestFirst}
+use Rattle.dv_track.specs.Tracks.{hashes_in, is_among}
+
+-- the order of an effectivity table: by load date, then by parent
+abbrev pub effect_order : EffectRow → EffectRow → Ordering
+effect_order a b = ordering_then (nat_cmp a.load b.load) (effect_cmp a b)
+
+-- the parents of rows, in their order
+abbrev pub parents_of : List EffectRow → List (List ℕ)
+parents_of rows = map (λ row. row.parent) rows
+
+-- whether a row opens a run
+abbrev pub opens : EffectRow → Bool
+opens row = row.begin == row.load
+
+-- the parents that are in effect at a date, in order
+abbrev pub parents_in_effect : List EffectRow → ℕ → List (List ℕ)
+parents_in_effect rows date = filter (λ parent. is_some (in_effect_since rows parent date)) (sorted_by digest_cmp (parents_of rows))
+
+-- whether no row is later than a date
+abbrev pub are_up_to : List EffectRow → ℕ → Bool
+are_up_to rows date = list_all (λ row. nat_le row.load date) rows
+
+-- whether a row has this load date
+abbrev pub has_load : List EffectRow → ℕ → Bool
+has_load rows load = list_any (λ row. row.load == load) rows
+
+-- the row of a digest that was in effect since a date, or wasn't, and is in the extract, or isn't: none where that goes on
+abbrev pub effect_between : List ℕ → ℕ → List ℕ → Option ℕ → Bool → Option EffectRow
+effect_between source load digest since now =
+    option_map (λ span. record { parent = digest; load = load; source = source; begin = span.begin; end = span.end }) (span_between load since now)
+
+-- the row of a digest, where `now` are the digests of a load date
+abbrev pub effect_change : List ℕ → List EffectRow → ℕ → List (List ℕ) → List ℕ → Option EffectRow
+effect_change source rows load now digest = effect_between source load digest (in_effect_since rows digest load) (is_among now digest)
+
+-- those of the digests in the table and of these, in their order
+abbrev pub effect_changes : List ℕ → List EffectRow → ℕ → List (List ℕ) → List EffectRow
+effect_changes source rows load now = filter_map (effect_change source rows load now) (sorted_by digest_cmp (parents_of rows ++ now))
+
+-- what an extract with these hash keys adds to a table: a row for each digest of the table or of the keys with which a run
+-- begins or ends; nothing where the table has a row of this load date
+abbrev pub keys_delta : List ℕ → List EffectRow → ℕ → List (List ℕ) → List EffectRow
+keys_delta source rows load keys = if has_load rows load then [] else effect_changes source rows load keys
+
+-- what the reference lists of an extract add, by hash key
+abbrev pub effect_delta : Hashes → List ℕ → List EffectRow → ℕ → List (List Key) → List EffectRow
+effect_delta hashes source rows load refs = keys_delta source rows load (hashes_in hashes refs)
+
+-- rows are the batch of an extract, wherever a table is that of extracts before it
+abbrev pub IsEffectBatchAfter : Hashes → List ℕ → List EffectRow → Extract → List EffectRow → Type 0
+IsEffectBatchAfter hashes source rows newest delta =
+    (older : List Extract) → AreNewestFirst (newest ∷ older) → IsApart hashes (lists_of (newest ∷ older))
+    → rows ≡ appended (effect_batch hashes source) older → delta ≡ effect_batch hashes source older newest

@@ -1,0 +1,226 @@
+ghost use Rattle.std.specs.Prelude.{◌≡◌, ◌≤◌, ◌<◌, ◌++◌, All, IfOk, IsTrue, OnOk, filter, length, map};
+ghost use Rattle.std.specs.List.{filter_map};
+ghost use Rattle.std.specs.List.Sorted.{IsStrictlySortedBy};
+ghost use Rattle.dv_text.specs.Keys.{Hashes};
+ghost use Rattle.dv_text.specs.Sorting.{sorted_by};
+ghost use Rattle.dv_digest.specs.HashedExtracts.{HasKeys};
+ghost use Rattle.dv_catalog.specs.Feeds.{source};
+ghost use Rattle.dv_records.specs.Batches.{digest_cmp};
+ghost use Rattle.dv_records.specs.EffectPeriods.{effect_periods, in_effect_since, opened_by};
+ghost use Rattle.dv_records.specs.History.{all_refs};
+ghost use Rattle.dv_track.specs.EffectRows.{are_up_to, effect_change, effect_changes, effect_delta, effect_order, keys_delta, IsEffectBatchAfter};
+ghost use Rattle.dv_track.specs.EffectRows as spec;
+
+use crate::changes::{add, is_among};
+use crate::effect_changes::{effect_row, opened};
+use crate::effect_periods::told;
+use dv_catalog::{Catalog, record_source};
+use dv_digest::HashedExtract;
+use dv_index::IndexedRows;
+use dv_records::{EffectRow, Period, sorted_firsts};
+use dv_text::{Digest, Duplicate, List, Memory, Stamp, Text, sorted_distinct};
+use std::alloc::Global;
+use std::marker::Model;
+
+/// The effectivity satellite of a feed: from when to when each reference list was delivered without a break
+/// (Linstedt and Olschimke 2015, chapter 5, on effectivity satellites). Contracts see it as its rows, and for how
+/// many more there is room. The rows ascend by load date, then by parent.
+#[derive(Drop)]
+pub struct EffectTable {
+    indexed: IndexedRows<EffectRow>,
+}
+
+impl Model for EffectTable {
+    ghost use Rattle.std.specs.List.Sorted.{IsStrictlySortedBy};
+    ghost use Rattle.dv_index.specs.Places.{Indexed};
+    ghost use Rattle.dv_records.specs.declared.raw_rows.EffectRow.{EffectRow};
+    ghost use Rattle.dv_track.specs.EffectRows.{effect_order};
+
+    ghost Value = { Indexed EffectRow };
+
+    ghost view = { λ table. table.indexed };
+
+    ghost invariant = { λ table. IsStrictlySortedBy effect_order table.indexed.rows };
+}
+
+// The parents of the rows that open a run, in their order.
+fn opened_parents(alloc: Global, rows: &[&EffectRow]) -> Result<Vec<Digest>, Memory>
+    ensures { IfOk result (λ made. made.items ≡ spec.parents_of (filter (λ row. spec.opens row) (map (λ row. row.now) rows.now))) }
+{
+    let mut made = Vec::new(alloc);
+    for row in rows {
+        if opened(row).is_some() {
+            made.push(row.parent)?;
+        }
+    }
+    Ok(made)
+}
+
+impl EffectTable {
+    /// The table of these rows. Condition: they ascend strictly by load date, then by parent.
+    pub fn from_rows(alloc: Global, rows: List<EffectRow>) -> Result<EffectTable, Memory>
+        requires { IsStrictlySortedBy effect_order rows }
+        ensures { IfOk result (λ table. table.rows ≡ rows) }
+    {
+        let indexed = IndexedRows::from_rows(alloc, rows)?;
+        Ok(EffectTable { indexed })
+    }
+
+    /// The rows, in their order. Takes no memory.
+    pub fn rows(&self) -> &[EffectRow]
+        ensures value { result.now ≡ self.now.rows }
+        ensures kept { IsStrictlySortedBy effect_order self.now.rows }
+    {
+        self.indexed.rows()
+    }
+
+    /// The allocator that the table keeps: there is one, so no clause says which.
+    pub(crate) fn allocator(&self) -> Global {
+        self.indexed.allocator()
+    }
+
+    /// Does nothing: a call tells a proof that the rows ascend.
+    pub(crate) fn note_order(&self)
+        ensures { IsStrictlySortedBy effect_order self.now.rows }
+    {
+        let _rows = self.indexed.rows();
+    }
+
+    /// Makes room for so many more rows. The rows stay as they are, also for want of memory.
+    pub fn reserve(&mut self, more: u64) -> Result<(), Memory>
+        ensures rows { self.new.rows ≡ self.old.rows }
+        ensures room { OnOk result (more ≤ self.new.spare) }
+    {
+        self.indexed.reserve(more)
+    }
+
+    /// Appends rows. Conditions: there is room for them, and all rows ascend strictly by load date, then by
+    /// parent. Takes no memory.
+    pub fn apply(&mut self, rows: List<EffectRow>)
+        requires room { length rows ≤ self.old.spare }
+        requires order { IsStrictlySortedBy effect_order (self.old.rows ++ rows) }
+        ensures { self.new.rows ≡ self.old.rows ++ rows }
+    {
+        self.indexed.apply(rows);
+    }
+
+    // Since when a parent is in effect at a date. Takes no memory.
+    fn since(&self, parent: &Digest, date: Stamp) -> Option<Stamp>
+        ensures { result ≡ in_effect_since self.now.rows parent.now date }
+    {
+        opened(self.indexed.latest(parent, date)?)
+    }
+
+    // Whether the last row has a load date: no row has it where that one hasn't.
+    fn has_load(&self, load: Stamp) -> bool
+        requires { IsTrue (are_up_to self.now.rows load) }
+        ensures value { result ≡ spec.has_load self.now.rows load }
+        ensures ascending { IsStrictlySortedBy effect_order self.now.rows }
+    {
+        match self.indexed.rows().last() {
+            Some(row) => row.load == load,
+            None => false,
+        }
+    }
+
+    // The parents that are in effect at a date, ascending. One walk over the index.
+    fn parents_in_effect(&self, date: Stamp) -> Result<Vec<Digest>, Memory>
+        ensures { IfOk result (λ found. found.items ≡ spec.parents_in_effect self.now.rows date) }
+    {
+        let rows = self.indexed.latest_of_each(date)?;
+        let found = opened_parents(self.allocator(), &rows)?;
+        Ok(found)
+    }
+
+    // The rows of digests, in their order, where the keys of the extract ascend.
+    fn rows_of(
+        &self,
+        load: Stamp,
+        source: &Text,
+        keys: &List<Digest>,
+        digests: &List<Digest>,
+    ) -> Result<List<EffectRow>, Memory>
+        requires keys { IsStrictlySortedBy digest_cmp keys.now }
+        ensures { IfOk result (λ made. made ≡ filter_map (effect_change source.now self.now.rows load keys.now) digests.now) }
+    {
+        let mut made = List::new(self.allocator());
+        for parent in digests.items() {
+            let now = is_among(keys.items(), parent);
+            let row = effect_row(parent, load, source, self.since(parent, load), now)?;
+            add(&mut made, row)?;
+        }
+        Ok(made)
+    }
+
+    // The rows of the parents with which a run begins or ends.
+    fn changes(
+        &self,
+        load: Stamp,
+        source: &Text,
+        keys: &List<Digest>,
+    ) -> Result<List<EffectRow>, Memory>
+        ensures { IfOk result (λ made. made ≡ effect_changes source.now self.now.rows load keys.now) }
+    {
+        let mut all = self.parents_in_effect(load)?;
+        all.extend_from_slice(keys.items())?;
+        let keys = keys.copy()?;
+        let keys = sorted_distinct(keys.into_vec());
+        let made = self.rows_of(load, source, &keys, &sorted_distinct(all))?;
+        Ok(made)
+    }
+
+    /// The runs that begin not later than a date, by parent, then by begin; the end of one that ends later is open.
+    /// They are read from the rows that are not later: the closing row of a run where it is there, else the opening
+    /// one. A walk over the rows and a sort.
+    pub fn periods(&self, date: Stamp) -> Result<List<Period>, Memory>
+        ensures { IfOk result (λ periods. periods ≡ effect_periods self.now.rows date) }
+    {
+        let mut told = told(self.allocator(), self.indexed.rows(), date)?;
+        told.reverse();
+        let periods = sorted_firsts(told)?;
+        Ok(periods)
+    }
+
+    /// The rows that an extract adds: by hash key, one for each parent with which a run begins or ends; none where
+    /// the table has a row of this load date. They have the load date, and the table's rows followed by them
+    /// ascend. Over the table of a feed's extracts before it, they are the extract's batch, where no two
+    /// reference lists that the extracts deliver have one hash key. Conditions: the feed is in the mapping, and
+    /// no row of the table is later than the load date.
+    pub fn delta(
+        &self,
+        load: Stamp,
+        extract: &HashedExtract<'_>,
+        catalog: &Catalog,
+    ) -> Result<List<EffectRow>, Memory>
+        requires feed { extract.now.staged.now.feed < length catalog.now.feeds }
+        requires not_later { IsTrue (are_up_to self.now.rows load) }
+        ensures delta { (hashes : Hashes) → HasKeys hashes extract.now → IfOk result (λ rows. rows ≡ effect_delta hashes (source catalog.now extract.now.staged.now.feed) self.now.rows load (all_refs extract.now.staged.now.rows)) }
+        ensures stamped { IfOk result (All (λ row. row.load ≡ load)) }
+        ensures follows { IfOk result (λ rows. IsStrictlySortedBy effect_order (self.now.rows ++ rows)) }
+        ensures batch { (hashes : Hashes) → HasKeys hashes extract.now → IfOk result (IsEffectBatchAfter hashes (source catalog.now extract.now.staged.now.feed) self.now.rows (record { load = load; rows = extract.now.staged.now.rows })) }
+    {
+        let rows = self.delta_rows(load, extract, catalog)?;
+        Ok(rows)
+    }
+
+    // What the extract's hash keys add.
+    fn delta_rows(
+        &self,
+        load: Stamp,
+        extract: &HashedExtract<'_>,
+        catalog: &Catalog,
+    ) -> Result<List<EffectRow>, Memory>
+        requires feed { extract.now.staged.now.feed < length catalog.now.feeds }
+        requires not_later { IsTrue (are_up_to self.now.rows load) }
+        ensures value { IfOk result (λ rows. rows ≡ keys_delta (source catalog.now extract.now.staged.now.feed) self.now.rows load extract.now.keys) }
+        ensures order { IsStrictlySortedBy effect_order self.now.rows }
+    {
+        if self.has_load(load) {
+            return Ok(List::new(self.allocator()));
+        }
+        let feed = catalog.feed(extract.staged.feed);
+        let source = record_source(self.allocator(), feed)?;
+        let rows = self.changes(load, &source, &extract.keys)?;
+        Ok(rows)
+    }
+}
