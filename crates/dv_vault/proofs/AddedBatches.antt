@@ -1,18 +1,21 @@
 -- What a window adds to each table of a vault, told from the rows alone, is its batch after the sealed windows.
-use Rattle.dv_vault.proofs.Vocabulary.{ltb-true, map-map, map_filter, filter_map_same, passes_at, Contains, slice_get, List, None, Option, Some, [], ap, arith, inl, inr, length, map, refl, reverse, subst, sym, true, ℕ, ◌++◌, ◌+◌, ◌∙◌, ◌∷◌}
-use Rattle.dv_vault.proofs.Vocabulary.{◌≡◌, and_from, false≢true, list_all, range_with_len, cons_option, delta, Contains-map, map_member, Contains-range, Hashes, all_refs, extract_of, AreNewestFirst, Extract, history, lists_of, appended}
+use Rattle.dv_vault.proofs.Vocabulary.{ltb-true, map-map, map_filter, filter_map_same, Contains, slice_get, List, None, Option, Some, [], ap, arith, inl, inr, length, map, refl, reverse, subst, sym, true, ℕ, ◌++◌, ◌+◌, ◌∙◌, ◌∷◌}
+use Rattle.dv_vault.proofs.Vocabulary.{◌≡◌, and_from, list_all, range_with_len, cons_option, delta, Contains-map, map_member, Contains-range, Hashes, all_refs, extract_of, AreNewestFirst, Extract, history, lists_of, appended}
 use Rattle.dv_vault.proofs.Vocabulary.{ascends, is_window, are_windows_valid, last_load, source, table_entry, vault, feed_batch, table_batch, batch_at, table_of, valid_feed, Mapping, feed_tables, tables, is_declared, is_valid, map-append}
-use Rattle.dv_vault.proofs.Vocabulary.{status_delta, sat_delta, IsPlain, FeedDef, Parent, Hub, Link, TableId, late_after, Rows, Hubs, Links, Sats, Statuses, NRow, Window, AreApart, all_added, kept, HasSealed, RawVault, added_to, is_kept}
+use Rattle.dv_vault.proofs.Vocabulary.{status_delta, sat_delta, IsPlain, FeedDef, Parent, Hub, Link, TableId, late_after, Rows, Hubs, Links, Sats, Statuses, NRow, Window, AreApart, all_added, HasSealed, RawVault, added_to}
 use Rattle.dv_vault.proofs.Vocabulary.{All-contains, Contains-append_cases, Contains-append_left, Contains-append_right, IsApart, collision, collision_in, parents, sat_batch, status_batch, next_delta as hub_delta_is, none_collide}
 use Rattle.dv_vault.proofs.Vocabulary.{appended-history, delta_is_batch as sat_delta_is, extract_added}
 use Rattle.dv_catalog.specs.declared.tables.TableId.TheVariants as ids
 use Rattle.dv_keys.proofs.LinkWindows.{next_delta as link_delta_is}
 use Rattle.dv_track.proofs.DeltaBatch.{delta_is_batch as status_delta_is}
+use Rattle.dv_track.proofs.EffectBatches.{delta_is_batch as effect_delta_is}
+use Rattle.dv_track.specs.EffectRows.{effect_delta}
 use Rattle.dv_vault.proofs.Afterwards.{loads_ascend}
 use Rattle.dv_sat.proofs.MultiHistories.{next_is_batch as multi_delta_is}
 use Rattle.dv_sat.specs.MultiRows.{multi_delta, IsTold}
+use Rattle.dv_records.specs.Effects.{effect_batch}
 use Rattle.dv_records.specs.Satellites.{multi_batch}
-use Rattle.dv_records.specs.declared.stores.Rows.TheVariants.{Multis}
+use Rattle.dv_records.specs.declared.stores.Rows.TheVariants.{Effects, Multis}
 use Rattle.dv_vault.proofs.FeedLists.{feed_lists_apart, feed_newest_first, feed_plain, feed_told, reversed_whole}
 use Rattle.dv_vault.proofs.FeedTables.{OfFeed, of_feeds}
 use Rattle.dv_vault.proofs.VaultCollisions.{apart_is_free, parents_first, sealed_parts, sealed_told, turned_back, unturned}
@@ -115,36 +118,41 @@ module _ (mapping : Mapping) (hashes : Hashes) (sealed : List Window) (window : 
         next_batch Statuses feed (status_batch hashes (source mapping feed)) (λ rows load staged. status_delta hashes (source mapping feed) rows load (all_refs staged))
         (λ newest e. status_delta_is hashes (source mapping feed) (history feed older) newest (order_with newest e) (apart_with newest e)) (extract_of feed window) refl
 
+    effect_added : added_at (ids.Effect feed) ≡ batch_of_table (ids.Effect feed)
+    effect_added =
+        next_batch Effects feed (effect_batch hashes (source mapping feed)) (λ rows load staged. effect_delta hashes (source mapping feed) rows load (all_refs staged))
+        (λ newest e. effect_delta_is hashes (source mapping feed) (history feed older) newest (order_with newest e) (apart_with newest e)) (extract_of feed window) refl
+
   abbrev IsAdded : TableId → Type 0
-  IsAdded id = is_kept id ≡ true → added_at id ≡ batch_of_table id
+  IsAdded id = added_at id ≡ batch_of_table id
 
   feed_added : (i feed : ℕ) (definition : FeedDef) → feed ≡ 0 + i → slice_get mapping.feeds i ≡ Some definition → OfFeed IsAdded feed definition
   feed_added i feed definition e got =
       let same : feed ≡ i = omega (arith, e) in
       let at : slice_get mapping.feeds feed ≡ Some definition = ap (slice_get mapping.feeds) same ∙ got in
       record {
-        sat = λ none kept. sat_added feed definition at none;
-        multi = λ kept. multi_added feed definition at;
-        status = λ kept. status_added feed definition at;
-        effect = λ kept. absurd (false≢true kept);
+        sat = λ none. sat_added feed definition at none;
+        multi = multi_added feed definition at;
+        status = status_added feed definition at;
+        effect = effect_added feed definition at;
       }
 
   -- ---- all tables
 
-  table_added : (id : TableId) → is_kept id ≡ true → Contains (tables mapping) id → added_at id ≡ batch_of_table id
-  table_added id kept has =
+  table_added : (id : TableId) → Contains (tables mapping) id → added_at id ≡ batch_of_table id
+  table_added id has =
       elim (Contains-append_cases (map table_of (parents mapping)) (feed_tables 0 mapping.feeds) id (subst (λ (all : List TableId). Contains all id) (parents_first mapping) has)) [
         | inl parent ↦
             let (of, member, is) = map_member table_of (parents mapping) id parent in
             subst (λ (id : TableId). added_at id ≡ batch_of_table id) is (parent_added of member)
-        | inr feed ↦ of_feeds IsAdded 0 mapping.feeds feed_added id feed kept
+        | inr feed ↦ of_feeds IsAdded 0 mapping.feeds feed_added id feed
       ]
 
-  pub vault_added : list_all is_kept (tables mapping) ≡ true → map (added_to mapping hashes window) (vault mapping hashes sealed) ≡ map (λ table. table_batch mapping hashes table (backwards sealed) window) (tables mapping)
-  vault_added kept =
+  pub vault_added : map (added_to mapping hashes window) (vault mapping hashes sealed) ≡ map (λ table. table_batch mapping hashes table (backwards sealed) window) (tables mapping)
+  vault_added =
       map-map (added_to mapping hashes window) (table_entry mapping hashes (backwards sealed)) (tables mapping)
       ∙ map_filter added_at (tables mapping)
-      ∙ filter_map_same (λ id. Some (added_at id)) (λ id. Some (batch_of_table id)) (tables mapping) (λ id has. ap Some (table_added id (passes_at is_kept (tables mapping) id kept has) has))
+      ∙ filter_map_same (λ id. Some (added_at id)) (λ id. Some (batch_of_table id)) (tables mapping) (λ id has. ap Some (table_added id has))
       ∙ sym (map_filter batch_of_table (tables mapping))
 
 -- ---- a vault
@@ -152,8 +160,8 @@ module _ (mapping : Mapping) (hashes : Hashes) (sealed : List Window) (window : 
 -- where no table has a clash, what the window adds is its batches
 pub added_is_batch : (hashes : Hashes) (sealed : List Window) (raw : RawVault) → HasSealed hashes sealed raw → is_valid raw.mapping ≡ true
     → (window : Window) → is_window raw.mapping window ≡ true → late_after (last_load sealed) window.load ≡ None
-    → list_all is_kept (tables raw.mapping) ≡ true → AreApart hashes raw window
+    → AreApart hashes raw window
     → all_added hashes raw window ≡ map (λ table. table_batch raw.mapping hashes table (backwards sealed) window) (tables raw.mapping)
-added_is_batch hashes sealed raw has valid window whole late kept apart =
+added_is_batch hashes sealed raw has valid window whole late apart =
     ap (map (added_to raw.mapping hashes window)) has.tables_are
-    ∙ vault_added raw.mapping hashes sealed window valid has.valid whole late (apart_is_free hashes sealed raw has valid window apart) kept
+    ∙ vault_added raw.mapping hashes sealed window valid has.valid whole late (apart_is_free hashes sealed raw has valid window apart)

@@ -4,7 +4,6 @@ use Rattle.dv_vault.proofs.Vocabulary.{Hashes, is_window, head_of, last_load, ro
 use Rattle.dv_vault.proofs.Vocabulary.{raw_with, IsAddition, all_added, weight_with, HasSealed, IsBuilt, RawVault, entries_with, last_head, Addition, loaded, last_or}
 use Rattle.dv_vault.proofs.AddedBatches.{added_is_batch}
 use Rattle.dv_vault.proofs.Afterwards.{loaded_batches, vault_with, weight_with_batches, windows_still_valid}
-use Rattle.dv_vault.proofs.BuiltTables.{tables_kept}
 use Rattle.dv_vault.proofs.VaultCollisions.{apart_is_free}
 use Rattle.dv_records.specs.Backwards.{backwards}
 
@@ -42,7 +41,7 @@ module _ (hashes : Hashes) (sealed : List Window) (raw : RawVault) (has : HasSea
   later = ap (λ last. late_after last window.load) (last_same sealed ∙ ap last_head (sym has.heads_are)) ∙ late
 
   batches_added : all_added hashes raw window ≡ batches
-  batches_added = added_is_batch hashes sealed raw has built.valid window whole later (tables_kept raw.mapping built.built) apart
+  batches_added = added_is_batch hashes sealed raw has built.valid window whole later apart
 
   pub full_with : full_at (weight_with hashes raw window) (length raw.heads) ≡ fullness
   full_with =

@@ -3,7 +3,6 @@ pub mod AddedWindows
 pub mod Afterwards
 pub mod BatchesSoFar
 pub mod BatchSteps
-pub mod BuiltTables
 pub mod ContentFacts
 pub mod EmptyTables
 pub mod FeedLists
@@ -11,6 +10,7 @@ pub mod FeedTables
 pub mod HubLists
 pub mod NamedHubs
 pub mod NoWindows
+pub mod PeriodFacts
 pub mod SealedContents
 pub mod SortedOffers
 pub mod Stamped

@@ -16,6 +16,7 @@ of_kind (table.Link n t) (of.Links rows) follow = record { rows = refl; more = r
 of_kind (table.Sat n t) (of.Sats rows) follow = record { rows = refl; more = refl }
 of_kind (table.Multi n t) (of.Multis rows) follow = record { rows = refl; more = refl }
 of_kind (table.Status n t) (of.Statuses rows) follow = record { rows = refl; more = refl }
+of_kind (table.Effect n t) (of.Effects rows) follow = record { rows = refl; more = refl }
 of_kind t rows follow = absurd follow
 
 all_kinds : (tables : List Table) (batches : List Rows) → AllZip Follow (map (λ entry. entry.rows) (map entry_of tables)) batches → AreOfKinds (map entry_of tables) batches
@@ -102,6 +103,7 @@ follow_adds (of.Links rows) (of.Links more) follow = (rows_add_up (of.Links rows
 follow_adds (of.Sats rows) (of.Sats more) follow = (rows_add_up (of.Sats rows) (of.Sats more) refl).weight
 follow_adds (of.Multis rows) (of.Multis more) follow = (rows_add_up (of.Multis rows) (of.Multis more) refl).weight
 follow_adds (of.Statuses rows) (of.Statuses more) follow = (rows_add_up (of.Statuses rows) (of.Statuses more) refl).weight
+follow_adds (of.Effects rows) (of.Effects more) follow = (rows_add_up (of.Effects rows) (of.Effects more) refl).weight
 follow_adds rows more follow = absurd follow
 
 pub weight_grows : (entries : List TableRows) (batches : List Rows) → AllZip Follow (map (λ entry. entry.rows) entries) batches

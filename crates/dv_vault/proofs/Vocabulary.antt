@@ -17,7 +17,6 @@ pub use Rattle.dv_index.proofs.Vocabulary.{Contains-cons_cases, Contains-cons_he
 pub use Rattle.dv_index.proofs.Vocabulary.{member_of_filter_map, reverse-append, rules, same_ascending, take-append-drop}
 pub use Rattle.dv_track.proofs.Vocabulary.{is_ok, status_delta}
 pub use Rattle.dv_sat.proofs.Vocabulary.{All-map, IsPlain, dedup_same, firsts-sort_dedup, sat_delta}
-pub use Rattle.dv_catalog.proofs.BuiltMappings.{BuiltFeed, built_forms}
 pub use Rattle.dv_catalog.proofs.TablesIn.{tables_in}
 pub use Rattle.dv_catalog.proofs.ValidReads.{valid_hub}
 pub use Rattle.dv_catalog.specs.declared.entries.FeedDef.{FeedDef}
@@ -88,7 +87,7 @@ pub use Rattle.dv_digest.specs.HashedExtracts.{HasKeys}
 pub use Rattle.dv_records.specs.declared.deliveries.HashedDelivery.{HashedDelivery}
 pub use Rattle.dv_records.specs.Deltas.{AreHashed, delivered}
 pub use Rattle.std.proofs.lemmas.Simd.{map-map}
-pub use Rattle.dv_vault.specs.Vaults.{Follow, HasSealed, IsBuilt, IsVaultOf, RawVault, added_to, are_empty, are_heads_of, are_rows_kept, entries_of, entries_with, entry_of, has_table, hashed_in, hub_names, hubs_in, is_hub, is_kept, is_link, is_parent, is_sat, is_status, last_head, names_of_hub}
+pub use Rattle.dv_vault.specs.Vaults.{Follow, HasSealed, IsBuilt, IsVaultOf, RawVault, added_to, are_empty, are_heads_of, are_rows_kept, entries_of, entries_with, entry_of, has_table, hashed_in, hub_names, hubs_in, is_hub, is_link, is_parent, is_sat, is_status, last_head, names_of_hub}
 pub use Rattle.dv_vault.specs.Vaults.{names_of_hubs, names_of_rows, rows_of_hubs, spare_of, staged_of}
 pub use Rattle.dv_vault.specs.declared.additions.Addition.{Addition}
 pub use Rattle.dv_vault.specs.declared.additions.AdditionFault.{AdditionFault}

@@ -17,7 +17,7 @@ use Rattle.dv_catalog.specs.Mappings.{is_valid}
 use Rattle.dv_catalog.specs.Tables.{tables}
 use Rattle.dv_records.specs.declared.raw_rows.HubRow.{HubRow}
 use Rattle.dv_records.specs.declared.stores.Rows.{Rows}
-use Rattle.dv_records.specs.declared.stores.Rows.TheVariants.{Hubs, Links, Multis, Sats, Statuses}
+use Rattle.dv_records.specs.declared.stores.Rows.TheVariants.{Effects, Hubs, Links, Multis, Sats, Statuses}
 use Rattle.dv_records.specs.declared.stores.TableRows.{TableRows}
 use Rattle.dv_records.specs.Deliveries.{deliveries}
 use Rattle.dv_records.specs.Deltas.{Hashed}
@@ -34,6 +34,7 @@ use Rattle.dv_keys.specs.LinkDeltas.{link_delta, link_hashed}
 use Rattle.dv_keys.specs.RawTables.{HubsFollow, LinksFollow}
 use Rattle.dv_sat.specs.FeedTables.{Follow as SatsFollow, sats_added}
 use Rattle.dv_sat.specs.MultiFeedTables.{Follow as MultisFollow, multis_added}
+use Rattle.dv_track.specs.EffectFeedTables.{Follow as EffectsFollow, effects_added}
 use Rattle.dv_track.specs.FeedTables.{Follow as StatusesFollow, statuses_added}
 use Rattle.dv_vault.specs.declared.named_hubs.HubKeys.{HubKeys}
 use Rattle.dv_vault.specs.declared.tables.Table.{Table}
@@ -47,6 +48,7 @@ entry_of (table.Link link rows) = record { table = ids.Link link; rows = Links r
 entry_of (table.Sat feed rows) = record { table = ids.Sat feed; rows = Sats rows.rows }
 entry_of (table.Multi feed rows) = record { table = ids.Multi feed; rows = Multis rows.rows }
 entry_of (table.Status feed rows) = record { table = ids.Status feed; rows = Statuses rows.rows }
+entry_of (table.Effect feed rows) = record { table = ids.Effect feed; rows = Effects rows.rows }
 
 -- for how many more rows it has room
 abbrev pub spare_of : Table → ℕ
@@ -55,6 +57,7 @@ spare_of (table.Link link rows) = rows.spare
 spare_of (table.Sat feed rows) = rows.spare
 spare_of (table.Multi feed rows) = rows.spare
 spare_of (table.Status feed rows) = rows.spare
+spare_of (table.Effect feed rows) = rows.spare
 
 -- ---- hub keys
 
@@ -87,15 +90,6 @@ hub_names mapping tables = names_of_rows (hubs_in mapping tables)
 abbrev pub has_table : TableId → List TableRows → Bool
 has_table id tables = list_any (λ entry. table_eq entry.table id) tables
 
--- a table that is built so far
-abbrev pub is_kept : TableId → Bool
-is_kept (ids.Hub n) = true
-is_kept (ids.Link n) = true
-is_kept (ids.Sat n) = true
-is_kept (ids.Multi n) = true
-is_kept (ids.Status n) = true
-is_kept (ids.Effect n) = false
-
 -- the kinds of tables
 abbrev pub is_hub : TableId → Bool
 is_hub (ids.Hub n) = true
@@ -117,6 +111,10 @@ abbrev pub is_status : TableId → Bool
 is_status (ids.Status n) = true
 is_status table = false
 
+abbrev pub is_effect : TableId → Bool
+is_effect (ids.Effect n) = true
+is_effect table = false
+
 -- a parent is a hub or a link of the mapping
 abbrev pub is_parent : Mapping → Parent → Bool
 is_parent mapping (Hub hub) = nat_lt hub (length mapping.hubs)
@@ -137,6 +135,7 @@ added mapping hashes window (ids.Link link) (Links rows) =
 added mapping hashes window (ids.Sat feed) (Sats rows) = extract_added (sats_added hashes (source mapping feed) (Sats rows)) (Sats []) (extract_of feed window)
 added mapping hashes window (ids.Multi feed) (Multis rows) = extract_added (multis_added hashes (source mapping feed) (Multis rows)) (Multis []) (extract_of feed window)
 added mapping hashes window (ids.Status feed) (Statuses rows) = extract_added (statuses_added hashes (source mapping feed) (Statuses rows)) (Statuses []) (extract_of feed window)
+added mapping hashes window (ids.Effect feed) (Effects rows) = extract_added (effects_added hashes (source mapping feed) (Effects rows)) (Effects []) (extract_of feed window)
 added mapping hashes window table rows = no_rows table
 
 abbrev pub added_to : Mapping → Hashes → Window → TableRows → Rows
@@ -160,6 +159,7 @@ Follow (Links rows) more = LinksFollow (Links rows) more
 Follow (Sats rows) more = SatsFollow (Sats rows) more
 Follow (Multis rows) more = MultisFollow (Multis rows) more
 Follow (Statuses rows) more = StatusesFollow (Statuses rows) more
+Follow (Effects rows) more = EffectsFollow (Effects rows) more
 Follow rows more = ⊥
 
 -- ---- a vault

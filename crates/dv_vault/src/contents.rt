@@ -151,8 +151,8 @@ fn row_read(
     }))
 }
 
-// Puts a row, if there is one, at the end.
-fn add(rows: &mut List<NRow>, row: Option<NRow>) -> Result<(), Memory>
+/// Puts a row, if there is one, at the end.
+pub(crate) fn add<R: Drop>(rows: &mut List<R>, row: Option<R>) -> Result<(), Memory>
     ensures { OnOk result (rows.new ≡ rows.old ++ option_to_list row) }
 {
     match row {

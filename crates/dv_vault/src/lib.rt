@@ -1,5 +1,5 @@
 //! The vault: the raw tables of a mapping, what a window adds to each of them, how a window is kept, and the
-//! contents of feeds read back from the tables.
+//! contents and the periods of feeds read back from the tables.
 #![tactic(auto)]
 
 mod additions;
@@ -11,6 +11,7 @@ mod keeping;
 mod multi_contents;
 mod named_hubs;
 mod offers;
+mod periods;
 mod raw_tables;
 mod tables;
 mod vaults;

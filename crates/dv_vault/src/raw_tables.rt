@@ -1,7 +1,6 @@
 ghost use Rattle.std.specs.Prelude.{◌≡◌, false, IfNone, IfOk, IfSome, IsTrue, find, map, option_map};
-ghost use Rattle.std.specs.List.{list_all};
 ghost use Rattle.dv_catalog.specs.Tables.{tables};
-ghost use Rattle.dv_records.specs.ReadBack.{hub_rows_in, link_rows_in, multi_rows_in, sat_rows_in, status_rows_in};
+ghost use Rattle.dv_records.specs.ReadBack.{effect_rows_in, hub_rows_in, link_rows_in, multi_rows_in, sat_rows_in, status_rows_in};
 ghost use Rattle.dv_records.specs.Stores.{no_rows, table_eq};
 ghost use Rattle.dv_vault.specs.Vaults.{entries_of, entry_of};
 ghost use Rattle.dv_vault.specs.Vaults as spec;
@@ -11,7 +10,7 @@ use dv_catalog::{Catalog, TableId};
 use dv_keys::{HubTable, LinkTable};
 use dv_sat::{MultiTable, SatTable};
 use dv_text::Memory;
-use dv_track::StatusTable;
+use dv_track::{EffectTable, StatusTable};
 use std::alloc::Global;
 
 /// The raw tables of a mapping, in table order (Linstedt and Olschimke 2015, chapter 4).
@@ -22,7 +21,6 @@ pub(crate) struct RawTables {
 
 // Tables without rows.
 fn empty_tables(alloc: Global, ids: &[TableId]) -> Result<Vec<Table>, Memory>
-    requires { IsTrue (list_all spec.is_kept ids.now) }
     ensures { IfOk result (λ tables. map entry_of tables.items ≡ map (λ id. record { table = id; rows = no_rows id }) ids.now) }
 {
     let mut tables = Vec::new(alloc);
@@ -49,7 +47,6 @@ fn find_table(tables: &[Table], id: TableId) -> Option<&Table>
 impl RawTables {
     /// The tables of a mapping, without rows.
     pub(crate) fn empty(alloc: Global, catalog: &Catalog) -> Result<RawTables, Memory>
-        requires { IsTrue (list_all spec.is_kept (tables catalog.now)) }
         ensures { IfOk result (λ raw. entries_of raw ≡ map (λ id. record { table = id; rows = no_rows id }) (tables catalog.now)) }
     {
         let ids = catalog.tables()?;
@@ -124,6 +121,15 @@ impl RawTables {
         ensures none { IfNone result (spec.has_table (TableId.Multi feed) (entries_of self.now) ≡ false) }
     {
         self.table(TableId::Multi(feed))?.as_multi()
+    }
+
+    /// The effectivity table of the feed at a place in declared order; none where the feed has none. Takes no memory.
+    pub(crate) fn effect(&self, feed: u32) -> Option<&EffectTable>
+        ensures some { IfSome result (λ table. table.now.rows ≡ effect_rows_in feed (entries_of self.now)) }
+        ensures there { IfSome result (λ table. IsTrue (spec.has_table (TableId.Effect feed) (entries_of self.now))) }
+        ensures none { IfNone result (spec.has_table (TableId.Effect feed) (entries_of self.now) ≡ false) }
+    {
+        self.table(TableId::Effect(feed))?.as_effect()
     }
 
     /// The status table of the feed at a place in declared order. Condition: it is among them. Takes no memory.

@@ -24,7 +24,7 @@ use dv_keys::{HubTable, LinkTable};
 use dv_records::{DeltaFault, HubNames, RawTable, Rows};
 use dv_sat::{MultiTable, SatTable};
 use dv_text::{KeyDigest, List, Memory, Stamp};
-use dv_track::StatusTable;
+use dv_track::{EffectTable, StatusTable};
 use std::alloc::Global;
 
 /// A raw table.
@@ -35,6 +35,7 @@ pub(crate) enum Table {
     Sat { feed: u32, rows: SatTable },
     Multi { feed: u32, rows: MultiTable },
     Status { feed: u32, rows: StatusTable },
+    Effect { feed: u32, rows: EffectTable },
 }
 
 // The extract of a feed among extracts.
@@ -116,7 +117,6 @@ fn link_rows<H: KeyDigest, N: HubNames>(
 impl Table {
     /// A raw table without rows.
     pub(crate) fn empty(alloc: Global, table: TableId) -> Result<Table, Memory>
-        requires { IsTrue (spec.is_kept table) }
         ensures { IfOk result (λ made. entry_of made ≡ record { table = table; rows = no_rows table }) }
     {
         match table {
@@ -140,7 +140,10 @@ impl Table {
                 feed,
                 rows: StatusTable::from_rows(alloc, List::new(alloc))?,
             }),
-            TableId::Effect(_) => unreachable!(),
+            TableId::Effect(feed) => Ok(Table::Effect {
+                feed,
+                rows: EffectTable::from_rows(alloc, List::new(alloc))?,
+            }),
         }
     }
 
@@ -153,6 +156,7 @@ impl Table {
             Table::Sat { feed, .. } => TableId::Sat(*feed),
             Table::Multi { feed, .. } => TableId::Multi(*feed),
             Table::Status { feed, .. } => TableId::Status(*feed),
+            Table::Effect { feed, .. } => TableId::Effect(*feed),
         }
     }
 
@@ -211,6 +215,17 @@ impl Table {
         }
     }
 
+    /// The table, if it is an effectivity table.
+    pub(crate) fn as_effect(&self) -> Option<&EffectTable>
+        ensures some { IfSome result (λ table. (entry_of self.now).rows ≡ Rows.Effects table.now.rows) }
+        ensures none { IfNone result (spec.is_effect (entry_of self.now).table ≡ false) }
+    {
+        match self {
+            Table::Effect { rows, .. } => Some(rows),
+            _ => None,
+        }
+    }
+
     /// The rows that a window adds. Where two different keys of a hub, or reference lists of a link, have one
     /// hash key, the error is the least such pair.
     pub(crate) fn delta<H: KeyDigest, N: HubNames>(
@@ -249,6 +264,10 @@ impl Table {
                 let extract = extract_of::<H>(catalog, window, *feed);
                 Ok(rows.additions(window.window.load, *feed, extract, catalog)?)
             }
+            Table::Effect { feed, rows } => {
+                let extract = extract_of::<H>(catalog, window, *feed);
+                Ok(rows.additions(window.window.load, *feed, extract, catalog)?)
+            }
         }
     }
 
@@ -263,6 +282,7 @@ impl Table {
             Table::Sat { rows, .. } => rows.reserve(more),
             Table::Multi { rows, .. } => rows.reserve(more),
             Table::Status { rows, .. } => rows.reserve(more),
+            Table::Effect { rows, .. } => rows.reserve(more),
         }
     }
 
@@ -278,6 +298,7 @@ impl Table {
             Table::Sat { rows, .. } => rows.append(more),
             Table::Multi { rows, .. } => rows.append(more),
             Table::Status { rows, .. } => rows.append(more),
+            Table::Effect { rows, .. } => rows.append(more),
         }
     }
 }

@@ -3,7 +3,7 @@ ghost use Rattle.dv_text.specs.Keys.{hashes_of};
 ghost use Rattle.dv_catalog.specs.Built.{unbuilt};
 ghost use Rattle.dv_catalog.specs.Tables.{tables};
 ghost use Rattle.dv_records.specs.Outcomes.{late_after};
-ghost use Rattle.dv_records.specs.ReadBack.{hub_rows_in, link_rows_in, multi_rows_in, sat_rows_in, status_rows_in};
+ghost use Rattle.dv_records.specs.ReadBack.{effect_rows_in, hub_rows_in, link_rows_in, multi_rows_in, sat_rows_in, status_rows_in};
 ghost use Rattle.dv_records.specs.States.{is_window};
 ghost use Rattle.dv_records.specs.Stores.{no_rows};
 ghost use Rattle.dv_records.specs.Weights.{tables_weight};
@@ -21,7 +21,7 @@ use dv_keys::{HubTable, LinkTable};
 use dv_records::Rows;
 use dv_sat::{MultiTable, SatTable};
 use dv_text::{KeyDigest, List, Memory, Stamp, Window, WindowHead};
-use dv_track::StatusTable;
+use dv_track::{EffectTable, StatusTable};
 use std::alloc::Global;
 use std::marker::Model;
 
@@ -73,13 +73,6 @@ impl Vault {
         ensures built { IsBuilt self.now.mapping }
     {
         &self.catalog
-    }
-
-    /// Does nothing: a call for proofs, which need to know that every form in the mapping is built.
-    pub fn note_built(&self)
-        ensures { IsBuilt self.now.mapping }
-    {
-        let _catalog = &self.catalog;
     }
 
     /// The heads of the sealed windows, in order. Takes no memory.
@@ -139,6 +132,16 @@ impl Vault {
         ensures { result.now.rows ≡ status_rows_in feed self.now.tables }
     {
         self.raw.status(feed)
+    }
+
+    /// The effectivity table of the feed at a place in declared order: exactly where the feed has driving keys. Takes
+    /// no memory.
+    pub fn effect(&self, feed: u32) -> Option<&EffectTable>
+        ensures rows { IfSome result (λ table. table.now.rows ≡ effect_rows_in feed self.now.tables) }
+        ensures there { IfSome result (λ table. Contains (tables self.now.mapping) (TableId.Effect feed)) }
+        ensures absent { IfNone result (Contains (tables self.now.mapping) (TableId.Effect feed) → ⊥) }
+    {
+        self.raw.effect(feed)
     }
 
     // The rows that a window adds to each table, in table order, or the first collision that it makes.

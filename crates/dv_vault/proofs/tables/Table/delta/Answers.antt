@@ -1,6 +1,7 @@
 use Rattle.dv_vault.proofs.Vocabulary.{◌∙◌, [], ap, hashes_of, source, extract_added, statuses_added, Statuses}
-use Rattle.dv_records.specs.declared.stores.Rows.TheVariants.{Multis}
+use Rattle.dv_records.specs.declared.stores.Rows.TheVariants.{Effects, Multis}
 use Rattle.dv_sat.specs.MultiFeedTables.{multis_added}
+use Rattle.dv_track.specs.EffectFeedTables.{effects_added}
 use Rattle.dv_vault.proofs.TableFacts.{same_extract}
 use Rattle.dv_vault.proofs.tables.Table.delta.Goals as goal
 
@@ -27,3 +28,12 @@ returns-in_ok-additions-in-Multi-clause-rows g c =
     rw c.in-Multi.is
     ((c.in_ok-additions-in-Multi.ensures {u = tt}).rows
     ∙ ap (extract_added (multis_added hashes (source c.args.catalog.now c.in-Multi.feed) (Multis c.in-Multi.rows.rows)) (Multis [])) same)
+
+pub returns-in_ok-additions-in-Effect-clause-rows : goal.returns-in_ok-additions-in-Effect-clause-rows
+returns-in_ok-additions-in-Effect-clause-rows g c =
+    let hashes = hashes_of g.H.KeyDigest.digest_of g.H.KeyDigest.size in
+    let extract = c.extract_of-extract-in-Effect in
+    let same = same_extract c.args.window.now.window.now c.in-Effect.feed extract.result extract.ensures.found in
+    rw c.in-Effect.is
+    ((c.in_ok-additions-in-Effect.ensures {u = tt}).rows hashes extract.ensures.keys
+    ∙ ap (extract_added (effects_added hashes (source c.args.catalog.now c.in-Effect.feed) (Effects c.in-Effect.rows.rows)) (Effects [])) same)

@@ -12,3 +12,7 @@ from_rows-requires-in-Multi c = rw c.new-in-Multi.ensures tt
 pub from_rows-requires-in-Status : goal.from_rows-requires-in-Status
 unfolding IsStrictlySortedBy
 from_rows-requires-in-Status c = rw c.new-in-Status.ensures tt
+
+pub from_rows-requires-in-Effect : goal.from_rows-requires-in-Effect
+unfolding IsStrictlySortedBy
+from_rows-requires-in-Effect c = rw c.new-in-Effect.ensures tt

@@ -1,10 +1,6 @@
 use Rattle.dv_vault.proofs.Vocabulary.{◌≡◌, ap, sym, true, subst, List, WindowHead, are_heads_of, are_rows_kept, entries_of}
-use Rattle.dv_vault.proofs.BuiltTables.{tables_kept}
 use Rattle.dv_vault.proofs.EmptyTables.{new_kept}
 use Rattle.dv_vault.proofs.vaults.Vault.empty.Goals as goal
-
-pub empty-requires : goal.empty-requires
-empty-requires c = tables_kept c.args.catalog c.requires
 
 pub invariant_of-result : goal.invariant_of-result
 invariant_of-result c =
