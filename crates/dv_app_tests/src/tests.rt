@@ -11,6 +11,7 @@ mod ends;
 mod large;
 mod mappings;
 mod marts;
+mod periods;
 mod phones;
 mod rules;
 

@@ -1,4 +1,5 @@
-pub mod NoFeeds
+pub mod DrivenFeeds
+pub mod NoNames
 pub mod OfferedTables
 pub mod PartColumns
 pub mod RowTexts

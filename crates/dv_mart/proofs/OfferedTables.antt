@@ -1,9 +1,11 @@
--- What an offered word can name: a feed of the mapping, or one of its tables.
-use Rattle.dv_mart.proofs.Vocabulary.{◌≡◌, ℕ, ◌<◌, Bool, true, false, List, [], ◌∷◌, Option, Some, None, refl, ◌∙◌, subst, arith, codes, length, nat_lt, option_map, Contains, cond, option_and_then, position_or_len, bytes_eq, nat_tests, TableId, unbuilt, Mapping, first_of}
-use Rattle.dv_mart.proofs.Vocabulary.{table_name, tables, found_member, passes_at, is_kept, tables_kept, What, Feed, Table, IsOffered, behind, feed_place, feed_word, table_named, table_word}
+-- What an offered word can name: a feed of the mapping, one that has an effectivity table, or a table.
+use Rattle.dv_mart.proofs.Vocabulary.{◌≡◌, ℕ, ◌<◌, Bool, true, false, List, [], ◌∷◌, Option, Some, None, refl, ◌∙◌, subst, arith, codes, length, nat_lt, option_map, slice_get, Contains, cond, if◌then◌else◌, option_and_then, position_or_len, bytes_eq, nat_tests, TableId, Effect}
+use Rattle.dv_mart.proofs.Vocabulary.{Mapping, first_of, table_name, tables, found_member, What, Feed, Period, Table, IsOffered, behind, driver_feed_place, feed_place, feed_word, has_driver, if_driver, period_word, table_named, table_word}
+use Rattle.dv_mart.proofs.DrivenFeeds.{has_effect}
 
 abbrev pub CanBe : Mapping → What → Type 0
 CanBe mapping (Feed feed) = feed < length mapping.feeds
+CanBe mapping (Period feed) = Contains (tables mapping) (Effect feed)
 CanBe mapping (Table table) = Contains (tables mapping) table
 CanBe mapping what = ⊥
 
@@ -28,6 +30,22 @@ feed_named mapping (Some name) what e = by (feed_place mapping name) refl e
         let same : Feed feed ≡ what = cc in
         subst (CanBe mapping) same (found_under (position_or_len (λ feed. bytes_eq feed.name name) mapping.feeds) feed (length mapping.feeds) at)
 
+-- a feed with a driver
+period_named : (mapping : Mapping) (rest : Option (List ℕ)) (what : What) → option_map (λ feed. Period feed) (option_and_then (driver_feed_place mapping) rest) ≡ Some what → CanBe mapping what
+period_named mapping None what e = let no : None ≡ Some what = e in cc
+period_named mapping (Some name) what e = by (feed_place mapping name) e
+  where
+    driven : (feed : ℕ) (b : Bool) → has_driver (slice_get mapping.feeds feed) ≡ b → option_map (λ feed. Period feed) (if b then Some feed else None) ≡ Some what → CanBe mapping what
+    driven feed true some is =
+        let got : Some (Period feed) ≡ Some what = is in
+        let same : Period feed ≡ what = cc in
+        subst (CanBe mapping) same (has_effect mapping feed some)
+    driven feed false some is = let no : None ≡ Some what = is in cc
+
+    by : (place : Option ℕ) → option_map (λ feed. Period feed) (option_and_then (if_driver mapping) place) ≡ Some what → CanBe mapping what
+    by None is = let no : None ≡ Some what = is in cc
+    by (Some feed) is = driven feed (has_driver (slice_get mapping.feeds feed)) refl is
+
 table_found : (mapping : Mapping) (rest : Option (List ℕ)) (what : What) → option_map (λ table. Table table) (option_and_then (table_named mapping) rest) ≡ Some what → CanBe mapping what
 table_found mapping None what e = let no : None ≡ Some what = e in cc
 table_found mapping (Some name) what e = by (table_named mapping name) refl e
@@ -44,12 +62,10 @@ only_one None x e = e
 only_one (Some y) x e = e
 
 pub can_be : (mapping : Mapping) (what : What) → IsOffered mapping what → CanBe mapping what
-can_be mapping what offered = by (feed_word mapping offered.word) refl offered.offered
+can_be mapping what offered = by (feed_word mapping offered.word) refl (period_word mapping offered.word) refl offered.offered
   where
-    by : (fed : Option What) → feed_word mapping offered.word ≡ fed → first_of (fed ∷ table_word mapping offered.word ∷ []) ≡ Some what → CanBe mapping what
-    by (Some named) at is = feed_named mapping (behind (codes "feed:") offered.word) what (at ∙ is)
-    by None at is = table_found mapping (behind (codes "table:") offered.word) what (only_one (table_word mapping offered.word) what is)
-
--- a table of a mapping in which every form is built is kept
-pub named_kept : (mapping : Mapping) (table : TableId) → unbuilt mapping ≡ None → Contains (tables mapping) table → is_kept table ≡ true
-named_kept mapping table built has = passes_at is_kept (tables mapping) table (tables_kept mapping built) has
+    by : (fed : Option What) → feed_word mapping offered.word ≡ fed → (driven : Option What) → period_word mapping offered.word ≡ driven
+        → first_of (fed ∷ driven ∷ table_word mapping offered.word ∷ []) ≡ Some what → CanBe mapping what
+    by (Some named) at driven other is = feed_named mapping (behind (codes "feed:") offered.word) what (at ∙ is)
+    by None at (Some named) other is = period_named mapping (behind (codes "period:") offered.word) what (other ∙ is)
+    by None at None other is = table_found mapping (behind (codes "table:") offered.word) what (only_one (table_word mapping offered.word) what is)

@@ -1,6 +1,6 @@
 -- What the tables of a vault hold: of each table rows of its kind, and by them its text.
 use Rattle.dv_mart.proofs.Vocabulary.{◌≡◌, ℕ, ◌<◌, true, false≢true, List, ◌∙◌, ap, refl, arith, length, nat_lt, Contains, nat_tests, Window, Hashes, TableId, Mapping, is_of_kind, is_table_of, tables, tables_in, Rows, rows_in, rows_up_to, table_after, vault_holds, HasSealed, RawVault}
-use Rattle.dv_mart.proofs.Vocabulary.{passes_at, HasKind, raw_text, table_text, TableRows, Hubs, Links, Multis, Sats, Statuses, hub_rows, link_rows, multi_rows, sat_rows, status_rows}
+use Rattle.dv_mart.proofs.Vocabulary.{passes_at, HasKind, raw_text, table_text, TableRows, Effects, Hubs, Links, Multis, Sats, Statuses, effect_rows, hub_rows, link_rows, multi_rows, sat_rows, status_rows}
 use Rattle.dv_catalog.specs.declared.tables.TableId.TheVariants as ids
 use Rattle.dv_records.specs.Backwards.{Backwards, backwards}
 
@@ -60,6 +60,10 @@ multis_back feed rows is = absurd (false≢true is)
 pub statuses_back : (feed : ℕ) (rows : Rows) → is_of_kind (ids.Status feed) rows ≡ true → Statuses (status_rows rows) ≡ rows
 statuses_back feed (Statuses rows) is = refl
 statuses_back feed rows is = absurd (false≢true is)
+
+pub effects_back : (feed : ℕ) (rows : Rows) → is_of_kind (ids.Effect feed) rows ≡ true → Effects (effect_rows rows) ≡ rows
+effects_back feed (Effects rows) is = refl
+effects_back feed rows is = absurd (false≢true is)
 
 -- ---- the text of a table
 

@@ -67,6 +67,6 @@ what_of mapping word =
     feed_word mapping word ∷ hub_word mapping word ∷ path_word mapping word ∷ period_word mapping word ∷ table_word mapping word
     ∷ pit_word mapping word ∷ bridge_word mapping word ∷ [])
 
--- what this stage offers: the marts of feeds, and the raw tables
+-- what this stage offers: the marts of feeds, the periods of feeds with a driver, and the raw tables
 abbrev pub offered_what : Mapping → List ℕ → Option What
-offered_what mapping word = first_of (feed_word mapping word ∷ table_word mapping word ∷ [])
+offered_what mapping word = first_of (feed_word mapping word ∷ period_word mapping word ∷ table_word mapping word ∷ [])

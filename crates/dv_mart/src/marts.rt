@@ -1,4 +1,4 @@
-//! The texts of the marts of feeds, over the sealed windows of a vault, and of its raw tables, at a date.
+//! The marts of feeds and of their periods, over the sealed windows of a vault, and the text of what is offered, at a date.
 
 ghost use Rattle.std.specs.Prelude.{◌≡◌, ◌<◌, Contains, Err, IfErr, IfOk, List as list_of, Ok, length, slice_get};
 ghost use Rattle.dv_text.specs.declared.rows.Window.{Window};
@@ -7,17 +7,16 @@ ghost use Rattle.dv_catalog.specs.Tables.{tables};
 ghost use Rattle.dv_records.specs.Marts as marts;
 ghost use Rattle.dv_vault.specs.Vaults.{HasSealed};
 ghost use Rattle.dv_mart.specs.MartTexts as spec;
-ghost use Rattle.dv_mart.specs.MartTexts.{HasKind, raw_text};
 ghost use Rattle.dv_mart.specs.declared.query_rules.QueryRule.TheVariants as rules;
 ghost use Rattle.dv_mart.specs.OfferedMarts.{IsOffered};
 
 use crate::feed_texts::feed_text;
 use crate::mart_faults::MartFault;
-use crate::table_texts::{
-    hub_table_text, link_table_text, multi_table_text, sat_table_text, status_table_text,
-};
+use crate::period_texts::period_text;
+use crate::vault_tables::table_text;
 use crate::whats::What;
 use dv_catalog::TableId;
+use dv_records::PeriodRow;
 use dv_text::{List, Memory, NRow, Stamp, Text};
 use dv_vault::Vault;
 use std::alloc::Global;
@@ -40,69 +39,23 @@ fn feed_mart_text(alloc: Global, vault: &Vault, feed: u32, date: Stamp) -> Resul
     feed_text(alloc, vault.catalog().feed(feed), rows.items())
 }
 
-// The text of a hub's table.
-fn hub_text(alloc: Global, vault: &Vault, hub: u32, date: Stamp) -> Result<Text, Memory>
-    requires { Contains (tables vault.now.mapping) (TableId.Hub hub) }
-    ensures { IfOk result (λ text. HasKind vault.now.tables (TableId.Hub hub) → text ≡ raw_text vault.now.mapping vault.now.tables (TableId.Hub hub) date) }
+/// From when to when each reference list of a feed was in force, by the sealed windows that are not later than the
+/// date, by references, then by begin; what is in force at the date is open. Condition: the feed has an effectivity
+/// table, as one with a driver has.
+pub fn period_mart(vault: &Vault, feed: u32, date: Stamp) -> Result<List<PeriodRow>, Memory>
+    requires { Contains (tables vault.now.mapping) (TableId.Effect feed) }
+    ensures { IfOk result (λ rows. (hashes : Hashes) (sealed : list_of Window) → HasSealed hashes sealed vault.now → rows ≡ marts.period_mart sealed feed date) }
 {
-    let table = vault.hub(hub);
-    hub_table_text(alloc, vault.catalog(), hub, table.rows(), date)
+    vault.periods(feed, date)
 }
 
-// The text of a link's table.
-fn link_text(alloc: Global, vault: &Vault, link: u32, date: Stamp) -> Result<Text, Memory>
-    requires { Contains (tables vault.now.mapping) (TableId.Link link) }
-    ensures { IfOk result (λ text. HasKind vault.now.tables (TableId.Link link) → text ≡ raw_text vault.now.mapping vault.now.tables (TableId.Link link) date) }
+// The text of the mart of a feed's periods.
+fn period_mart_text(alloc: Global, vault: &Vault, feed: u32, date: Stamp) -> Result<Text, Memory>
+    requires { Contains (tables vault.now.mapping) (TableId.Effect feed) }
+    ensures { IfOk result (λ text. (hashes : Hashes) (sealed : list_of Window) → HasSealed hashes sealed vault.now → text ≡ spec.period_text_by sealed feed date (slice_get vault.now.mapping.feeds feed)) }
 {
-    let table = vault.link(link);
-    link_table_text(alloc, vault.catalog(), link, table.rows(), date)
-}
-
-// The text of a feed's satellite.
-fn sat_text(alloc: Global, vault: &Vault, feed: u32, date: Stamp) -> Result<Text, Memory>
-    requires { Contains (tables vault.now.mapping) (TableId.Sat feed) }
-    ensures { IfOk result (λ text. HasKind vault.now.tables (TableId.Sat feed) → text ≡ raw_text vault.now.mapping vault.now.tables (TableId.Sat feed) date) }
-{
-    match vault.sat(feed) {
-        Some(table) => sat_table_text(alloc, vault.catalog(), feed, table.rows(), date),
-        None => unreachable!(),
-    }
-}
-
-// The text of a feed's multi-active satellite.
-fn multi_text(alloc: Global, vault: &Vault, feed: u32, date: Stamp) -> Result<Text, Memory>
-    requires { Contains (tables vault.now.mapping) (TableId.Multi feed) }
-    ensures { IfOk result (λ text. HasKind vault.now.tables (TableId.Multi feed) → text ≡ raw_text vault.now.mapping vault.now.tables (TableId.Multi feed) date) }
-{
-    match vault.multi(feed) {
-        Some(table) => multi_table_text(alloc, vault.catalog(), feed, table.rows(), date),
-        None => unreachable!(),
-    }
-}
-
-// The text of a feed's status table.
-fn status_text(alloc: Global, vault: &Vault, feed: u32, date: Stamp) -> Result<Text, Memory>
-    requires { Contains (tables vault.now.mapping) (TableId.Status feed) }
-    ensures { IfOk result (λ text. HasKind vault.now.tables (TableId.Status feed) → text ≡ raw_text vault.now.mapping vault.now.tables (TableId.Status feed) date) }
-{
-    let table = vault.status(feed);
-    status_table_text(alloc, table.rows(), date)
-}
-
-// The text of a raw table.
-fn table_text(alloc: Global, vault: &Vault, table: TableId, date: Stamp) -> Result<Text, Memory>
-    requires { Contains (tables vault.now.mapping) table }
-    ensures { IfOk result (λ text. HasKind vault.now.tables table → text ≡ raw_text vault.now.mapping vault.now.tables table date) }
-{
-    vault.note_built();
-    match table {
-        TableId::Hub(hub) => hub_text(alloc, vault, hub, date),
-        TableId::Link(link) => link_text(alloc, vault, link, date),
-        TableId::Sat(feed) => sat_text(alloc, vault, feed, date),
-        TableId::Multi(feed) => multi_text(alloc, vault, feed, date),
-        TableId::Status(feed) => status_text(alloc, vault, feed, date),
-        TableId::Effect(_) => unreachable!(),
-    }
+    let rows = period_mart(vault, feed, date)?;
+    period_text(alloc, vault.catalog().feed(feed), rows.items())
 }
 
 // The text of what is offered.
@@ -113,10 +66,9 @@ fn offered_text(alloc: Global, vault: &Vault, what: &What, date: Stamp) -> Resul
 {
     match what {
         What::Feed(feed) => feed_mart_text(alloc, vault, *feed, date),
+        What::Period(feed) => period_mart_text(alloc, vault, *feed, date),
         What::Table(table) => table_text(alloc, vault, *table, date),
-        What::Hub(_) | What::Path(_) | What::Period(_) | What::Pit(_) | What::Bridge(_) => {
-            unreachable!()
-        }
+        What::Hub(_) | What::Path(_) | What::Pit(_) | What::Bridge(_) => unreachable!(),
     }
 }
 

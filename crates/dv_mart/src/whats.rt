@@ -46,6 +46,32 @@ fn feed_word(alloc: Global, catalog: &Catalog, word: &Text) -> Result<Option<Wha
     }
 }
 
+// The place of the feed with a name, where it has a driver.
+fn driver_feed(catalog: &Catalog, name: &Text) -> Option<u32>
+    ensures { result ≡ spec.driver_feed_place catalog.now name.now }
+{
+    let feed = catalog.find_feed(name)?;
+    if catalog.feed(feed).driver.items().is_empty() {
+        None
+    } else {
+        Some(feed)
+    }
+}
+
+// The mart of a feed's periods that a word names.
+fn period_word(alloc: Global, catalog: &Catalog, word: &Text) -> Result<Option<What>, Memory>
+    ensures { IfOk result (λ what. what ≡ spec.period_word catalog.now word.now) }
+{
+    let Some(rest) = behind(b"period:", word.bytes()) else {
+        return Ok(None);
+    };
+    let name = Text::of(alloc, rest)?;
+    match driver_feed(catalog, &name) {
+        Some(feed) => Ok(Some(What::Period(feed))),
+        None => Ok(None),
+    }
+}
+
 // The raw table that a word names.
 fn table_word(alloc: Global, catalog: &Catalog, word: &Text) -> Result<Option<What>, Memory>
     ensures { IfOk result (λ what. what ≡ spec.table_word catalog.now word.now) }
@@ -62,11 +88,14 @@ fn table_word(alloc: Global, catalog: &Catalog, word: &Text) -> Result<Option<Wh
 
 impl What {
     /// What a word names; none where it names nothing that is offered. In this stage the marts of feeds are
-    /// offered, as `feed:F`, and the raw tables, as `table:T`.
+    /// offered, as `feed:F`, the periods of feeds with a driver, as `period:F`, and the raw tables, as `table:T`.
     pub fn read(alloc: Global, catalog: &Catalog, word: &Text) -> Result<Option<What>, Memory>
         ensures { IfOk result (λ what. what ≡ spec.offered_what catalog.now word.now) }
     {
-        match feed_word(alloc, catalog, word)? {
+        if let Some(what) = feed_word(alloc, catalog, word)? {
+            return Ok(Some(what));
+        }
+        match period_word(alloc, catalog, word)? {
             Some(what) => Ok(Some(what)),
             None => table_word(alloc, catalog, word),
         }

@@ -8,6 +8,8 @@ mod multis;
 #[cfg(test)]
 mod offices;
 #[cfg(test)]
+mod periods;
+#[cfg(test)]
 mod texts;
 #[cfg(test)]
 mod words;

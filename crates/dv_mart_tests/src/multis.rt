@@ -1,29 +1,7 @@
 // Feeds with several rows of one parent. A change of one of a parent's rows adds all of its rows again; none is added
 // where they are those of the last window before that had the parent.
-use crate::offices::{Arrival, FIRST, SECOND, THIRD, hold, office};
-use std::alloc::Global;
-use std::process::Abort;
+use crate::offices::{Arrival, FIRST, SECOND, THIRD, Trial, each_holds, holds};
 use std::test::Fail;
-
-// A mapping, the windows, and what has this text at which date.
-#[derive(Clone, Copy)]
-struct Trial {
-    mapping: &'static [u8],
-    windows: &'static [Arrival],
-    texts: &'static [(&'static str, &'static str, &'static str)],
-}
-
-fn holds(rt: &impl Abort, alloc: Global, trial: &Trial) -> Result<(), Fail> {
-    let office = office(rt, alloc, trial.mapping, trial.windows)?;
-    hold(rt, alloc, &office, trial.texts)
-}
-
-fn each_holds(rt: &impl Abort, alloc: Global, trials: &[Trial]) -> Result<(), Fail> {
-    for trial in trials {
-        holds(rt, alloc, trial)?;
-    }
-    Ok(())
-}
 
 const PHONES: &[u8] = b"[[hub]]\n\
     name = \"customer\"\n\

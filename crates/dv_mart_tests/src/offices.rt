@@ -150,3 +150,24 @@ pub(crate) fn hold(
     }
     Ok(())
 }
+
+/// A mapping, the windows, and what has this text at which date.
+#[derive(Clone, Copy)]
+pub(crate) struct Trial {
+    pub(crate) mapping: &'static [u8],
+    pub(crate) windows: &'static [Arrival],
+    pub(crate) texts: &'static [(&'static str, &'static str, &'static str)],
+}
+
+/// An office that has loaded the windows has the texts.
+pub(crate) fn holds(rt: &impl Abort, alloc: Global, trial: &Trial) -> Result<(), Fail> {
+    let office = office(rt, alloc, trial.mapping, trial.windows)?;
+    hold(rt, alloc, &office, trial.texts)
+}
+
+pub(crate) fn each_holds(rt: &impl Abort, alloc: Global, trials: &[Trial]) -> Result<(), Fail> {
+    for trial in trials {
+        holds(rt, alloc, trial)?;
+    }
+    Ok(())
+}

@@ -1,10 +1,10 @@
 use dv_catalog::Catalog;
 use dv_mapfile::read_catalog;
 use dv_mart::{
-    effect_table_text, feed_text, hub_table_text, link_table_text, multi_table_text,
+    effect_table_text, feed_text, hub_table_text, link_table_text, multi_table_text, period_text,
     sat_table_text, status_table_text,
 };
-use dv_records::{Code, EffectRow, HubRow, LinkRow, MultiRow, SatRow, StatusRow};
+use dv_records::{Code, EffectRow, HubRow, LinkRow, MultiRow, PeriodRow, SatRow, StatusRow};
 use dv_text::{Digest, Key, List, NRow, Stamp, Text};
 use hex::FromHex;
 use std::alloc::Global;
@@ -168,6 +168,35 @@ fn a_row_of_another_number_of_fields_is_written_too(rt: HostRuntime) -> Result<(
          1\n\
          \"\"\n\
          \"\"\n";
+    assert_eq!(rt; text.bytes(), expected.as_bytes());
+    Ok(())
+}
+
+fn period_row(alloc: Global, keys: &[&[&str]], begin: &str, end: Stamp) -> Result<PeriodRow, Fail> {
+    let refs = refs_of(alloc, keys)?;
+    let begin = stamp_of(begin)?;
+    Ok(PeriodRow { refs, begin, end })
+}
+
+// The text of the periods of the mapping's third feed.
+fn period_csv(alloc: Global, rows: &[PeriodRow]) -> Result<Text, Fail> {
+    let catalog = catalog_of(alloc)?;
+    if catalog.feed_count() > 2 {
+        Ok(period_text(alloc, catalog.feed(2), rows)?)
+    } else {
+        Err("no feed")?
+    }
+}
+
+#[test]
+fn periods_are_written_with_begin_and_end(rt: HostRuntime) -> Result<(), Fail> {
+    let alloc = rt.alloc();
+    let ended = period_row(alloc, &[&["1"], &["NORTH", "A"]], FIRST, stamp_of(THIRD)?)?;
+    let open = period_row(alloc, &[&["1"], &["NORTH", "B"]], SECOND, Stamp::OPEN)?;
+    let text = period_csv(alloc, &[ended, open])?;
+    let expected = "CUST_NO,REGION,SITE,begin,end\n\
+         1,NORTH,A,2024-03-01T02:00:00,2024-03-03T02:00:00\n\
+         1,NORTH,B,2024-03-02T02:00:00,9999-12-31T23:59:59\n";
     assert_eq!(rt; text.bytes(), expected.as_bytes());
     Ok(())
 }

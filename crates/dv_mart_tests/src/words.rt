@@ -5,8 +5,37 @@ use dv_text::{Stamp, Text};
 use std::process::Abort;
 use std::test::Fail;
 
-const MAPPING: &[u8] =
-    b"[[hub]]\nname = \"customer\"\nparts = 1\n\n[[feed]]\nname = \"customers\"\nsource = \"crm\"\nhub = \"customer\"\nkeys = [[\"CUST_NO\"]]\n\n[[feed]]\nname = \"accounts\"\nsource = \"shop\"\nhub = \"customer\"\nkeys = [[\"ACCOUNT\"]]\n";
+// Two feeds of a hub, and two of a link, of which the second has a driver.
+const MAPPING: &[u8] = b"[[hub]]\n\
+    name = \"customer\"\n\
+    parts = 1\n\
+    [[hub]]\n\
+    name = \"item\"\n\
+    parts = 1\n\
+    [[link]]\n\
+    name = \"owned\"\n\
+    hubs = [\"customer\", \"item\"]\n\
+    [[feed]]\n\
+    name = \"customers\"\n\
+    source = \"crm\"\n\
+    hub = \"customer\"\n\
+    keys = [[\"CUST_NO\"]]\n\
+    [[feed]]\n\
+    name = \"accounts\"\n\
+    source = \"shop\"\n\
+    hub = \"customer\"\n\
+    keys = [[\"ACCOUNT\"]]\n\
+    [[feed]]\n\
+    name = \"purchases\"\n\
+    source = \"shop\"\n\
+    link = \"owned\"\n\
+    keys = [[\"CUST_NO\"], [\"ITEM\"]]\n\
+    [[feed]]\n\
+    name = \"owners\"\n\
+    source = \"shop\"\n\
+    link = \"owned\"\n\
+    keys = [[\"CUST_NO\"], [\"ITEM\"]]\n\
+    driver = [\"item\"]\n";
 
 fn prints(rt: &(impl Abort + AllocGlobal), rule: &QueryRule, expected: &str) -> Result<(), Fail> {
     let printed = rule.printed(rt.alloc())?;
@@ -62,7 +91,9 @@ fn rules_are_printed_with_their_dates(rt: HostRuntime) -> Result<(), Fail> {
 }
 
 #[test]
-fn words_name_the_marts_of_feeds_and_the_raw_tables(rt: HostRuntime) -> Result<(), Fail> {
+fn words_name_the_marts_and_periods_of_feeds_and_the_raw_tables(
+    rt: HostRuntime,
+) -> Result<(), Fail> {
     let alloc = rt.alloc();
     let catalog = read_catalog(alloc, MAPPING).ok().ok_or("no mapping")?;
     for (word, expected) in [
@@ -72,11 +103,18 @@ fn words_name_the_marts_of_feeds_and_the_raw_tables(rt: HostRuntime) -> Result<(
         ("feed:Customers", None),
         ("customers", None),
         ("feed", None),
+        ("period:owners", Some(What::Period(3))),
+        ("period:purchases", None),
+        ("period:customers", None),
+        ("period:item", None),
+        ("period:", None),
         ("table:hub_customer", Some(What::Table(TableId::Hub(0)))),
         (
             "table:status_accounts",
             Some(What::Table(TableId::Status(1))),
         ),
+        ("table:eff_owners", Some(What::Table(TableId::Effect(3)))),
+        ("table:eff_purchases", None),
         ("table:sat_customers", None),
         ("table:customers", None),
         ("table:", None),

@@ -146,13 +146,13 @@ const REFUSED_MAPPINGS: &[Case] = &[
         files: &[
             (
                 b"mapping.toml",
-                b"[[hub]]\nname = \"employee\"\nparts = 1\n[[hub]]\nname = \"department\"\nparts = 1\n[[link]]\nname = \"works\"\nhubs = [\"employee\", \"department\"]\n[[feed]]\nname = \"assignments\"\nsource = \"hr\"\nlink = \"works\"\nkeys = [[\"EMP\"], [\"DEPT\"]]\ndriver = [\"employee\"]\n",
+                b"[[hub]]\nname = \"employee\"\nparts = 1\n[[hub]]\nname = \"department\"\nparts = 1\n[[link]]\nname = \"works\"\nhubs = [\"employee\", \"department\"]\n[[feed]]\nname = \"assignments\"\nsource = \"hr\"\nlink = \"works\"\nkeys = [[\"EMP\"], [\"DEPT\"]]\ndriver = [\"employee\"]\n[[path]]\nname = \"worked\"\nfeeds = [\"assignments\"]\nvia = []\n",
             ),
             (b"w1.toml", DAY_1),
             (b"c1.csv", ROWS),
         ],
         out: "",
-        err: "vaultdesk: mapping 0 NotYet place=feed 1 driver\n",
+        err: "vaultdesk: mapping 0 NotYet place=path 1 name\n",
         status: Status::Mapping,
     },
 ];
@@ -174,6 +174,17 @@ const ENDED: &[Case] = &[
         ],
         out: "",
         err: "vaultdesk: Q1 UnknownMart name=hub:vendor\n",
+        status: Status::Refused,
+    },
+    Case {
+        words: &["try", "period:customers", "2024-03-01T02:00:00", "w1.toml"],
+        files: &[
+            (b"mapping.toml", KEYS),
+            (b"w1.toml", DAY_1),
+            (b"c1.csv", ROWS),
+        ],
+        out: "",
+        err: "vaultdesk: Q1 UnknownMart name=period:customers\n",
         status: Status::Refused,
     },
     Case {

@@ -6,6 +6,9 @@ use Rattle.dv_mart.proofs.marts.offered_text.Goals as goal
 pub feed_mart_text-requires : goal.feed_mart_text-requires
 feed_mart_text-requires c = subst (CanBe c.args.vault.now.mapping) c.in-Feed.is (can_be c.args.vault.now.mapping c.args.what.now c.requires)
 
+pub period_mart_text-requires : goal.period_mart_text-requires
+period_mart_text-requires c = subst (CanBe c.args.vault.now.mapping) c.in-Period.is (can_be c.args.vault.now.mapping c.args.what.now c.requires)
+
 pub table_text-requires : goal.table_text-requires
 table_text-requires c = subst (CanBe c.args.vault.now.mapping) c.in-Table.is (can_be c.args.vault.now.mapping c.args.what.now c.requires)
 
@@ -19,18 +22,17 @@ unreachable-requires c =
             | inl path ↦ subst (CanBe c.args.vault.now.mapping) path.1 can
             | inr more ↦
                 elim more [
-                  | inl period ↦ subst (CanBe c.args.vault.now.mapping) period.1 can
-                  | inr last ↦
-                      elim last [
-                        | inl pit ↦ subst (CanBe c.args.vault.now.mapping) pit.1 can
-                        | inr bridge ↦ subst (CanBe c.args.vault.now.mapping) bridge.1 can
-                      ]
+                  | inl pit ↦ subst (CanBe c.args.vault.now.mapping) pit.1 can
+                  | inr bridge ↦ subst (CanBe c.args.vault.now.mapping) bridge.1 can
                 ]
           ]
     ]
 
 pub returns-in-Feed : goal.returns-in-Feed
 returns-in-Feed c = rw c.in-Feed.is (IfOk-weaker c.feed_mart_text.result _ _ (λ text is. λ hashes sealed has. ap Ok (sym (is hashes sealed has))) c.feed_mart_text.ensures)
+
+pub returns-in-Period : goal.returns-in-Period
+returns-in-Period c = rw c.in-Period.is (IfOk-weaker c.period_mart_text.result _ _ (λ text is. λ hashes sealed has. ap Ok (sym (is hashes sealed has))) c.period_mart_text.ensures)
 
 pub returns-in-Table : goal.returns-in-Table
 returns-in-Table c =

@@ -1,8 +1,8 @@
-use Rattle.dv_mart.proofs.Vocabulary.{◌∙◌, ap, codes, behind}
-use Rattle.dv_mart.proofs.NoFeeds.{no_feed}
+use Rattle.dv_mart.proofs.Vocabulary.{◌∙◌, ap, codes, behind, feed_place, Feed}
+use Rattle.dv_mart.proofs.NoNames.{none_named}
 use Rattle.dv_mart.proofs.whats.feed_word.Goals as goal
 
 pub returns : goal.returns
 returns c =
     let is = c.in-Some.ensures ∙ ap (behind (codes "feed:")) c.bytes.ensures in
-    no_feed c.args.catalog.now c.args.word.now _ _ is c.in_ok-name.ensures c.in-None.ensures
+    none_named (feed_place c.args.catalog.now) (λ feed. Feed feed) (codes "feed:") c.args.word.now _ _ is c.in_ok-name.ensures c.in-None.ensures

@@ -1,6 +1,6 @@
 use Rattle.dv_mart.proofs.Vocabulary.{◌<◌, ◌∙◌, length, subst, sym, IfOk-weaker, Sat, Mapping, Sats, sat_rows}
 use Rattle.dv_mart.proofs.VaultMarts.{said, sat_within, sats_back}
-use Rattle.dv_mart.proofs.marts.sat_text.Goals as goal
+use Rattle.dv_mart.proofs.vault_tables.sat_text.Goals as goal
 
 pub sat_table_text-requires : goal.sat_table_text-requires
 sat_table_text-requires c = subst (λ (m : Mapping). c.args.feed < length m.feeds) (sym c.catalog.ensures.value) (sat_within c.args.vault.now.mapping c.args.feed c.requires)

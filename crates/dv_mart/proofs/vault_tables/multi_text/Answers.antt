@@ -1,6 +1,6 @@
 use Rattle.dv_mart.proofs.Vocabulary.{◌<◌, ◌∙◌, length, subst, sym, IfOk-weaker, Multi, Mapping, Multis, multi_rows}
 use Rattle.dv_mart.proofs.VaultMarts.{said, multi_within, multis_back}
-use Rattle.dv_mart.proofs.marts.multi_text.Goals as goal
+use Rattle.dv_mart.proofs.vault_tables.multi_text.Goals as goal
 
 pub multi_table_text-requires : goal.multi_table_text-requires
 multi_table_text-requires c = subst (λ (m : Mapping). c.args.feed < length m.feeds) (sym c.catalog.ensures.value) (multi_within c.args.vault.now.mapping c.args.feed c.requires)

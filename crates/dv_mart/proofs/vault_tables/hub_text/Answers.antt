@@ -1,6 +1,6 @@
 use Rattle.dv_mart.proofs.Vocabulary.{◌<◌, ◌∙◌, length, subst, sym, IfOk-weaker, Hub, Mapping, Hubs, hub_rows}
 use Rattle.dv_mart.proofs.VaultMarts.{hubs_back, hub_within, said}
-use Rattle.dv_mart.proofs.marts.hub_text.Goals as goal
+use Rattle.dv_mart.proofs.vault_tables.hub_text.Goals as goal
 
 pub hub-table-requires : goal.hub-table-requires
 hub-table-requires c = hub_within c.args.vault.now.mapping c.args.hub c.requires

@@ -1,6 +1,6 @@
 use Rattle.dv_mart.proofs.Vocabulary.{◌∙◌, refl, IfOk-weaker, Status, Statuses, status_rows}
 use Rattle.dv_mart.proofs.VaultMarts.{said, status_within, statuses_back}
-use Rattle.dv_mart.proofs.marts.status_text.Goals as goal
+use Rattle.dv_mart.proofs.vault_tables.status_text.Goals as goal
 
 pub status-table-requires : goal.status-table-requires
 status-table-requires c = status_within c.args.vault.now.mapping c.args.feed c.requires

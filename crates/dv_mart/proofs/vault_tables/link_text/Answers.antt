@@ -1,6 +1,6 @@
 use Rattle.dv_mart.proofs.Vocabulary.{◌<◌, ◌∙◌, length, subst, sym, IfOk-weaker, Link, Mapping, Links, link_rows}
 use Rattle.dv_mart.proofs.VaultMarts.{links_back, link_within, said}
-use Rattle.dv_mart.proofs.marts.link_text.Goals as goal
+use Rattle.dv_mart.proofs.vault_tables.link_text.Goals as goal
 
 pub link-table-requires : goal.link-table-requires
 link-table-requires c = link_within c.args.vault.now.mapping c.args.link c.requires
