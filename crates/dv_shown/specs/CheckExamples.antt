@@ -75,7 +75,7 @@ pub record MappingsHold : Type 0 where
   pub blank_column : has_shape (customers_with (customer_feed (codes " NAME" ∷ []))) ≡ false
   pub empty_column : has_shape (customers_with (customer_feed ([] ∷ []))) ≡ false
 
--- the first place of a mapping with a form that is not built
+-- where a mapping has a form that is not built
 pub record BuiltHold : Type 0 where
   pub keys_built : unbuilt (mapping_of customers) ≡ None
   pub hubs_built : unbuilt (mapping_of (outline (record (hub (codes "a")) { parts = 2 } ∷ hub (codes "b") ∷ []) [] [] [])) ≡ None
@@ -83,7 +83,7 @@ pub record BuiltHold : Type 0 where
   pub ignored_built : unbuilt (mapping_of (customers_with (record (customer_feed []) { ignore = codes "CLERK" ∷ [] }))) ≡ None
   pub links_built : unbuilt (mapping_of (assignments_by [])) ≡ None
   pub sub_built : unbuilt (mapping_of (customers_with (with_sub (customer_feed (codes "PHONE" ∷ []))))) ≡ None
-  pub driver_unbuilt : unbuilt assignments_mapping ≡ Some (codes "feed 1 driver")
+  pub driver_built : unbuilt assignments_mapping ≡ None
   pub path_unbuilt : unbuilt sold_mapping ≡ Some (codes "path 1 name")
   pub without_path : unbuilt (record sold_mapping { paths = [] }) ≡ None
 
@@ -242,7 +242,7 @@ pub record InvalidHold : Type 0 where
 
 -- printed faults
 pub record TextsHold : Type 0 where
-  pub not_yet : map_error_text (NotYet (codes "feed 1 driver")) ≡ codes "0 NotYet place=feed 1 driver"
+  pub not_yet : map_error_text (NotYet (codes "path 1 name")) ≡ codes "0 NotYet place=path 1 name"
   pub text : map_error_text Text ≡ codes "1 Text"
   pub shape : map_error_text (Shape (codes "hub 1 parts")) ≡ codes "2 Shape place=hub 1 parts"
   pub name_twice : map_error_text (NameTwice (codes "customer")) ≡ codes "3 NameTwice name=customer"

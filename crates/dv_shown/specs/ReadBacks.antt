@@ -1,17 +1,18 @@
--- Contents read back from tables alone.
-use Rattle.std.specs.Prelude.{◌≡◌, true, List, [], ◌∷◌, Some, None, codes}
+-- Contents and periods read back from tables alone.
+use Rattle.std.specs.Prelude.{◌≡◌, true, List, [], ◌∷◌, Some, None, codes, map}
+use Rattle.dv_text.specs.Stamps.{open_end}
 use Rattle.dv_catalog.specs.declared.entries.Parent.TheVariants.{Hub as HubParent, Link as LinkParent}
 use Rattle.dv_catalog.specs.declared.tables.TableId.TheVariants.{Hub, Link, Sat, Multi, Status}
 use Rattle.dv_catalog.specs.Mappings.{is_valid}
 use Rattle.dv_records.specs.declared.raw_rows.Code.TheVariants.{I, D}
 use Rattle.dv_records.specs.declared.stores.Rows.TheVariants.{Hubs, Links, Sats, Multis, Statuses}
 use Rattle.dv_records.specs.declared.stores.TableRows.{TableRows}
-use Rattle.dv_records.specs.ReadBack.{any_content_read, content_read, key_read, multi_content_read, present_parents, refs_read, status_rows_in}
+use Rattle.dv_records.specs.ReadBack.{any_content_read, content_read, key_read, multi_content_read, periods_read, present_parents, refs_read, status_rows_in}
 use Rattle.dv_records.specs.States.{are_windows_valid}
 use Rattle.dv_records.specs.Vault.{vault}
-use Rattle.dv_shown.specs.Mappings.{with_names, with_orders, with_phones}
-use Rattle.dv_shown.specs.Windows.{coming_and_going, fewer_phones, orders, phones}
-use Rattle.dv_shown.specs.Words.{day, described_row, in_hub, in_link, in_multi, in_sat, in_status, key, leap_day, named_row, pair_row, plain, row, year_2030}
+use Rattle.dv_shown.specs.Mappings.{with_drivers, with_names, with_orders, with_phones}
+use Rattle.dv_shown.specs.Windows.{assignments, coming_and_going, crossed_pairs, fewer_phones, orders, phones}
+use Rattle.dv_shown.specs.Words.{day, described_row, in_hub, in_link, in_multi, in_sat, in_status, key, leap_day, mirrored, named_row, pair_row, plain, row, year_2030}
 
 -- the tables of orders, one of them by nobody, which goes for a day; the link's row of it has the zero key for its customer
 abbrev pub order_tables : List TableRows
@@ -82,6 +83,22 @@ pub record ReadBackHolds : Type 0 where
       ∷ described_row (codes "O2") (codes "P2") (codes "1")
       ∷ []
   pub no_feed : content_read with_orders order_tables 2 (day 1) ≡ []
+  -- the periods of a link's feed, in the order of their references, whatever that of their hash keys
+  pub periods_before : periods_read with_drivers (vault with_drivers plain assignments) 0 leap_day ≡ []
+  pub periods_second : periods_read with_drivers (vault with_drivers plain assignments) 0 (day 2) ≡
+      record { refs = map key (codes "1" ∷ codes "P" ∷ []); begin = day 1; end = day 2 }
+      ∷ record { refs = map key (codes "1" ∷ codes "Q" ∷ []); begin = day 2; end = open_end }
+      ∷ []
+  pub periods_third : periods_read with_drivers (vault with_drivers plain assignments) 0 year_2030 ≡
+      record { refs = map key (codes "1" ∷ codes "P" ∷ []); begin = day 1; end = day 2 }
+      ∷ record { refs = map key (codes "1" ∷ codes "P" ∷ []); begin = day 3; end = open_end }
+      ∷ record { refs = map key (codes "1" ∷ codes "Q" ∷ []); begin = day 2; end = day 3 }
+      ∷ []
+  pub periods_crossed : periods_read with_drivers (vault with_drivers mirrored crossed_pairs) 0 (day 1) ≡
+      record { refs = map key (codes "1" ∷ codes "P2" ∷ []); begin = day 1; end = open_end }
+      ∷ record { refs = map key (codes "2" ∷ codes "P1" ∷ []); begin = day 1; end = open_end }
+      ∷ []
+  pub no_periods : periods_read with_drivers (vault with_drivers plain assignments) 1 (day 3) ≡ []
 
 -- the tables of a customer's numbers: one of three changes, and then one is left
 abbrev pub phone_tables : List TableRows
@@ -132,3 +149,5 @@ pub record ReadBackMeets : Type 0 where
   pub orders_windows : are_windows_valid with_orders plain orders ≡ true
   pub phones_mapping : is_valid with_phones ≡ true
   pub phones_windows : are_windows_valid with_phones plain phones ≡ true
+  pub drivers_mapping : is_valid with_drivers ≡ true
+  pub drivers_windows : are_windows_valid with_drivers plain assignments ≡ true

@@ -12,7 +12,7 @@ use Rattle.dv_records.specs.declared.raw_rows.SatRow.{SatRow}
 use Rattle.dv_records.specs.declared.raw_rows.StatusRow.{StatusRow}
 use Rattle.dv_records.specs.Batches.{appended}
 use Rattle.dv_records.specs.Collisions.{collision_in}
-use Rattle.dv_records.specs.EffectPeriods.{effect_periods, is_of_one_run, last_of_runs}
+use Rattle.dv_records.specs.EffectPeriods.{effect_periods, in_effect_since, is_of_one_run, last_of_runs}
 use Rattle.dv_records.specs.History.{IsInLoadOrder, history, up_to}
 use Rattle.dv_records.specs.Hubs.{hub_batch}
 use Rattle.dv_records.specs.Reconstruction.{HasKeysAlone, all_valid_at, first_attrs, present_at, present_keys, valid_at}
@@ -132,6 +132,14 @@ pub record PeriodsTold : Type 0 where
       ∷ in_effect (codes "1;P") 3 (codes "hr.assignments") (day 3) open_end
       ∷ in_effect (codes "1;Q") 3 (codes "hr.assignments") (day 2) (day 3)
       ∷ []
+  -- since when one is in effect: notices what is said by a closing row, by the first row, by later rows and by rows of others
+  pub since_before : in_effect_since effects_shown (codes "1;P") leap_day ≡ None
+  pub since_first : in_effect_since effects_shown (codes "1;P") (day 1) ≡ Some (day 1)
+  pub since_ended : in_effect_since effects_shown (codes "1;P") (day 2) ≡ None
+  pub since_other : in_effect_since effects_shown (codes "1;Q") (day 2) ≡ Some (day 2)
+  pub since_again : in_effect_since effects_shown (codes "1;P") year_2030 ≡ Some (day 3)
+  pub since_other_ended : in_effect_since effects_shown (codes "1;Q") year_2030 ≡ None
+  pub since_unknown : in_effect_since effects_shown (codes "1;R") (day 3) ≡ None
 
 abbrev pub hubs_shown : List HubRow
 hubs_shown = appended (hub_batch bare plain 0) (reverse keys_come_and_go)

@@ -126,6 +126,10 @@ pub record WordsHold : Type 0 where
   pub offered : offered_what with_names (codes "feed:customers") ≡ Some (Feed 0)
   pub table_offered : offered_what with_names (codes "table:sat_customers") ≡ Some (Table (Sat 0))
   pub no_table_offered : offered_what with_names (codes "table:customers") ≡ None
+  pub period_offered : offered_what with_staff (codes "period:assignments") ≡ Some (Period 1)
+  pub no_period_offered : offered_what with_staff (codes "period:staff") ≡ None
+  pub effect_offered : offered_what with_staff (codes "table:eff_assignments") ≡ Some (Table (Effect 1))
+  pub no_effect_offered : offered_what with_orders (codes "table:eff_placements") ≡ None
   pub second_hub : what_of with_orders (codes "hub:sales_order") ≡ Some (Hub 1)
   pub second_path : what_of with_paths (codes "path:bought") ≡ Some (Path 1)
   pub second_pit : what_of with_orders (codes "pit:product") ≡ Some (Pit 2)

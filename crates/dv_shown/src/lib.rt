@@ -184,7 +184,7 @@ pub fn cells_told()
     ensures { CellsTold }
 {}
 
-/// The periods that effectivity rows tell at dates.
+/// The periods that effectivity rows tell at dates, and since when one is in effect then.
 pub fn periods_told()
     ensures { PeriodsTold }
 {}
@@ -200,7 +200,7 @@ pub fn premises_met()
 {}
 
 /// Contents of feeds without a sub, read back from tables: a missing reference, attributes that go and
-/// come again.
+/// come again; and periods of a feed.
 pub fn read_back_holds()
     ensures { ReadBackHolds }
 {}
