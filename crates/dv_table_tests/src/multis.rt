@@ -1,14 +1,13 @@
 ghost use Rattle.std.specs.Prelude.{◌≡◌, ◌++◌, IfOk};
-ghost use Rattle.std.specs.List.{list_all};
 ghost use Rattle.std.specs.List.Sorted.{IsStrictlySortedBy};
 ghost use Rattle.dv_text.specs.Orders.{row_cmp};
-ghost use Rattle.dv_digest.specs.Fits as fits;
 ghost use Rattle.dv_sat.specs.MultiRows as spec;
 
-use crate::values::{catalog, day, is, pieces, put, put_digest, put_texts, single, texts};
-use dv_digest::{HashedExtract, Md5Keys, TinyKeys, attrs_fit, refs_fit};
+use crate::rows::{all_attrs_fit, all_fit};
+use dv_digest::{HashedExtract, Md5Keys, TinyKeys};
 use dv_records::MultiRow;
 use dv_sat::MultiTable;
+use dv_table_samples::{catalog, day, is, pieces, put, put_digest, put_texts, single, texts};
 use dv_text::{Digest, KeyDigest, List, Memory, NRow, Staged, Stamp, sorted_rows};
 use std::alloc::Global;
 use std::test::Fail;
@@ -36,18 +35,6 @@ fn rows(alloc: Global, text: &[u8]) -> Result<List<NRow>, Fail>
         }
     }
     Ok(sorted_rows(made))
-}
-
-fn all_fit(rows: &[NRow]) -> bool
-    ensures { result ≡ list_all (λ row. fits.refs_fit row.refs) rows.now }
-{
-    rows.iter().all(|row| refs_fit(&row.refs))
-}
-
-fn all_attrs_fit(rows: &[NRow]) -> bool
-    ensures { result ≡ list_all (λ row. fits.attrs_fit row.attrs) rows.now }
-{
-    rows.iter().all(|row| attrs_fit(&row.attrs))
 }
 
 fn are_up_to(rows: &[MultiRow], load: Stamp) -> bool

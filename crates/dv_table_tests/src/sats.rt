@@ -1,28 +1,15 @@
 ghost use Rattle.std.specs.Prelude.{◌≡◌, ◌++◌, IfOk};
-ghost use Rattle.std.specs.List.{list_all};
 ghost use Rattle.std.specs.List.Sorted.{IsStrictlySortedBy};
-ghost use Rattle.dv_digest.specs.Fits as fits;
 ghost use Rattle.dv_sat.specs.SatRows as spec;
 
-use crate::values::{catalog, day, is, put, put_digest, put_texts, rows};
-use dv_digest::{HashedExtract, Md5Keys, TinyKeys, attrs_fit, refs_fit};
+use crate::rows::{all_attrs_fit, all_fit, rows};
+use dv_digest::{HashedExtract, Md5Keys, TinyKeys};
 use dv_records::SatRow;
 use dv_sat::SatTable;
+use dv_table_samples::{catalog, day, is, put, put_digest, put_texts};
 use dv_text::{Digest, KeyDigest, List, Memory, NRow, Staged, Stamp};
 use std::alloc::Global;
 use std::test::Fail;
-
-fn all_fit(rows: &[NRow]) -> bool
-    ensures { result ≡ list_all (λ row. fits.refs_fit row.refs) rows.now }
-{
-    rows.iter().all(|row| refs_fit(&row.refs))
-}
-
-fn all_attrs_fit(rows: &[NRow]) -> bool
-    ensures { result ≡ list_all (λ row. fits.attrs_fit row.attrs) rows.now }
-{
-    rows.iter().all(|row| attrs_fit(&row.attrs))
-}
 
 fn are_up_to(rows: &[SatRow], load: Stamp) -> bool
     ensures { result ≡ spec.are_up_to rows.now load }

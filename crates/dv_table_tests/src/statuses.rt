@@ -1,22 +1,15 @@
 ghost use Rattle.std.specs.Prelude.{◌≡◌, ◌++◌, IfOk};
-ghost use Rattle.std.specs.List.{list_all};
 ghost use Rattle.std.specs.List.Sorted.{IsStrictlySortedBy};
-ghost use Rattle.dv_digest.specs.Fits as fits;
 ghost use Rattle.dv_track.specs.Tracks as track;
 
-use crate::values::{catalog, day, is, put, put_digest, rows};
-use dv_digest::{HashedExtract, Md5Keys, TinyKeys, refs_fit};
+use crate::rows::{all_fit, rows};
+use dv_digest::{HashedExtract, Md5Keys, TinyKeys};
 use dv_records::{Code, StatusRow};
+use dv_table_samples::{catalog, day, is, put, put_digest};
 use dv_text::{Digest, KeyDigest, List, Memory, NRow, Staged, Stamp};
 use dv_track::StatusTable;
 use std::alloc::Global;
 use std::test::Fail;
-
-fn all_fit(rows: &[NRow]) -> bool
-    ensures { result ≡ list_all (λ row. fits.refs_fit row.refs) rows.now }
-{
-    rows.iter().all(|row| refs_fit(&row.refs))
-}
 
 fn are_up_to(rows: &[StatusRow], load: Stamp) -> bool
     ensures { result ≡ track.are_up_to rows.now load }

@@ -1,6 +1,6 @@
-use Rattle.dv_table_tests.proofs.Vocabulary.{hashes_of}
-use Rattle.dv_table_tests.proofs.Hashing.{delivered_are, hashed_are}
-use Rattle.dv_table_tests.proofs.values.hashed.Goals as goal
+use Rattle.dv_key_tests.proofs.Vocabulary.{hashes_of}
+use Rattle.dv_key_tests.proofs.Hashing.{delivered_are, hashed_are}
+use Rattle.dv_key_tests.proofs.deliveries.hashed.Goals as goal
 
 pub returns : goal.returns
 returns g c =

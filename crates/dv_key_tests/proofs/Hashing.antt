@@ -1,5 +1,5 @@
 -- Deliveries that are made hashed ones are delivered, and have their hash keys.
-use Rattle.dv_table_tests.proofs.Vocabulary.{◌≡◌, List, [], ◌∷◌, refl, ap, map, AllByRecursion, All-from_recursion, Hashes, Delivery, HashedDelivery, AreHashed, delivered}
+use Rattle.dv_key_tests.proofs.Vocabulary.{◌≡◌, List, [], ◌∷◌, refl, ap, map, AllByRecursion, All-from_recursion, Hashes, Delivery, HashedDelivery, AreHashed, delivered}
 
 abbrev pub hashed_of : Hashes → Delivery → HashedDelivery
 hashed_of hashes item = record { delivery = item; digest = hashes.hash item.refs }

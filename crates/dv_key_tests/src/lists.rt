@@ -5,13 +5,12 @@ ghost use Rattle.dv_text.specs.Keys.{hashes_of};
 ghost use Rattle.dv_records.specs.Deltas.{AreHashed, delivered};
 ghost use Rattle.dv_keys.specs.ItemTests as tests;
 
-use crate::values::{
-    catalog, deliveries, hashed, is, offered, put_digest, put_fault, put_refs, single,
-};
+use crate::deliveries::{deliveries, hashed, offered, put_fault, put_refs};
 use dv_catalog::{Catalog, Parent, TableId};
 use dv_digest::{Md5Keys, TinyKeys};
 use dv_keys::{HashedList, HoldsLists, are_items, new_lists};
 use dv_records::{DeltaFault, HashedDelivery};
+use dv_table_samples::{catalog, is, put_digest, single};
 use dv_text::{Digest, Duplicate, Key, KeyDigest, List, Memory};
 use std::alloc::Global;
 use std::test::Fail;

@@ -1,5 +1,5 @@
-use Rattle.dv_table_tests.proofs.Vocabulary.{◌≡◌, true, nat_le, sym, subst, ◌∙◌, list_all, delivered, hub_items}
-use Rattle.dv_table_tests.proofs.hubs.delta.Goals as goal
+use Rattle.dv_key_tests.proofs.Vocabulary.{◌≡◌, true, nat_le, sym, subst, ◌∙◌, list_all, delivered, link_items}
+use Rattle.dv_key_tests.proofs.links.delta.Goals as goal
 
 pub delta-requires-clause-dated : goal.delta-requires-clause-dated
 delta-requires-clause-dated g c κs within =
@@ -7,4 +7,4 @@ delta-requires-clause-dated g c κs within =
 
 pub delta-requires-clause-items : goal.delta-requires-clause-items
 delta-requires-clause-items g c κs within =
-    hub_items c.in_ok-catalog.catalog c.args.hub (delivered c.in_ok-hashed.hashed) (rw c.in_ok-hashed.ensures.items c.in_ok-items.ensures)
+    link_items c.in_ok-catalog.catalog 0 (delivered c.in_ok-hashed.hashed) (rw c.in_ok-hashed.ensures.items c.in_ok-items.ensures)

@@ -2,13 +2,12 @@ ghost use Rattle.std.specs.Prelude.{◌≡◌, ◌++◌, IfOk, IsTrue, nat_le};
 ghost use Rattle.std.specs.List.{list_all};
 ghost use Rattle.dv_keys.specs.HubRows.{are_hub_rows};
 
-use crate::values::{
-    catalog, day, deliveries, hashed, is, key, put, put_digest, put_fault, put_texts, tiny,
-};
+use crate::deliveries::{deliveries, hashed, put_fault, tiny};
 use dv_catalog::Parent;
 use dv_digest::{Md5Keys, TinyKeys};
 use dv_keys::HubTable;
 use dv_records::{DeltaFault, HubRow};
+use dv_table_samples::{catalog, day, is, key, put, put_digest, put_texts};
 use dv_text::{Digest, KeyDigest, List, Memory, Stamp};
 use std::alloc::Global;
 use std::test::Fail;
