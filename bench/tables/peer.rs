@@ -1,4 +1,4 @@
-//! What a satellite, a multi-active satellite and a status table do with a window, in Rust that nobody proved, with std
+//! What a satellite, a multi-active satellite, a status table and an effectivity table do with a window, in Rust that nobody proved, with std
 //! alone: the rows in load order, and an ordered map from each parent to its last row or rows, or an ordered set of the
 //! parents that are present. Takes the sizes as its arguments, and prints what the Rattle program prints.
 #[path = "../md5.rs"]
@@ -14,6 +14,8 @@ type Text = Vec<u8>;
 const WINDOW: u64 = 10_000;
 const KINDS: u64 = 4;
 const MEASURED: u64 = 3;
+/// The end of a run that goes on, in seconds since 1900.
+const OPEN: u64 = 255_611_289_599;
 const SOURCE: &[u8] = b"crm.customers";
 const SOURCE_OF_KINDS: &[u8] = b"crm.contacts";
 
@@ -41,6 +43,15 @@ struct SatRow {
     source: Text,
     diff: Digest,
     attrs: Vec<Text>,
+}
+
+#[allow(dead_code)]
+struct EffectRow {
+    parent: Digest,
+    load: u64,
+    source: Text,
+    begin: u64,
+    end: u64,
 }
 
 #[allow(dead_code)]
@@ -219,6 +230,54 @@ impl Table for Statuses {
     }
 }
 
+/// From when on each parent is in effect.
+#[derive(Default)]
+struct Effects {
+    rows: Vec<EffectRow>,
+    since: BTreeMap<Digest, u64>,
+}
+
+impl Table for Effects {
+    type Added = EffectRow;
+    const NAME: &'static str = "effect";
+
+    fn count(&self) -> usize {
+        self.rows.len()
+    }
+
+    fn delta(&self, load: u64, extract: &[Row], md5: &mut Md5) -> Vec<EffectRow> {
+        let now: BTreeSet<Digest> = extract.iter().map(|row| md5.of(&row.refs)).collect();
+        let row = |parent: &Digest, begin, end| EffectRow { parent: *parent, load, source: SOURCE.to_vec(), begin, end };
+        let opening = now.iter().filter(|parent| !self.since.contains_key(*parent)).map(|parent| row(parent, load, OPEN));
+        let closing = self.since.iter().filter(|(parent, _)| !now.contains(*parent)).map(|(parent, begin)| row(parent, *begin, load));
+        let mut made: Vec<EffectRow> = opening.chain(closing).collect();
+        made.sort_by(|a, b| a.parent.cmp(&b.parent));
+        made
+    }
+
+    fn apply(&mut self, rows: Vec<EffectRow>) {
+        for row in &rows {
+            if row.end == OPEN {
+                self.since.insert(row.parent, row.begin);
+            } else {
+                self.since.remove(&row.parent);
+            }
+        }
+        self.rows.extend(rows);
+    }
+
+    fn check_sum(rows: &[EffectRow]) -> u64 {
+        rows.iter().fold(0, |sum, row| with_digest(sum, &row.parent).wrapping_add(row.begin))
+    }
+}
+
+impl Effects {
+    /// The end of each run, by its parent and its begin.
+    fn periods(&self) -> BTreeMap<(Digest, u64), u64> {
+        self.rows.iter().map(|row| ((row.parent, row.begin), row.end)).collect()
+    }
+}
+
 /// Adds an extract to the table, and prints what that cost where the window is a measured one.
 fn take_in<T: Table>(table: &mut T, load: u64, extract: &[Row], md5: &mut Md5, is_measured: bool) {
     let before = table.count();
@@ -261,6 +320,18 @@ fn time_statuses(count: u64, md5: &mut Md5) {
     }
 }
 
+fn time_effects(count: u64, md5: &mut Md5) {
+    let (mut table, windows) = (Effects::default(), (count / WINDOW + 1) / 2);
+    for number in 0..windows + MEASURED {
+        take_in(&mut table, number, &extract(number * WINDOW, 1, number), md5, number >= windows);
+    }
+    let (before, start) = (table.count(), Instant::now());
+    let periods = table.periods();
+    let taken = start.elapsed().as_nanos();
+    let sum = periods.iter().fold(0, |sum, ((parent, _), end)| with_digest(sum, parent).wrapping_add(*end));
+    println!("rust periods {before} {taken} 0 {} {sum}", periods.len());
+}
+
 fn main() {
     let mut md5 = Md5::new();
     for word in std::env::args().skip(1) {
@@ -268,5 +339,6 @@ fn main() {
         time_sats(count, &mut md5);
         time_multis(count, &mut md5);
         time_statuses(count, &mut md5);
+        time_effects(count, &mut md5);
     }
 }

@@ -1,6 +1,6 @@
 #!/usr/bin/env python3
-"""Microseconds a row of `delta` and `apply` of satellites, of multi-active ones and of status tables, against the same
-in Rust that nobody proved.
+"""Microseconds a row of `delta` and `apply` of satellites, of multi-active ones, of status and of effectivity tables,
+and of telling the periods of these, against the same in Rust that nobody proved.
 
 Usage: python3 bench/tables/run.py [--keep FOLDER] [--repeat N] [--rows N,N,..]
 
@@ -39,8 +39,10 @@ def measure(programs, sizes, repeat):
             for who, table, *numbers in map(str.split, text.splitlines()):
                 before, delta, apply, added, total = map(int, numbers)
                 answers.add((table, before, added, total))
-                for call, taken in (("delta", delta), ("apply", apply)):
-                    best.setdefault((table, call, who), {}).setdefault(size_of(sizes, before), []).append(taken / WINDOW / 1000)
+                calls = {"periods": delta} if table == "periods" else {"delta": delta, "apply": apply}
+                for call, taken in calls.items():
+                    rows = before if table == "periods" else WINDOW
+                    best.setdefault((table, call, who), {}).setdefault(size_of(sizes, before), []).append(taken / rows / 1000)
     windows = {(table, before) for table, before, _, _ in answers}
     if len(windows) != len(answers):
         raise SystemExit(f"they disagree: {sorted(answers)}")
