@@ -12,6 +12,7 @@ use Rattle.dv_catalog.specs.Checks.{fault_of}
 use Rattle.dv_catalog.specs.Mappings.{checked, has_shape, is_valid, mapping_of}
 use Rattle.dv_catalog.specs.MapTexts.{map_error_text}
 use Rattle.dv_shown.specs.SampleOutlines.{assignments_by, assignments_mapping, customers, customers_and_accounts, customers_and_accounts_mapping, customers_with, hub, hub_feed, link, link_feed, outline, path, placements_then_lines, sold_by, sold_mapping}
+use Rattle.dv_catalog.specs.declared.entries.FeedDef.{FeedDef}
 use Rattle.dv_catalog.specs.TableLookups.{table_named}
 use Rattle.dv_catalog.specs.Tables.{table_name, tables}
 
@@ -91,6 +92,9 @@ pub record BuiltHold : Type 0 where
 pub record TablesHold : Type 0 where
   pub plain : tables customers_and_accounts_mapping ≡ HubTable 0 ∷ Sat 0 ∷ Status 0 ∷ Sat 1 ∷ Status 1 ∷ []
   pub driven : tables assignments_mapping ≡ HubTable 0 ∷ HubTable 1 ∷ LinkTable 0 ∷ Status 0 ∷ Effect 0 ∷ []
+  pub driven_and_described :
+      tables (record assignments_mapping { feeds = map (λ (feed : FeedDef). record feed { attrs = codes "ROLE" ∷ [] }) assignments_mapping.feeds })
+      ≡ HubTable 0 ∷ HubTable 1 ∷ LinkTable 0 ∷ Sat 0 ∷ Status 0 ∷ Effect 0 ∷ []
   pub multi : tables (mapping_of (customers_with (with_sub (customer_feed (codes "PHONE" ∷ []))))) ≡ HubTable 0 ∷ Multi 0 ∷ Status 0 ∷ []
   pub named : map (table_name assignments_mapping) (tables assignments_mapping)
       ≡ codes "hub_employee" ∷ codes "hub_department" ∷ codes "link_works" ∷ codes "status_assignments" ∷ codes "eff_assignments" ∷ []
