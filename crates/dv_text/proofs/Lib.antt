@@ -1,3 +1,4 @@
+pub mod BigEndian
 pub mod Days
 pub mod Deciding
 pub mod Distinct
@@ -8,6 +9,7 @@ pub mod Options
 pub mod Orderings
 pub mod Passing
 pub mod Places
+pub mod PrefixFacts
 pub mod Shown
 pub mod SortedLists
 pub mod StableSorts

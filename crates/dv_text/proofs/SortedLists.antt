@@ -157,3 +157,16 @@ sorted_by-members {R = R} o exact items kept up members =
     same_ascending R o kept (sorted_by R items) up (ascending-sorted_by R o items)
     (λ z has. member_after_sort R items z (λ x member e. exact x z e) ((members z).0 has))
     (λ z has. (members z).1 (member_before_sort R items z has))
+
+-- ---- of one item or none
+
+pub few_sorted : {X : Type 0} (R : X → X → Ordering) (xs : List X) → length xs ≤ 1 → sorted_by R xs ≡ xs
+few_sorted R [] few = refl
+few_sorted R (x ∷ []) few = refl
+few_sorted R (x ∷ y ∷ xs) few = absurd (omega arith)
+
+pub few_ascend : {X : Type 0} (R : X → X → Ordering) (xs : List X) → length xs ≤ 1 → IsStrictlySortedBy R xs
+unfolding IsStrictlySortedBy
+few_ascend R [] few = tt
+few_ascend R (x ∷ []) few = (tt, tt)
+few_ascend R (x ∷ y ∷ xs) few = absurd (omega arith)

@@ -1,5 +1,7 @@
--- The bytes of a digest that is held in place.
-use Rattle.std.specs.Prelude.{◌≡◌, ℕ, ◌==◌, List, length, if◌then◌else◌}
+-- The bytes of a digest that is held in place, and the number that it begins with.
+use Rattle.std.specs.Prelude.{◌≡◌, ◌⊎◌, ℕ, ◌<◌, ◌==◌, List, length, take, if◌then◌else◌}
+use Rattle.std.specs.List.{All}
+use Rattle.std.specs.Slice.Scan.{big_endian}
 use Rattle.dv_text.specs.declared.digests.Stored.{Stored}
 use Rattle.dv_text.specs.declared.digests.Stored.TheVariants.{Short, Long}
 
@@ -20,3 +22,17 @@ stored_of bytes = if length bytes == 16 then Short bytes else Long bytes
 pub stored_of-stored_bytes : (s : Stored) → IsStored s → stored_of (stored_bytes s) ≡ s
 stored_of-stored_bytes (Short bytes) h = rw h
 stored_of-stored_bytes (Long bytes) h = rw h
+
+-- 16 or 32 numbers, each of a byte
+pub record IsDigest (bytes : List ℕ) : Type 0 where
+  pub width : (length bytes ≡ 16) ⊎ (length bytes ≡ 32)
+  pub fits : All (λ byte. byte < 256) bytes
+
+-- 16 numbers, each of a byte
+pub record IsShort (bytes : List ℕ) : Type 0 where
+  pub width : length bytes ≡ 16
+  pub fits : All (λ byte. byte < 256) bytes
+
+-- the number that the first eight bytes spell, the greatest first
+abbrev pub digest_prefix : List ℕ → ℕ
+digest_prefix bytes = big_endian 0 (take 8 bytes)

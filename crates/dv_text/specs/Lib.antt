@@ -4,6 +4,10 @@ pub mod Exact
 pub mod Keys
 pub mod Normal
 pub mod Orders
+pub mod PrefixLaws
+pub mod Prefixes
 pub mod Sorting
 pub mod Stamps
+pub mod StoredLists
+pub mod StoredTexts
 pub mod Told

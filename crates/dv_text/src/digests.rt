@@ -1,7 +1,9 @@
-ghost use Rattle.std.specs.Prelude.{◌≡◌, ◌⊎◌, ◌↔◌, IfSome, IsSome, length, nat_eq, replicate, Some, refl};
+ghost use Rattle.std.specs.Prelude.{◌≡◌, ◌⊎◌, ◌↔◌, IfSome, IsSome, drop, length, nat_eq, replicate, take, Some, refl};
 ghost use Rattle.std.specs.Ordering.{nat_cmp};
 ghost use Rattle.std.specs.Cmp;
 ghost use Rattle.std.specs.Cmp.Lexicographic.{pointwise, slice_cmp, nat_list_eq_equiv, nat_list_cmp_total, texts_po, texts_ties};
+ghost use Rattle.std.specs.Slice.Scan.{big_endian};
+ghost use Rattle.dv_text.specs.Digests.{IsDigest, IsShort, digest_prefix};
 
 use crate::failure::{Duplicate, Memory};
 use std::cmp::Ordering;
@@ -34,6 +36,41 @@ impl Model for Digest {
     ghost inverse = { λ bytes. record { stored = stored_of bytes } };
 
     ghost inverse_ok = { λ d h i. record { stored = stored_of-stored_bytes d.stored h i } };
+}
+
+// The numbers that the first eight and the last eight of 16 bytes spell, the greatest first.
+fn halves(bytes: &[u8; 16]) -> (u64, u64)
+    ensures first { result.0 ≡ big_endian 0 (take 8 bytes.now) }
+    ensures second { result.1 ≡ big_endian 0 (take 8 (drop 8 bytes.now)) }
+    ensures kept { IsShort bytes.now }
+{
+    let first = u64::from_be_bytes([
+        bytes[0], bytes[1], bytes[2], bytes[3], bytes[4], bytes[5], bytes[6], bytes[7],
+    ]);
+    let second = u64::from_be_bytes([
+        bytes[8], bytes[9], bytes[10], bytes[11], bytes[12], bytes[13], bytes[14], bytes[15],
+    ]);
+    (first, second)
+}
+
+// The order of 16 bytes and others, by two numbers of each.
+fn short_cmp(a: &[u8; 16], b: &[u8; 16]) -> Ordering
+    ensures { result ≡ slice_cmp nat_cmp a.now b.now }
+{
+    let (a, b) = (halves(a), halves(b));
+    if a.0 == b.0 {
+        a.1.cmp(&b.1)
+    } else {
+        a.0.cmp(&b.0)
+    }
+}
+
+// Whether 16 bytes are equal to others, by two numbers of each.
+fn short_eq(a: &[u8; 16], b: &[u8; 16]) -> bool
+    ensures { result ≡ pointwise nat_eq a.now b.now }
+{
+    let (a, b) = (halves(a), halves(b));
+    a.0 == b.0 && a.1 == b.1
 }
 
 impl Digest {
@@ -81,6 +118,18 @@ impl Digest {
             Stored::Long(bytes) => bytes,
         }
     }
+
+    /// The number that the first eight bytes spell, the greatest first. Of two digests with different
+    /// numbers the one with the lesser number is less. Takes no memory.
+    pub fn prefix(&self) -> u64
+        ensures value { result ≡ digest_prefix self.now }
+        ensures kept { IsDigest self.now }
+    {
+        let bytes = self.bytes();
+        u64::from_be_bytes([
+            bytes[0], bytes[1], bytes[2], bytes[3], bytes[4], bytes[5], bytes[6], bytes[7],
+        ])
+    }
 }
 
 impl Duplicate for Digest {
@@ -95,7 +144,10 @@ impl PartialEq for Digest {
     ghost laws = { Cmp.partial_equiv_from_equiv nat_list_eq_equiv };
 
     fn eq(&self, other: &Digest) -> bool {
-        self.bytes() == other.bytes()
+        match (&self.stored, &other.stored) {
+            (Stored::Short(a), Stored::Short(b)) => short_eq(a, b),
+            _ => self.bytes() == other.bytes(),
+        }
     }
 }
 
@@ -123,6 +175,9 @@ impl Ord for Digest {
     ghost matches_eq = { texts_ties };
 
     fn cmp(&self, other: &Digest) -> Ordering {
-        self.bytes().cmp(&other.bytes())
+        match (&self.stored, &other.stored) {
+            (Stored::Short(a), Stored::Short(b)) => short_cmp(a, b),
+            _ => self.bytes().cmp(&other.bytes()),
+        }
     }
 }

@@ -8,6 +8,7 @@ mod key_digest;
 mod lists;
 mod normal;
 mod orders;
+mod prefixes;
 mod rows;
 mod stamps;
 mod texts;
@@ -17,10 +18,13 @@ pub use failure::{Duplicate, Memory};
 pub use key_digest::KeyDigest;
 pub use lists::List;
 pub use normal::{field, joined, key_part};
-pub use orders::{Exact, sorted_distinct, sorted_rows};
+pub use orders::{Exact, sorted_distinct, sorted_list, sorted_rows};
+pub use prefixes::{Prefixed, sorted_by_prefix};
 pub use rows::{Key, NRow, Staged, Window, WindowHead, are_missing};
 pub use stamps::Stamp;
 pub use texts::Text;
 
+#[cfg(test)]
+mod prefix_tests;
 #[cfg(test)]
 mod tests;

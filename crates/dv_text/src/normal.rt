@@ -50,11 +50,7 @@ pub fn field(alloc: Global, text: &[u8]) -> Result<Text, Memory>
 pub fn key_part(alloc: Global, text: &[u8]) -> Result<Text, Memory>
     ensures { IfOk result (λ made. made ≡ spec.norm_key text.now) }
 {
-    let raised = trimmed(text)
-        .iter()
-        .map(|byte| byte.to_ascii_uppercase())
-        .collect(alloc)?;
-    Ok(Text::from_vec(raised))
+    Text::raised(alloc, trimmed(text))
 }
 
 /// The parts, with a semicolon between each and the next.
@@ -63,12 +59,12 @@ pub fn joined(alloc: Global, parts: &List<Text>) -> Result<Text, Memory>
     ensures { IfOk result (λ made. made ≡ keys.joined parts.now) }
 {
     let Some((first, rest)) = parts.items().split_first() else {
-        return Ok(Text::from_vec(Vec::new(alloc)));
+        return Ok(Text::empty());
     };
     let mut made = Vec::from_slice(alloc, first.bytes())?;
     for part in rest {
         made.push(b';')?;
         made.extend_from_slice(part.bytes())?;
     }
-    Ok(Text::from_vec(made))
+    Text::from_vec(made)
 }

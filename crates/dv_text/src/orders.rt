@@ -57,11 +57,23 @@ pub fn sorted_distinct<T: Exact>(items: Vec<T>) -> List<T>
     List::from_vec(items)
 }
 
+/// The items of a list in order, each once. Takes no memory.
+pub fn sorted_list<T: Exact>(items: List<T>) -> List<T>
+    ensures value { result ≡ sorted_by T.cmp items }
+    ensures ascending { IsStrictlySortedBy T.cmp result }
+    ensures members { (x : T) → Contains result x ↔ Contains items x }
+{
+    match items.into_many() {
+        Ok(many) => sorted_distinct(many),
+        Err(few) => few,
+    }
+}
+
 /// The rows in order, each once: by references, then by sub, then by attributes. Takes no memory.
 pub fn sorted_rows(rows: List<NRow>) -> List<NRow>
     ensures value { result ≡ sorted_by row_cmp rows }
     ensures ascending { IsStrictlySortedBy row_cmp result }
     ensures members { (row : _) → Contains result row ↔ Contains rows row }
 {
-    sorted_distinct(rows.into_vec())
+    sorted_list(rows)
 }

@@ -110,5 +110,101 @@ fn digests_have_two_widths(rt: HostRuntime) -> Result<(), Fail> {
     let long = Digest::of(&[7; 32]).ok_or("no digest")?;
     assert!(rt; short < long);
     assert_eq!(rt; Digest::zero(32).bytes(), [0u8; 32].as_slice());
+    let ascending = Digest::of(
+        b"\x01\x02\x03\x04\x05\x06\x07\x08\xff\xff\xff\xff\xff\xff\xff\xff",
+    ).ok_or("no digest")?;
+    assert_eq!(rt; ascending.prefix(), 0x0102_0304_0506_0708);
+    Ok(())
+}
+
+fn letters(rt: &impl AllocGlobal, count: usize, last: u8) -> Result<Text, Memory> {
+    let mut bytes = Vec::new(rt.alloc());
+    for _ in 1..count {
+        bytes.push(b'x')?;
+    }
+    if count > 0 {
+        bytes.push(last)?;
+    }
+    Text::from_vec(bytes)
+}
+
+#[test]
+fn texts_are_the_same_in_place_and_beside(rt: HostRuntime) -> Result<(), Fail> {
+    assert!(rt; letters(&rt, 0, b'x')? == Text::empty());
+    for count in [1, 21, 22, 23, 24, 30, 31, 32, 4096] {
+        let made = letters(&rt, count, b'x')?;
+        assert_eq!(rt; made.bytes().len(), count);
+        assert!(rt; made.copy()? == made);
+        assert!(rt; text(&rt, made.bytes())? == made);
+        assert!(rt; letters(&rt, count, b'w')? < made);
+        assert!(rt; made < letters(&rt, count + 1, b'a')?);
+        assert!(rt; letters(&rt, count - 1, b'x')? < made);
+        let raised = key_part(rt.alloc(), made.bytes())?;
+        assert_eq!(rt; raised.bytes().len(), count);
+        assert!(rt; raised.bytes().iter().all(|byte| *byte == b'X'));
+    }
+    Ok(())
+}
+
+fn numbers(rt: &impl AllocGlobal, upto: u32) -> Result<List<u32>, Memory> {
+    let mut made = List::new(rt.alloc());
+    for n in 0..upto {
+        made.push(n)?;
+    }
+    Ok(made)
+}
+
+fn grows_and_shrinks(rt: &impl AllocGlobal, count: u32) -> Result<bool, Memory> {
+    let mut made = numbers(rt, count)?;
+    made.append(numbers(rt, 2)?)?;
+    let grown = made.items().len() == count as usize + 2;
+    let last = made.pop();
+    let before = made.pop();
+    Ok(grown && last == Some(1) && before == Some(0) && made == numbers(rt, count)?)
+}
+
+fn is_left_whole(rt: &impl AllocGlobal, count: u32) -> Result<bool, Memory> {
+    let items = numbers(rt, count)?;
+    let made = items.copy()?;
+    let mut behind = Vec::with_capacity(rt.alloc(), items.items().len())?;
+    items.append_to(&mut behind);
+    let is_appended = made.items() == behind.as_slice();
+    Ok(is_appended && made.into_vec()?.as_slice() == behind.as_slice())
+}
+
+fn taken(list: &mut List<u32>, at: usize) -> Option<u32> {
+    if at < list.items().len() {
+        Some(list.remove(at))
+    } else {
+        None
+    }
+}
+
+#[test]
+fn lists_of_few_items_grow_and_shrink(rt: HostRuntime) -> Result<(), Fail> {
+    assert!(rt; grows_and_shrinks(&rt, 0)?);
+    assert!(rt; grows_and_shrinks(&rt, 1)?);
+    assert!(rt; grows_and_shrinks(&rt, 2)?);
+    assert!(rt; grows_and_shrinks(&rt, 3)?);
+    Ok(())
+}
+
+#[test]
+fn lists_of_few_items_are_left_whole(rt: HostRuntime) -> Result<(), Fail> {
+    assert!(rt; is_left_whole(&rt, 0)?);
+    assert!(rt; is_left_whole(&rt, 1)?);
+    assert!(rt; is_left_whole(&rt, 2)?);
+    assert!(rt; is_left_whole(&rt, 3)?);
+    Ok(())
+}
+
+#[test]
+fn an_item_is_taken_from_a_list_of_few(rt: HostRuntime) -> Result<(), Fail> {
+    let mut three = numbers(&rt, 3)?;
+    assert_eq!(rt; taken(&mut three, 1), Some(1));
+    assert_eq!(rt; three.items(), [0, 2].as_slice());
+    let mut one = numbers(&rt, 1)?;
+    assert_eq!(rt; taken(&mut one, 0), Some(0));
+    assert_eq!(rt; one.pop(), None);
     Ok(())
 }
