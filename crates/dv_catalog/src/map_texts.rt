@@ -14,7 +14,7 @@ fn with_field(alloc: Global, head: &[u8], name: &[u8], value: &Text) -> Result<T
 {
     let mut line = Vec::from_slice(alloc, head)?;
     add_field(&mut line, name, value)?;
-    Ok(Text::from_vec(line))
+    Text::from_vec(line)
 }
 
 fn column_twice(alloc: Global, feed: &Text, column: &Text) -> Result<Text, Memory>
@@ -23,7 +23,7 @@ fn column_twice(alloc: Global, feed: &Text, column: &Text) -> Result<Text, Memor
     let mut line = Vec::from_slice(alloc, b"8 ColumnTwice")?;
     add_field(&mut line, b"feed", feed)?;
     add_field(&mut line, b"name", column)?;
-    Ok(Text::from_vec(line))
+    Text::from_vec(line)
 }
 
 impl MapError {
@@ -62,7 +62,7 @@ impl MapError {
             MapError::PathBroken { path } => with_field(alloc, b"12 PathBroken", b"path", path),
             MapError::TooMany { kind } => with_field(alloc, b"13 TooMany", b"kind", kind),
             MapError::NameForm { name } => with_field(alloc, b"14 NameForm", b"name", name),
-            MapError::Memory => Ok(Text::from_vec(Vec::new(alloc))),
+            MapError::Memory => Ok(Text::empty()),
         }
     }
 }

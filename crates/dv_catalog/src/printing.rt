@@ -31,7 +31,7 @@ pub fn printed(alloc: Global, text: &[u8]) -> Result<Text, Memory>
 {
     let mut line = Vec::new(alloc);
     add_printed(&mut line, text)?;
-    Ok(Text::from_vec(line))
+    Text::from_vec(line)
 }
 
 /// Puts a field of a printed rule at the end of its line: a space, its name, an equals sign and its value.

@@ -51,7 +51,7 @@ fn key_shown(alloc: Global, key: &Key) -> Result<Text, Memory>
     for part in key.parts.items() {
         add_part(alloc, &mut shown, part)?;
     }
-    Ok(Text::from_vec(shown))
+    Text::from_vec(shown)
 }
 
 // The keys of a reference list as they are printed.
@@ -71,14 +71,14 @@ fn parted(alloc: Global, texts: &[Text]) -> Result<Text, Memory>
     ensures { IfOk result (λ made. made ≡ join_with_byte 47 texts.now) }
 {
     let Some((first, rest)) = texts.split_first() else {
-        return Ok(Text::from_vec(Vec::new(alloc)));
+        return Ok(Text::empty());
     };
     let mut made = Vec::from_slice(alloc, first.bytes())?;
     for text in rest {
         made.push(b'/')?;
         made.extend_from_slice(text.bytes())?;
     }
-    Ok(Text::from_vec(made))
+    Text::from_vec(made)
 }
 
 // Puts a field with a reference list at the end of a line.
@@ -96,7 +96,7 @@ fn with_field(alloc: Global, head: &[u8], name: &[u8], value: &Text) -> Result<T
 {
     let mut line = Vec::from_slice(alloc, head)?;
     add_field(&mut line, name, value)?;
-    Ok(Text::from_vec(line))
+    Text::from_vec(line)
 }
 
 // A rule with one field, a stamp.
@@ -105,7 +105,7 @@ fn with_stamp(alloc: Global, head: &[u8], name: &[u8], stamp: Stamp) -> Result<T
 {
     let mut line = Vec::from_slice(alloc, head)?;
     add_bytes(&mut line, name, &stamp.print())?;
-    Ok(Text::from_vec(line))
+    Text::from_vec(line)
 }
 
 // A rule that a feed's extract breaks.
@@ -122,7 +122,7 @@ fn of_record(alloc: Global, head: &[u8], feed: &Text, row_no: u32) -> Result<Tex
     let mut line = Vec::from_slice(alloc, head)?;
     add_field(&mut line, b"feed", feed)?;
     add_number(alloc, &mut line, b"row_no", u64::from(row_no))?;
-    Ok(Text::from_vec(line))
+    Text::from_vec(line)
 }
 
 // A rule that a column of a feed's extract breaks.
@@ -132,7 +132,7 @@ fn of_column(alloc: Global, head: &[u8], feed: &Text, column: &Text) -> Result<T
     let mut line = Vec::from_slice(alloc, head)?;
     add_field(&mut line, b"feed", feed)?;
     add_field(&mut line, b"name", column)?;
-    Ok(Text::from_vec(line))
+    Text::from_vec(line)
 }
 
 fn two_rows(alloc: Global, feed: &Text, earlier: u32, later: u32) -> Result<Text, Memory>
@@ -142,7 +142,7 @@ fn two_rows(alloc: Global, feed: &Text, earlier: u32, later: u32) -> Result<Text
     add_field(&mut line, b"feed", feed)?;
     add_number(alloc, &mut line, b"earlier", u64::from(earlier))?;
     add_number(alloc, &mut line, b"later", u64::from(later))?;
-    Ok(Text::from_vec(line))
+    Text::from_vec(line)
 }
 
 fn two_drivers(alloc: Global, feed: &Text, driver: &List<Key>) -> Result<Text, Memory>
@@ -151,7 +151,7 @@ fn two_drivers(alloc: Global, feed: &Text, driver: &List<Key>) -> Result<Text, M
     let mut line = Vec::from_slice(alloc, b"W18 TwoDrivers")?;
     add_field(&mut line, b"feed", feed)?;
     add_refs(alloc, &mut line, b"driver", driver)?;
-    Ok(Text::from_vec(line))
+    Text::from_vec(line)
 }
 
 fn collision(
@@ -166,7 +166,7 @@ fn collision(
     add_field(&mut line, b"table", table)?;
     add_refs(alloc, &mut line, b"first", first)?;
     add_refs(alloc, &mut line, b"second", second)?;
-    Ok(Text::from_vec(line))
+    Text::from_vec(line)
 }
 
 fn vault_full(alloc: Global, weight: u64, windows: u32) -> Result<Text, Memory>
@@ -175,7 +175,7 @@ fn vault_full(alloc: Global, weight: u64, windows: u32) -> Result<Text, Memory>
     let mut line = Vec::from_slice(alloc, b"W21 VaultFull")?;
     add_number(alloc, &mut line, b"weight", weight)?;
     add_number(alloc, &mut line, b"windows", u64::from(windows))?;
-    Ok(Text::from_vec(line))
+    Text::from_vec(line)
 }
 
 /// A rule as it is printed: its code, its name, and its fields `name=value`, parted by single spaces.

@@ -19,5 +19,5 @@ pub fn record_source(alloc: Global, feed: &FeedDef) -> Result<Text, Memory>
     bytes.extend_from_slice(source)?;
     bytes.push(b'.')?;
     bytes.extend_from_slice(name)?;
-    Ok(Text::from_vec(bytes))
+    Text::from_vec(bytes)
 }

@@ -16,7 +16,7 @@ fn named(alloc: Global, prefix: &[u8], name: &Text) -> Result<Text, Memory>
 {
     let mut bytes = Vec::from_slice(alloc, prefix)?;
     bytes.extend_from_slice(name.bytes())?;
-    Ok(Text::from_vec(bytes))
+    Text::from_vec(bytes)
 }
 
 fn add_hubs(tables: &mut List<TableId>, count: u32) -> Result<(), Memory>

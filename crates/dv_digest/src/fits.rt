@@ -31,11 +31,11 @@ fn parts_fit(refs: &[Key]) -> bool
 /// Whether there are at most 4 references, of at most 4 parts of at most 4,096 bytes each, as in every staged
 /// row. Then a room holds their text.
 #[tactic(auto, using(crate::proofs::Lengths::refs_text_fits))]
-pub fn refs_fit(refs: &List<Key>) -> bool
+pub fn refs_fit(refs: &[Key]) -> bool
     ensures value { result ≡ spec.refs_fit refs.now }
     ensures fits { IsTrue result → length (refs_text refs.now) ≤ ROOM_SIZE }
 {
-    refs.items().len() <= 4 && parts_fit(refs.items())
+    refs.len() <= 4 && parts_fit(refs)
 }
 
 /// Whether there are at most 32 attributes of at most 4,096 bytes each, as in every staged row. Then a room

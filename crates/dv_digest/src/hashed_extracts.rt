@@ -4,7 +4,6 @@ ghost use Rattle.dv_text.specs.Keys.{hashes_of};
 ghost use Rattle.dv_digest.specs.Fits as fits;
 ghost use Rattle.dv_digest.specs.HashedExtracts.{HasKeys};
 
-use crate::fits::refs_fit;
 use crate::hashes::hash_key;
 use crate::rooms::Room;
 use dv_text::{Digest, Key, KeyDigest, List, Memory, NRow, Staged};
@@ -18,12 +17,10 @@ pub struct HashedExtract<'a> {
 }
 
 // The hash key of a reference list that is no longer than those of staged rows.
-fn hash<H: KeyDigest>(digest: &H, refs: &List<Key>, room: &mut Room) -> Digest
+fn hash<H: KeyDigest>(digest: &H, refs: &[Key], room: &mut Room) -> Digest
     requires { IsTrue (fits.refs_fit refs.now) }
     ensures { result ≡ (hashes_of H.digest_of H.size).hash refs.now }
 {
-    let fit = refs_fit(refs);
-    prove!(fit);
     hash_key(digest, refs, room)
 }
 
@@ -35,7 +32,7 @@ fn hash_keys<H: KeyDigest>(alloc: Global, digest: &H, rows: &[NRow]) -> Result<L
     let mut room = Room::new(alloc)?;
     let mut keys = List::with_room(alloc, rows.len())?;
     for row in rows {
-        keys.push(hash(digest, &row.refs, &mut room))?;
+        keys.push(hash(digest, row.refs.items(), &mut room))?;
     }
     Ok(keys)
 }

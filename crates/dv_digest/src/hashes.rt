@@ -38,15 +38,15 @@ fn put_keys(room: &mut Room, refs: &[Key])
 
 /// The hash key of a reference list: the zero key where every key is missing, else the digest of the keys'
 /// texts, joined by semicolons. Takes no memory.
-pub fn hash_key<H: KeyDigest>(d: &H, refs: &List<Key>, room: &mut Room) -> Digest
+pub fn hash_key<H: KeyDigest>(d: &H, refs: &[Key], room: &mut Room) -> Digest
     requires { length (refs_text refs.now) ≤ ROOM_SIZE }
     ensures { result ≡ (hashes_of H.digest_of H.size).hash refs.now }
 {
-    if are_missing(refs.items()) {
+    if are_missing(refs) {
         return Digest::zero(d.width());
     }
     room.clear();
-    put_keys(room, refs.items());
+    put_keys(room, refs);
     d.digest(room.bytes())
 }
 

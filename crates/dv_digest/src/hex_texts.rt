@@ -9,5 +9,5 @@ pub fn hex_text(alloc: Global, d: &Digest) -> Result<Text, Memory>
     ensures { IfOk result (λ text. text ≡ encode_lower d.now) }
 {
     let text = hex::encode(alloc, d.bytes())?;
-    Ok(Text::from_vec(text.into_bytes()))
+    Text::from_vec(text.into_bytes())
 }

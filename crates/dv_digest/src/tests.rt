@@ -28,8 +28,8 @@ fn key_hex<H: KeyDigest>(
     keys: &[&[&str]],
 ) -> Result<Text, Memory> {
     let refs = refs_of(rt.alloc(), keys)?;
-    assert!(rt; refs_fit(&refs));
-    hex_text(rt.alloc(), &hash_key(d, &refs, room))
+    assert!(rt; refs_fit(refs.items()));
+    hex_text(rt.alloc(), &hash_key(d, refs.items(), room))
 }
 
 fn diff_hex<H: KeyDigest>(
@@ -111,7 +111,7 @@ fn tiny_digests_begin_with_the_first_byte(rt: HostRuntime) -> Result<(), Fail> {
 
 // 32 attributes of so many bytes.
 fn long_attributes(alloc: Global, bytes: usize) -> Result<List<Text>, Memory> {
-    let long = Text::from_vec(vec![in alloc; b'x'; bytes]?);
+    let long = Text::from_vec(vec![in alloc; b'x'; bytes]?)?;
     let mut attrs = List::new(alloc);
     for _ in 0..32 {
         attrs.push(Text::of(alloc, long.bytes())?)?;
@@ -132,8 +132,8 @@ fn the_longest_attributes_fit_and_longer_ones_do_not(rt: HostRuntime) -> Result<
     );
     assert!(rt; !attrs_fit(&long_attributes(rt.alloc(), 4097)?));
     let many = refs_of(rt.alloc(), &[&["1"], &["2"], &["3"], &["4"], &["5"]])?;
-    assert!(rt; !refs_fit(&many));
+    assert!(rt; !refs_fit(many.items()));
     let parts = refs_of(rt.alloc(), &[&["1", "2", "3", "4", "5"]])?;
-    assert!(rt; !refs_fit(&parts));
+    assert!(rt; !refs_fit(parts.items()));
     Ok(())
 }

@@ -38,7 +38,7 @@ impl MemoryDoors {
         ensures fails { IfOk result (λ d. doors_fails d ≡ fails) }
         ensures faults { IfOk result (λ d. doors_faults d ≡ 0) }
     {
-        let coming = lines.into_vec();
+        let coming = lines.into_vec()?;
         Ok(MemoryDoors {
             served: Vec::with_capacity(alloc, coming.len())?,
             coming,
