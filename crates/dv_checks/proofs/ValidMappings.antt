@@ -40,6 +40,13 @@ few_references o e (Link name) = by (find (λ link. bytes_eq link.name name) o.l
         let few = none_passes (λ link. nat_lt most_references (length link.hubs)) o.links link limits.references (found_member (λ link. bytes_eq link.name name) o.links link is).0 in
         grind (arith, nat_tests, few)
 
+-- an outline without a fault has few feeds
+pub few_feeds : (o : Outline) → spec.fault_of o ≡ None → length o.feeds < 2 ^ 32
+few_feeds o e =
+    let limits = keeps_limits o (faultless o e).over in
+    let few = limits.feeds in
+    grind (arith, nat_tests, few)
+
 -- the parts of the mapping, each made from what was read
 pub record AreParts (o : Outline) (hubs : List HubDef) (links : List LinkDef) (feeds : List FeedDef) (paths : List PathDef) : Type 0 where
   pub hubs_made : hubs ≡ map hub_def o.hubs

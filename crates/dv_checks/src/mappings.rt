@@ -31,7 +31,7 @@ fn hub_defs(alloc: Global, hubs: List<HubOutline>) -> Result<List<HubDef>, Memor
     ensures { IfOk result (λ defs. defs ≡ map spec.hub_def hubs) }
 {
     let mut defs = List::new(alloc);
-    for hub in hubs.into_vec() {
+    for hub in hubs.into_vec()? {
         let HubOutline { name, parts } = hub;
         defs.push(HubDef { name, parts })?;
     }
@@ -56,7 +56,7 @@ fn link_defs(
     ensures { IfOk result (λ defs. defs ≡ map (spec.link_def hubs.now) links) }
 {
     let mut defs = List::new(alloc);
-    for link in links.into_vec() {
+    for link in links.into_vec()? {
         defs.push(link_def(alloc, hubs, link)?)?;
     }
     Ok(defs)
@@ -136,7 +136,7 @@ fn feed_defs(
     ensures { IfOk result (λ defs. defs ≡ map (spec.feed_def hubs.now links.now) feeds) }
 {
     let mut defs = List::new(alloc);
-    for feed in feeds.into_vec() {
+    for feed in feeds.into_vec()? {
         defs.push(feed_def(alloc, hubs, links, feed)?)?;
     }
     Ok(defs)
@@ -173,7 +173,7 @@ fn path_defs(
     ensures { IfOk result (λ defs. defs ≡ map (spec.path_def hubs.now feeds.now) paths) }
 {
     let mut defs = List::new(alloc);
-    for path in paths.into_vec() {
+    for path in paths.into_vec()? {
         defs.push(path_def(alloc, hubs, feeds, path)?)?;
     }
     Ok(defs)

@@ -33,7 +33,7 @@ pub fn reply_bytes(alloc: Global, reply: &Reply) -> Result<Text, Memory>
     add_content(alloc, &mut text, reply)?;
     add_end(&mut text, reply)?;
     text.extend_from_slice(body)?;
-    Ok(Text::from_vec(text))
+    Text::from_vec(text)
 }
 
 // Room for the lines of most replies.

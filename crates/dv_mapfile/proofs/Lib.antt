@@ -1,4 +1,5 @@
 pub mod Keys
 pub mod ReadMappings
 mod ReadShapes
+mod Stopped
 pub mod Vocabulary

@@ -16,7 +16,7 @@ pub use Rattle.dv_catalog.specs.declared.outlines.HubOutline.{HubOutline}
 pub use Rattle.dv_catalog.specs.declared.outlines.Outline.{Outline}
 pub use Rattle.dv_checks.proofs.ValidMappings.{mapping_valid}
 pub use Rattle.std.proofs.Common.{Bor, Global, String, negsuc, string_bytes}
-pub use Rattle.std.proofs.lemmas.Result.{IfOk-at_ok}
+pub use Rattle.std.proofs.lemmas.Result.{IfOk-at_ok, err_from_is_err_and}
 pub use Rattle.std.proofs.lemmas.Str.{IsUtf8-from_is_utf8, is_utf8-from_IsUtf8}
 pub use Rattle.std.specs.Prelude.{Err, IfOk, IfSome, Ok, Result, codes, if◌then◌else◌, ok_or}
 pub use Rattle.std.specs.Str.{IsUtf8, is_utf8}

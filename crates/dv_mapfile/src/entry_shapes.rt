@@ -8,7 +8,7 @@ use crate::forms::{Column, PartCount};
 use crate::shape_faults::ShapeFault;
 use crate::shapes::Entry;
 use dv_catalog::{FeedOutline, HubOutline, LinkOutline, ParentName, PathOutline};
-use dv_text::{List, Text};
+use dv_text::Text;
 use std::alloc::Global;
 use toml::Table;
 
@@ -28,7 +28,7 @@ impl Entry for LinkOutline {
 
     fn read(alloc: Global, table: &Table) -> Result<LinkOutline, ShapeFault> {
         let name = required::<Text>(alloc, table, "name")?;
-        let hubs = required::<List<Text>>(alloc, table, "hubs")?;
+        let hubs = required::<Vec<Text>>(alloc, table, "hubs")?;
         no_others(alloc, table, &["name", "hubs"])?;
         Ok(LinkOutline { name, hubs })
     }
@@ -45,7 +45,7 @@ impl Entry for FeedOutline {
         let name = required::<Text>(alloc, table, "name")?;
         let source = required::<Text>(alloc, table, "source")?;
         let parent = parent(alloc, table)?;
-        let keys = required::<List<List<Column>>>(alloc, table, "keys")?;
+        let keys = required::<Vec<Vec<Column>>>(alloc, table, "keys")?;
         let sub = optional::<Column>(alloc, table, "sub")?;
         let attrs = optional::<Column>(alloc, table, "attrs")?;
         let ignore = optional::<Column>(alloc, table, "ignore")?;
@@ -85,8 +85,8 @@ impl Entry for PathOutline {
 
     fn read(alloc: Global, table: &Table) -> Result<PathOutline, ShapeFault> {
         let name = required::<Text>(alloc, table, "name")?;
-        let feeds = required::<List<Text>>(alloc, table, "feeds")?;
-        let via = required::<List<Text>>(alloc, table, "via")?;
+        let feeds = required::<Vec<Text>>(alloc, table, "feeds")?;
+        let via = required::<Vec<Text>>(alloc, table, "via")?;
         no_others(alloc, table, &["name", "feeds", "via"])?;
         Ok(PathOutline { name, feeds, via })
     }

@@ -48,7 +48,7 @@ pub(crate) fn optional<F: Form>(
     ensures { Meets result (spec.optional F.made_of key.now (table_view table.now)) }
 {
     match value_at(table, key) {
-        Some(_) => required::<List<F>>(alloc, table, key),
+        Some(_) => required::<Vec<F>>(alloc, table, key),
         None => Ok(List::new(alloc)),
     }
 }

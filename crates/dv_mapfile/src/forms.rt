@@ -75,7 +75,8 @@ impl Form for PartCount {
     }
 }
 
-impl<F: Form> Form for List<F> {
+/// The form of a list, each of whose values has a form.
+impl<F: Form> Form for Vec<F> {
     type Made = List<F::Made>;
 
     ghost made_of = { spec.list_of F.made_of };

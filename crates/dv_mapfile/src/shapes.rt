@@ -22,9 +22,10 @@ pub(crate) trait Entry: Drop {
 fn place(alloc: Global, kind: &str, number: u64, key: &[u8]) -> Result<Text, Memory>
     ensures { IfOk result (λ place. place ≡ shape.place_of kind.now number key.now) }
 {
-    let mut place = format!(in alloc; "{kind} {number} ")?.into_bytes();
-    place.extend_from_slice(key)?;
-    Ok(Text::from_vec(place))
+    let mut bytes = format!(in alloc; "{kind} {number} ")?.into_bytes();
+    bytes.extend_from_slice(key)?;
+    let place = Text::from_vec(bytes)?;
+    Ok(place)
 }
 
 // The entry of a kind that a table declares, by its number.

@@ -101,7 +101,7 @@ fn described(alloc: Global, catalog: &Catalog) -> Result<Text, Fail> {
     add_links(alloc, &mut lines, catalog.links())?;
     add_feeds(alloc, &mut lines, catalog.feeds())?;
     add_paths(alloc, &mut lines, catalog.paths())?;
-    Ok(Text::from_vec(lines))
+    Ok(Text::from_vec(lines)?)
 }
 
 const MAPPINGS: &[(&str, &str, &str, &str)] = &[

@@ -1,5 +1,8 @@
-use Rattle.dv_checks.proofs.ValidMappings.{few_references, parts_valid}
+use Rattle.dv_checks.proofs.ValidMappings.{few_feeds, few_references, parts_valid}
 use Rattle.dv_checks.proofs.mappings.mapping_of.Goals as goal
+
+pub path_defs-requires-clause-feeds_few : goal.path_defs-requires-clause-feeds_few
+path_defs-requires-clause-feeds_few c = rw c.items-2.ensures (few_feeds c.args.outline c.requires.faultless)
 
 pub feed_defs-requires-clause-references_few : goal.feed_defs-requires-clause-references_few
 feed_defs-requires-clause-references_few c = λ parent. rw c.items-4.ensures (few_references c.args.outline c.requires.faultless parent)
