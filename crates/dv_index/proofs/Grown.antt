@@ -1,6 +1,6 @@
 -- An index of the first rows and the numbers of the others are the numbers of all rows.
-use Rattle.dv_index.proofs.Vocabulary.{◌≡◌, ℕ, ◌+◌, ◌-◌, ◌≤◌, List, [], ◌++◌, length, get_or, take, arith, ap, subst, sym, ◌∙◌, length-append, range_with_len, IsPermutation, IsSorted, get_or-take, length-map, length-take-le, map-append, take_at, length-range_with_len, IsPermutation-append_left}
-use Rattle.dv_index.proofs.Vocabulary.{IsPermutation-append_right, IsPermutation-trans, length_permutation, Place, IsIndex, number_cmp, parents_of}
+use Rattle.dv_index.proofs.Vocabulary.{◌≡◌, ℕ, ◌+◌, ◌-◌, ◌≤◌, List, [], ◌++◌, length, get_or, take, arith, ap, subst, ◌∙◌, range_with_len, IsPermutation, IsSorted, get_or-take, length-take-le, length-range_with_len, IsPermutation-append_left}
+use Rattle.dv_index.proofs.Vocabulary.{IsPermutation-append_right, IsPermutation-trans, length_permutation, IsIndex, number_cmp}
 use Rattle.dv_index.proofs.Order.{within}
 use Rattle.dv_index.proofs.Ranges.{range_split}
 
@@ -18,12 +18,6 @@ all_numbers parents index more sorted fewer is e moved =
 pub index_length : (parents : List (List ℕ)) (index : List ℕ) → IsIndex parents index → length index ≡ length parents
 index_length parents index is = length_permutation (range_with_len 0 (length parents)) index is.each ∙ length-range_with_len 0 (length parents)
 
--- the index of some rows is one of the first of these and others
-pub kept_index : {X : Type 0} (place : X → Place) (old more all : List X) (index : List ℕ) → all ≡ old ++ more → IsIndex (parents_of place old) index → IsIndex (take (length index) (parents_of place all)) index
-kept_index place old more all index e is =
-    let long = index_length (parents_of place old) index is in
-    rw (e, map-append, take_at (parents_of place old) (parents_of place more) (length index) (sym long)) is
-
 -- the order of an index of the first rows is that of all rows
 pub still_sorted : (parents : List (List ℕ)) (index : List ℕ) → length index ≤ length parents → IsIndex (take (length index) parents) index → IsSorted (number_cmp parents) index
 still_sorted parents index fewer is k d low under =
@@ -38,7 +32,3 @@ pub grown_numbers : (parents : List (List ℕ)) (index range arrivals sorted : L
 grown_numbers parents index range arrivals sorted fewer is e moved merged =
     all_numbers parents index (index ++ range) sorted fewer is (ap (λ l. index ++ l) e)
     (IsPermutation-trans (index ++ range) (index ++ arrivals) sorted (IsPermutation-append_right index range arrivals moved) merged)
-
--- with others behind some rows, there are as many as the index of these has numbers, and the others
-pub counted : {X : Type 0} (place : X → Place) (old more all : List X) (index : List ℕ) → all ≡ old ++ more → IsIndex (parents_of place old) index → length all ≡ length index + length more
-counted place old more all index e is = omega (arith, ap length e, length-append old more, index_length (parents_of place old) index is, length-map old (λ row. (place row).parent))

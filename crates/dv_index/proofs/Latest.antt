@@ -1,10 +1,10 @@
 -- The row before the point up to which an index is reached is a parent's latest one, where it is the parent's.
 use Rattle.dv_index.proofs.Vocabulary.{◌≡◌, ℕ, ◌-◌, ◌<◌, ◌≤◌, inl, inr, Bool, true, false, ◌&&◌, List, Some, None, length, get_or, refl, sym, ◌∙◌, arith, nat_le, Ordering, Less, Equal, Greater, IsPartitionPoint, bytes_eq, and_from, and_parts, cases_lt, false_from_ne_true, false≢true, le-leb}
-use Rattle.dv_index.proofs.Vocabulary.{leb-true, nat_list_cmp_total, tied_itself, get_or_default, get_or-map, length-map, bytes_eq-Decides, text_cmp-IsAntisymmetric, text_cmp, Place, latest_at, IsIndex, is_reached, is_reached_by, load_at, loads_of, parent_at, parents_of}
+use Rattle.dv_index.proofs.Vocabulary.{◌∷◌, [], ◌==◌, ◌⊎◌, nat_tests, row_before, slice_get, slice_get-get_or, leb-true, nat_list_cmp_total, tied_itself, get_or_default, get_or-map, length-map, bytes_eq-Decides, text_cmp-IsAntisymmetric, text_cmp, Place, latest_at, IsIndex, is_reached, is_reached_by, load_at, loads_of, parent_at, parents_of}
 use Rattle.dv_index.proofs.LastFound.{last_none, last_found}
 use Rattle.dv_index.proofs.Order.{in_order, le_from_not_lt, number_there, within}
 
-same_cmp : (a b : List ℕ) → a ≡ b → text_cmp a b ≡ Equal
+pub same_cmp : (a b : List ℕ) → a ≡ b → text_cmp a b ≡ Equal
 same_cmp a b same = rw same (tied_itself nat_list_cmp_total b)
 
 -- a row that is reached is of the parent and early enough, or of a lesser parent
@@ -90,3 +90,43 @@ module _ {X : Type 0} (place : X → Place) (rows : List X) (index : List ℕ) (
         let ordered = rw here at (in_order (parents_of place rows) index is k (count - 1) 0 (omega arith) (omega arith)) in
         let lesser : text_cmp (parent_at (parents_of place rows) (get_or index (count - 1) 0)) (parent_at (parents_of place rows) j) ≡ Less = rw (of_parent j d under pass) less in
         false≢true (sym (rw lesser at ordered))))
+
+  -- there is a row where there is a number of one
+  some_row : (rows : List X) (n : ℕ) → n < length rows → X
+  some_row [] n under = absurd (omega arith)
+  some_row (row ∷ rows) n under = row
+
+  -- the row with the last number that is reached is the latest one, if it is of the parent
+  pub latest_is : row_before place rows index parent count ≡ latest_at place rows parent date
+  latest_is = by (cases_lt 0 count)
+    where
+      by : (0 < count) ⊎ (count ≤ 0) → row_before place rows index parent count ≡ latest_at place rows parent date
+      by (inr none) =
+          let start : count ≡ 0 = omega arith in
+          rw (latest_at_start start, start) refl
+      by (inl some) = at_row (bytes_eq (parent_at (parents_of place rows) number) parent) refl
+        where
+          number : ℕ
+          number = get_or index (count - 1) 0
+
+          small : number < length rows
+          small = rw length-map at (within (parents_of place rows) index is (count - 1) 0 (omega arith))
+
+          row : X
+          row = get_or rows number (some_row rows number small)
+
+          read : row ≡ get_or rows number row
+          read = get_or_default rows number (some_row rows number small) row small
+
+          there : slice_get rows number ≡ Some row
+          there = slice_get-get_or rows number (some_row rows number small) small
+
+          its : parent_at (parents_of place rows) number ≡ (place row).parent
+          its = get_or-map (λ row. (place row).parent) rows number (some_row rows number small) [] small
+
+          counted : (count == 0) ≡ false
+          counted = grind (arith, nat_tests)
+
+          at_row : (b : Bool) → bytes_eq (parent_at (parents_of place rows) number) parent ≡ b → row_before place rows index parent count ≡ latest_at place rows parent date
+          at_row true own = rw (counted, own, there) (sym (latest_found some row read (sym its ∙ (bytes_eq-Decides (parent_at (parents_of place rows) number) parent).0 own)))
+          at_row false other = rw (counted, other) (sym (latest_missing some row read (λ same. false≢true (sym other ∙ (bytes_eq-Decides (parent_at (parents_of place rows) number) parent).1 (its ∙ same)))))

@@ -1,3 +1,4 @@
+pub mod EntryOrder
 pub mod Grown
 pub mod LastFound
 pub mod Latest
@@ -5,5 +6,8 @@ pub mod Merging
 pub mod Moves
 pub mod Order
 pub mod Ranges
+pub mod Reached
+pub mod RowsBefore
+pub mod Scattered
 pub mod Vocabulary
 pub mod Walk

@@ -88,9 +88,9 @@ moved_more b d n f x moved =
     IsPermutation-trans ((b ++ d) ++ x ∷ n) (x ∷ ((b ++ d) ++ n)) (x ∷ (b ++ f)) (IsPermutation-middle (b ++ d) x n)
     (IsPermutation-cons x ((b ++ d) ++ n) (b ++ f) (subst (λ l. IsPermutation l (b ++ f)) (sym (append_assoc b d n)) (IsPermutation-append_right b (d ++ n) f moved)))
 
-module _ (lt : ℕ → ℕ → Bool) (o : IsStrictWeakOrder lt) (old new : List ℕ) where
-  -- of an index, the first `end` numbers are the old ones, so many places are free, and the others are done
-  pub record IsMerging (index : List ℕ) (end left : ℕ) : Type 0 where
+module _ {X : Type 0} (lt : X → X → Bool) (o : IsStrictWeakOrder lt) (old new : List X) where
+  -- of an index, the first `end` items are the old ones, so many places are free, and the others are done
+  pub record IsMerging (index : List X) (end left : ℕ) : Type 0 where
     pub end_in : end ≤ length old
     pub left_in : left ≤ length new
     pub long : length index ≡ length old + length new
@@ -99,7 +99,7 @@ module _ (lt : ℕ → ℕ → Bool) (o : IsStrictWeakOrder lt) (old new : List 
     pub olds : Rising lt (take end old ++ drop (end + left) index)
     pub news : Rising lt (take left new ++ drop (end + left) index)
 
-  pub begins : (index : List ℕ) → IsSortedBy lt old → IsSortedBy lt new → index ≡ old ++ new → IsMerging index (length old) (length new)
+  pub begins : (index : List X) → IsSortedBy lt old → IsSortedBy lt new → index ≡ old ++ new → IsMerging index (length old) (length new)
   begins index up vp e =
       let long = ap length e ∙ length-append old new in
       let none : drop (length old + length new) index ≡ [] = drop_all (length old + length new) index (omega (arith, long)) in
@@ -114,11 +114,11 @@ module _ (lt : ℕ → ℕ → Bool) (o : IsStrictWeakOrder lt) (old new : List 
       }
 
   -- the last of the new ones that are left goes in
-  pub goes_on : (index next : List ℕ) (end left l place x : ℕ) → IsMerging index end left → left ≡ l + 1 → x ≡ get_or new l 0 → place ≤ end
+  pub goes_on : (index next : List X) (end left l place : ℕ) (x d : X) → IsMerging index end left → left ≡ l + 1 → x ≡ get_or new l d → place ≤ end
       → IsPartitionPoint (λ y. not (lt x y) ≡ true) (λ y. not (lt x y) ≡ false) (take end index) place
       → length next ≡ length index → take place next ≡ take place index → drop (place + l) next ≡ x ∷ (drop place (take end index) ++ drop (end + l + 1) index)
       → IsMerging next place l
-  goes_on index next end left l place x m one number before point long front back =
+  goes_on index next end left l place x d m one number before point long front back =
       record {
         end_in = omega (arith, m.end_in);
         left_in = omega (arith, m.left_in);
@@ -129,10 +129,10 @@ module _ (lt : ℕ → ℕ → Bool) (o : IsStrictWeakOrder lt) (old new : List 
         news = rw done both.1;
       }
     where
-      b : List ℕ
+      b : List X
       b = drop place (take end old)
 
-      f : List ℕ
+      f : List X
       f = drop (end + left) index
 
       same : end + l + 1 ≡ end + left
@@ -148,10 +148,10 @@ module _ (lt : ℕ → ℕ → Bool) (o : IsStrictWeakOrder lt) (old new : List 
       inside = omega (arith, m.left_in, one)
 
       last : take left new ≡ take l new ++ x ∷ []
-      last = rw one (take_more new l 0 inside ∙ rw number refl)
+      last = rw one (take_more new l d inside ∙ ap (λ y. take l new ++ y ∷ []) (sym number))
 
       rest_new : drop l new ≡ x ∷ drop left new
-      rest_new = rw one (drop_more new l 0 inside ∙ rw number refl)
+      rest_new = rw one (drop_more new l d inside ∙ ap (λ y. y ∷ drop (l + 1) new) (sym number))
 
       rest_old : drop place old ≡ b ++ drop end old
       rest_old = ap (drop place) (sym (take-append-drop end old)) ∙ drop-append-le place (take end old) (drop end old) (omega (arith, before, length-take-le end old m.end_in))
@@ -159,13 +159,13 @@ module _ (lt : ℕ → ℕ → Bool) (o : IsStrictWeakOrder lt) (old new : List 
       parted : IsPartitionPoint (λ y. not (lt x y) ≡ true) (λ y. not (lt x y) ≡ false) (take end old) place
       parted = rw m.front at point
 
-      first : (y : ℕ) → Contains (take place old) y → lt x y ≡ false
+      first : (y : X) → Contains (take place old) y → lt x y ≡ false
       first y (k, under, there) =
           let small : k < place = omega (arith, under, length-take-le place old (omega (arith, m.end_in))) in
           let is : get_or (take end old) k y ≡ y = sym (get_or-take place (take end old) k y small) ∙ rw (take-take place end old before) there in
           not-true (lt x y) (rw is at (parted.0 k y (omega arith) small))
 
-      second : (y : ℕ) → Contains b y → lt x y ≡ true
+      second : (y : X) → Contains b y → lt x y ≡ true
       second y (k, under, there) =
           let fails = parted.1 (place + k) y (omega arith) (omega (arith, length-drop place (take end old), under)) in
           not-false (lt x y) (rw (sym (get_or-drop place (take end old) k y) ∙ there) at fails)
@@ -174,7 +174,7 @@ module _ (lt : ℕ → ℕ → Bool) (o : IsStrictWeakOrder lt) (old new : List 
       both = put_between lt o (take place old) b (take l new) f x (rw (← split) m.olds) (rw (← last) m.news) first second
 
   -- at the end all stands in order
-  pub ends : (index : List ℕ) (end : ℕ) → IsMerging index end 0 → IsPermutation (old ++ new) index × IsSortedBy lt index
+  pub ends : (index : List X) (end : ℕ) → IsMerging index end 0 → IsPermutation (old ++ new) index × IsSortedBy lt index
   ends index end m = (
     subst (IsPermutation (old ++ new)) whole
         (rw before

@@ -1,7 +1,7 @@
 -- A part of a list moved back, and an item put before it.
 use Rattle.dv_index.proofs.Vocabulary.{◌≡◌, ℕ, ◌+◌, ◌-◌, ◌<◌, ◌≤◌, List, ◌∷◌, ◌++◌, length, take, drop, set, refl, sym, ◌∙◌, ap, arith, append_assoc, paste, drop_at, drop-set, drop-take, length-drop, length-take-le, length-paste}
 
-pub put_back : (xs ys : List ℕ) (place end free x : ℕ) → place ≤ end → end + free < length xs → ys ≡ paste xs (place + free + 1) (drop place xs) (end - place)
+pub put_back : {X : Type 0} (xs ys : List X) (place end free : ℕ) (x : X) → place ≤ end → end + free < length xs → ys ≡ paste xs (place + free + 1) (drop place xs) (end - place)
     → drop (place + free) (set ys (place + free) x) ≡ x ∷ (drop place (take end xs) ++ drop (end + free + 1) xs)
 put_back xs ys place end free x le under e =
     let long : length ys ≡ length xs = ap length e ∙ length-paste xs (place + free + 1) (drop place xs) (end - place) (omega arith) (omega (arith, length-drop place xs)) in

@@ -1,6 +1,7 @@
 -- Rows by the digest under which they are looked up and by their load date.
-use Rattle.std.specs.Prelude.{ℕ, nat_le, Bool, true, ◌&&◌, List, [], ◌∷◌, Option, find, map, reverse}
+use Rattle.std.specs.Prelude.{ℕ, nat_le, Bool, true, ◌&&◌, List, [], ◌∷◌, Option, find, map, reverse, slice_get, take}
 use Rattle.std.specs.List.{filter_map, list_all}
+use Rattle.std.specs.Option.{option_map_or}
 use Rattle.std.specs.Str.{bytes_eq}
 use Rattle.dv_text.specs.Orders.{text_cmp}
 use Rattle.dv_text.specs.Sorting.{sorted_by}
@@ -22,6 +23,14 @@ latest_at place rows parent date = find (λ row. bytes_eq (place row).parent par
 -- the last row of each parent that is not later than a date, by parent
 abbrev pub latest_of_each : {X : Type 0} → (X → Place) → List X → ℕ → List X
 latest_of_each place rows date = filter_map (λ parent. latest_at place rows parent date) (sorted_by text_cmp (map (λ row. (place row).parent) rows))
+
+-- the last row of a parent
+abbrev pub last_of : {X : Type 0} → (X → Place) → List X → List ℕ → Option X
+last_of place rows parent = find (λ row. bytes_eq (place row).parent parent) (reverse rows)
+
+-- whether the row with a number fits the last row of its parent before it, if there is one
+abbrev pub fits_at : {X : Type 0} → (X → Place) → (Option X → X → Bool) → List X → ℕ → Bool
+fits_at place fits rows number = option_map_or (λ row. fits (last_of place (take number rows) (place row).parent) row) (slice_get rows number) true
 
 -- rows as they were appended, and for how many more there is room
 pub record Indexed (X : Type 0) : Type 0 where

@@ -1,10 +1,12 @@
-ghost use Rattle.std.specs.Prelude.{◌≡◌, ◌≤◌, ◌+◌, ◌++◌, IfOk, IsTrue, OnOk, length, map, option_map, vec_capacity};
-ghost use Rattle.dv_index.specs.Places.{are_in_load_order, latest_at, latest_of_each};
+ghost use Rattle.std.specs.Prelude.{◌≡◌, ◌≤◌, ◌<◌, ◌+◌, ◌++◌, ℕ, IfOk, IsTrue, OnOk, false, length, map, option_map, true, vec_capacity};
+ghost use Rattle.dv_index.specs.Places.{are_in_load_order, fits_at, latest_at, latest_of_each};
 
+use crate::entries::Entry;
 use crate::merges::grow;
 use crate::numbers::complete;
 use crate::placed::Placed;
-use crate::{searches, walks};
+use crate::successions::Succession;
+use crate::{askings, searches, successions, walks};
 use dv_text::{Digest, List, Memory, Stamp};
 use std::alloc::Global;
 use std::marker::Model;
@@ -14,14 +16,14 @@ use std::marker::Model;
 #[derive(Drop)]
 pub struct IndexedRows<R: Placed> {
     rows: Vec<R>,
-    index: Vec<usize>,
-    // Empty between calls: room in which the numbers of new rows are put in order.
-    arrivals: Vec<usize>,
+    index: Vec<Entry>,
+    // Empty between calls: room in which the entries of new rows are put in order.
+    arrivals: Vec<Entry>,
 }
 
 impl<R: Placed> Model for IndexedRows<R> {
     ghost use Rattle.std.specs.Prelude.{◌≡◌, ◌-◌, [], IsTrue, length, min, vec_capacity};
-    ghost use Rattle.dv_index.specs.Numbers.{IsIndex, parents_of};
+    ghost use Rattle.dv_index.specs.Numbers.{AreEntries, parents_of};
     ghost use Rattle.dv_index.specs.Places.{Indexed, are_in_load_order};
 
     ghost Value = { Indexed R };
@@ -31,7 +33,7 @@ impl<R: Placed> Model for IndexedRows<R> {
       spare = min (vec_capacity t.rows - length t.rows.items) (min (vec_capacity t.index - length t.index.items) (vec_capacity t.arrivals));
     } };
 
-    ghost invariant = { λ t. IsIndex (parents_of R.place t.rows.items) t.index.items × IsTrue (are_in_load_order R.place t.rows.items) × (t.arrivals.items ≡ []) };
+    ghost invariant = { λ t. AreEntries (parents_of R.place t.rows.items) t.index.items × IsTrue (are_in_load_order R.place t.rows.items) × (t.arrivals.items ≡ []) };
 }
 
 // Puts rows behind others, for which there is room. Takes no memory.
@@ -39,8 +41,7 @@ fn append_within<R: Placed>(rows: &mut Vec<R>, more: List<R>)
     requires { length rows.old.items + length more ≤ vec_capacity rows.old }
     ensures { rows.new.items ≡ rows.old.items ++ more }
 {
-    let mut more = more.into_vec();
-    rows.append(&mut more).unwrap();
+    more.append_to(rows);
 }
 
 impl<R: Placed> IndexedRows<R> {
@@ -49,7 +50,7 @@ impl<R: Placed> IndexedRows<R> {
         requires { IsTrue (are_in_load_order R.place rows) }
         ensures { IfOk result (λ table. table.rows ≡ rows) }
     {
-        let rows = rows.into_vec();
+        let rows = rows.into_vec()?;
         let mut index = Vec::with_capacity(alloc, rows.len())?;
         complete(&rows, &mut index);
         Ok(IndexedRows {
@@ -79,12 +80,30 @@ impl<R: Placed> IndexedRows<R> {
         searches::latest(&self.rows, &self.index, parent, date)
     }
 
+    /// Of each of these parents its last row that is not later than the date, in their order; none where it
+    /// has no such row. The parents are put in order first, so that one walk over the index finds all.
+    pub fn latest_of(&self, parents: &[Digest], date: Stamp) -> Result<Vec<Option<&R>>, Memory>
+        ensures { IfOk result (λ found. map (option_map (λ row. row.now)) found.items ≡ map (λ parent. latest_at R.place self.now.rows parent date) parents.now) }
+    {
+        askings::latest_of(self.allocator(), &self.rows, &self.index, parents, date)
+    }
+
     /// The last row of each parent that is not later than the date, by parent: the references point into the
     /// table. One walk over the index.
     pub fn latest_of_each(&self, date: Stamp) -> Result<Vec<&R>, Memory>
         ensures { IfOk result (λ found. map (λ row. row.now) found.items ≡ latest_of_each R.place self.now.rows date) }
     {
         walks::latest_of_each(self.allocator(), &self.rows, &self.index, date)
+    }
+
+    /// How many of the first rows fit the last row of their parent before them: all, or those before the first row
+    /// that doesn't. Takes no memory. One walk over the index.
+    pub fn fit_count<S: Succession<R>>(&self, succession: &S) -> usize
+        ensures within { result ≤ length self.now.rows }
+        ensures fit { (number : ℕ) → number < result → fits_at R.place (S.fits succession.now) self.now.rows number ≡ true }
+        ensures stops { result < length self.now.rows → fits_at R.place (S.fits succession.now) self.now.rows result ≡ false }
+    {
+        successions::fit_count(&self.rows, &self.index, succession)
     }
 
     /// Makes room for so many more rows. The rows stay as they are, also for want of memory.

@@ -1,10 +1,11 @@
-// Rows by their numbers, and the numbers in the order of an index.
-ghost use Rattle.std.specs.Prelude.{◌≡◌, ◌≤◌, ◌+◌, ◌-◌, ◌++◌, length, nat_le, take, vec_capacity};
+// Rows by their numbers, and their entries in the order of an index.
+ghost use Rattle.std.specs.Prelude.{◌≡◌, ◌≤◌, ◌<◌, ◌-◌, [], All, length, map, nat_le, vec_capacity};
 ghost use Rattle.std.specs.List.{range_with_len};
 ghost use Rattle.std.specs.List.Sorted.{IsPermutation, IsSorted};
-ghost use Rattle.dv_index.specs.Numbers.{number_cmp, parents_of, loads_of, IsIndex};
+ghost use Rattle.dv_index.specs.Numbers.{entry_cmp, parents_of, loads_of, AreEntries, IsEntry};
 ghost use Rattle.dv_index.specs.Numbers as spec;
 
+use crate::entries::Entry;
 use crate::placed::Placed;
 use dv_text::Stamp;
 use std::cmp::Ordering;
@@ -30,43 +31,64 @@ pub(crate) fn is_early<R: Placed>(rows: &[R], number: usize, date: Stamp) -> boo
 }
 
 // Rows by their numbers: by parent, then by number.
-pub(crate) fn compared<R: Placed>(rows: &[R], a: usize, b: usize) -> Ordering
-    ensures { result ≡ number_cmp (parents_of R.place rows.now) a b }
+fn compared_rows<R: Placed>(rows: &[R], a: usize, b: usize) -> Ordering
+    ensures { result ≡ spec.number_cmp (parents_of R.place rows.now) a b }
 {
     parent_at(rows, a).cmp(&parent_at(rows, b)).then(a.cmp(&b))
 }
 
-// Puts the numbers from a start to an end behind others, for which there is room. Takes no memory.
-pub(crate) fn add_numbers(index: &mut Vec<usize>, start: usize, end: usize)
-    requires range { start ≤ end }
-    requires room { length index.old.items + (end - start) ≤ vec_capacity index.old }
-    ensures items { index.new.items ≡ index.old.items ++ range_with_len start (end - start) }
-    ensures capacity { vec_capacity index.old ≤ vec_capacity index.new }
+// Entries by their prefixes; the rows are read only where these tie.
+pub(crate) fn compared<R: Placed>(rows: &[R], a: Entry, b: Entry) -> Ordering
+    ensures { result ≡ entry_cmp (parents_of R.place rows.now) a b }
 {
-    for number in start..end {
-        match index.push(number) {
+    match a.prefix.cmp(&b.prefix) {
+        Ordering::Equal => compared_rows(rows, a.number, b.number),
+        unequal => unequal,
+    }
+}
+
+// The entry of the row with a number.
+fn entry_at<R: Placed>(rows: &[R], number: usize) -> Entry
+    requires { number < length rows.now }
+    ensures value { result ≡ spec.entry_at (parents_of R.place rows.now) number }
+    ensures kept { IsEntry (parents_of R.place rows.now) result }
+{
+    Entry {
+        prefix: rows[number].parent().prefix(),
+        number,
+    }
+}
+
+// Makes the entries of the rows from a start on in a list without any, in which there is room. Takes no memory.
+pub(crate) fn put_entries<R: Placed>(rows: &[R], made: &mut Vec<Entry>, start: usize)
+    requires range { start ≤ length rows.now }
+    requires none { made.old.items ≡ [] }
+    requires room { length rows.now - start ≤ vec_capacity made.old }
+    ensures items { made.new.items ≡ map (spec.entry_at (parents_of R.place rows.now)) (range_with_len start (length rows.now - start)) }
+    ensures each { All (IsEntry (parents_of R.place rows.now)) made.new.items }
+{
+    for number in start..rows.len() {
+        match made.push(entry_at(rows, number)) {
             Ok(()) => {}
             Err(_) => unreachable!(),
         }
     }
 }
 
-// Puts numbers of rows in order. Takes no memory.
-pub(crate) fn sort_numbers<R: Placed>(rows: &[R], index: &mut Vec<usize>)
+// Puts entries in order. Takes no memory.
+pub(crate) fn sort_entries<R: Placed>(rows: &[R], index: &mut Vec<Entry>)
     ensures each { IsPermutation index.old.items index.new.items }
-    ensures ordered { IsSorted (number_cmp (parents_of R.place rows.now)) index.new.items }
+    ensures ordered { IsSorted (entry_cmp (parents_of R.place rows.now)) index.new.items }
 {
     index.sort_unstable_by(|a, b| compared(rows, *a, *b));
 }
 
-// Brings an index of the first rows up to all rows, for whose numbers there is room. Takes no memory.
-pub(crate) fn complete<R: Placed>(rows: &[R], index: &mut Vec<usize>)
-    requires fewer { length index.old.items ≤ length rows.now }
-    requires index { IsIndex (take (length index.old.items) (parents_of R.place rows.now)) index.old.items }
+// Makes the index of rows in a list without any entry, in which there is room. Takes no memory.
+pub(crate) fn complete<R: Placed>(rows: &[R], index: &mut Vec<Entry>)
+    requires none { index.old.items ≡ [] }
     requires room { length rows.now ≤ vec_capacity index.old }
-    ensures { IsIndex (parents_of R.place rows.now) index.new.items }
+    ensures { AreEntries (parents_of R.place rows.now) index.new.items }
 {
-    let start = index.len();
-    add_numbers(index, start, rows.len());
-    sort_numbers(rows, index);
+    put_entries(rows, index, 0);
+    sort_entries(rows, index);
 }

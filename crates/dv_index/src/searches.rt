@@ -1,10 +1,12 @@
 // Look-ups in an index by binary search.
-ghost use Rattle.std.specs.Prelude.{◌≡◌, ◌≤◌, IsTrue, length, true, false, option_map};
+ghost use Rattle.std.specs.Prelude.{◌≡◌, ◌≤◌, IsTrue, length, option_map, true, false};
 ghost use Rattle.std.specs.List.Sorted.{IsPartitionPoint};
-ghost use Rattle.dv_index.specs.Numbers.{IsIndex, loads_of, parents_of};
+ghost use Rattle.std.specs.Str.{bytes_eq};
+ghost use Rattle.dv_index.specs.Numbers.{AreEntries, IsEntry, loads_of, numbers_of, parents_of};
 ghost use Rattle.dv_index.specs.Numbers as spec;
 ghost use Rattle.dv_index.specs.Places.{are_in_load_order, latest_at};
 
+use crate::entries::Entry;
 use crate::numbers::{is_early, parent_at};
 use crate::placed::Placed;
 use dv_text::{Digest, Stamp};
@@ -21,44 +23,82 @@ pub(crate) fn is_reached<R: Placed>(rows: &[R], number: usize, parent: &[u8], da
     }
 }
 
-fn is_reached_by<R: Placed>(rows: &[R], number: usize, parent: &Digest, date: Stamp) -> bool
-    ensures { result ≡ spec.is_reached (parents_of R.place rows.now) (loads_of R.place rows.now) parent.now date number }
+// The same of an entry: its row is read only where its prefix is that of the parent.
+pub(crate) fn is_entry_reached<R: Placed>(
+    rows: &[R],
+    entry: Entry,
+    prefix: u64,
+    parent: &Digest,
+    date: Stamp,
+) -> bool
+    ensures { result ≡ spec.is_entry_reached (parents_of R.place rows.now) (loads_of R.place rows.now) parent.now prefix date entry }
 {
-    is_reached(rows, number, parent.bytes(), date)
+    match entry.prefix.cmp(&prefix) {
+        Ordering::Less => true,
+        Ordering::Equal => is_reached(rows, entry.number, parent.bytes(), date),
+        Ordering::Greater => false,
+    }
 }
 
-// How many of the index's first rows are of a lesser parent, or of this one and not later than the date.
-fn reached_count<R: Placed>(rows: &[R], index: &[usize], parent: &Digest, date: Stamp) -> usize
-    requires index { IsIndex (parents_of R.place rows.now) index.now }
+// How many of the index's first entries are of a lesser parent, or of this one and not later than the date.
+fn reached_count<R: Placed>(rows: &[R], index: &[Entry], parent: &Digest, date: Stamp) -> usize
+    requires index { AreEntries (parents_of R.place rows.now) index.now }
     requires order { IsTrue (are_in_load_order R.place rows.now) }
     ensures within { result ≤ length index.now }
     ensures point { IsPartitionPoint
         (λ number. spec.is_reached (parents_of R.place rows.now) (loads_of R.place rows.now) parent.now date number ≡ true)
         (λ number. spec.is_reached (parents_of R.place rows.now) (loads_of R.place rows.now) parent.now date number ≡ false)
-        index.now result }
+        (numbers_of index.now) result }
 {
-    index.partition_point(|number| is_reached_by(rows, *number, parent, date))
+    let prefix = parent.prefix();
+    index.partition_point(|entry| is_entry_reached(rows, *entry, prefix, parent, date))
+}
+
+// Whether the row of an entry is of a parent: it is read only where their prefixes tie.
+fn is_of<R: Placed>(rows: &[R], entry: Entry, parent: &Digest) -> bool
+    requires { IsEntry (parents_of R.place rows.now) entry }
+    ensures { result ≡ bytes_eq (spec.parent_at (parents_of R.place rows.now) entry.number) parent.now }
+{
+    entry.prefix == parent.prefix() && parent_at(rows, entry.number) == parent.bytes()
+}
+
+// The row of the last of so many first entries, if it is of the parent.
+pub(crate) fn row_before<'a, R: Placed>(
+    rows: &'a [R],
+    index: &[Entry],
+    parent: &Digest,
+    count: usize,
+) -> Option<&'a R>
+    requires index { AreEntries (parents_of R.place rows.now) index.now }
+    requires within { count ≤ length index.now }
+    ensures { option_map (λ row. row.now) result ≡ spec.row_before R.place rows.now (numbers_of index.now) parent.now count }
+{
+    if count == 0 {
+        return None;
+    }
+    let entry = index[count - 1];
+    if is_of(rows, entry, parent) {
+        rows.get(entry.number)
+    } else {
+        None
+    }
 }
 
 // The parent's last row that is not later than the date.
 pub(crate) fn latest<'a, R: Placed>(
     rows: &'a [R],
-    index: &[usize],
+    index: &[Entry],
     parent: &Digest,
     date: Stamp,
 ) -> Option<&'a R>
-    requires index { IsIndex (parents_of R.place rows.now) index.now }
+    requires index { AreEntries (parents_of R.place rows.now) index.now }
     requires order { IsTrue (are_in_load_order R.place rows.now) }
     ensures { option_map (λ row. row.now) result ≡ latest_at R.place rows.now parent.now date }
 {
-    let count = reached_count(rows, index, parent, date);
-    if count == 0 {
-        return None;
-    }
-    let row = &rows[index[count - 1]];
-    if row.parent() == parent {
-        Some(row)
-    } else {
-        None
-    }
+    row_before(
+        rows,
+        index,
+        parent,
+        reached_count(rows, index, parent, date),
+    )
 }

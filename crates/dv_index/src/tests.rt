@@ -1,4 +1,4 @@
-ghost use Rattle.std.specs.Prelude.{◌≡◌, nat_le};
+ghost use Rattle.std.specs.Prelude.{◌≡◌, is_none, nat_le};
 ghost use Rattle.std.specs.List.{list_all};
 ghost use Rattle.dv_index.specs.Places.{are_in_load_order};
 
@@ -27,6 +27,17 @@ impl Placed for Row {
     }
 }
 
+// Each parent has one row.
+struct Once;
+
+impl Succession<Row> for Once {
+    ghost fits = { λ once last row. is_none last };
+
+    fn fits(&self, last: Option<&Row>, _row: &Row) -> bool {
+        last.is_none()
+    }
+}
+
 // The parents and days of rows, which are numbered from 0.
 const OLD: &[(u8, i64)] = &[(2, 1), (4, 1), (2, 2), (6, 2)];
 
@@ -50,8 +61,71 @@ const LATEST: &[(u8, i64, Option<u64>)] = &[
     (8, 9, None),
 ];
 
+// Names of parents, a day, and the numbers of their last rows that are not later.
+const ASKED: &[(&[u8], i64, &[Option<u64>])] = &[
+    (&[], 9, &[]),
+    (&[1, 2, 4, 6], 0, &[None, None, None, None]),
+    (&[6, 2, 4], 1, &[None, Some(0), Some(1)]),
+    (
+        &[2, 2, 7, 7, 2, 4],
+        2,
+        &[Some(2), Some(2), None, None, Some(2), Some(1)],
+    ),
+    (
+        &[0, 1, 3, 4, 5, 6, 7, 8],
+        9,
+        &[
+            None,
+            Some(4),
+            Some(5),
+            Some(6),
+            None,
+            Some(3),
+            Some(8),
+            None,
+        ],
+    ),
+    (
+        &[8, 7, 6, 5, 4, 3, 1, 0],
+        9,
+        &[
+            None,
+            Some(8),
+            Some(3),
+            None,
+            Some(6),
+            Some(5),
+            Some(4),
+            None,
+        ],
+    ),
+];
+
+// The ninth and the last byte of parents whose other bytes are the same, and days.
+const TIED: &[(u8, u8, i64)] = &[(1, 0, 1), (2, 0, 1), (1, 9, 2), (1, 0, 3)];
+
+// Those bytes and a day, and the number of the parent's last row that is not later.
+const LATEST_TIED: &[(u8, u8, i64, Option<u64>)] = &[
+    (1, 0, 0, None),
+    (1, 0, 2, Some(0)),
+    (1, 0, 3, Some(3)),
+    (1, 4, 9, None),
+    (1, 9, 1, None),
+    (1, 9, 2, Some(2)),
+    (2, 0, 9, Some(1)),
+    (0, 9, 9, None),
+    (2, 1, 9, None),
+];
+
 fn parent(name: u8) -> Result<Digest, Fail> {
     Ok(Digest::of(&[name; 16]).ok_or("no digest")?)
+}
+
+fn tied_parent(ninth: u8, last: u8) -> Result<Digest, Fail> {
+    let mut bytes = [5; 16];
+    bytes[8] = ninth;
+    bytes[15] = last;
+    Ok(Digest::of(&bytes).ok_or("no digest")?)
 }
 
 fn day(number: i64) -> Result<Stamp, Fail> {
@@ -64,6 +138,18 @@ fn rows(alloc: Global, first: u64, places: &[(u8, i64)]) -> Result<Vec<Row>, Fai
         made.push(Row {
             number,
             parent: parent(name)?,
+            load: day(load)?,
+        })?;
+    }
+    Ok(made)
+}
+
+fn tied_rows(alloc: Global) -> Result<Vec<Row>, Fail> {
+    let mut made = Vec::new(alloc);
+    for ((ninth, last, load), number) in TIED.iter().copied().zip(0..) {
+        made.push(Row {
+            number,
+            parent: tied_parent(ninth, last)?,
             load: day(load)?,
         })?;
     }
@@ -90,7 +176,10 @@ fn are_in_order<R: Placed>(rows: &[R]) -> bool
 }
 
 fn table(alloc: Global, places: &[(u8, i64)]) -> Result<IndexedRows<Row>, Fail> {
-    let rows = rows(alloc, 0, places)?;
+    Ok(table_of(alloc, rows(alloc, 0, places)?)?)
+}
+
+fn table_of(alloc: Global, rows: Vec<Row>) -> Result<IndexedRows<Row>, Fail> {
     if !are_in_order(&rows) {
         return Err("no load order".into());
     }
@@ -119,6 +208,27 @@ fn latest(table: &IndexedRows<Row>, name: u8, date: i64) -> Result<Option<u64>, 
             .latest(&parent(name)?, day(date)?)
             .map(|row| row.number),
     )
+}
+
+fn latest_of(
+    alloc: Global,
+    table: &IndexedRows<Row>,
+    parents: &[Digest],
+    date: i64,
+) -> Result<Vec<Option<u64>>, Fail> {
+    let mut found = Vec::new(alloc);
+    for row in table.latest_of(parents, day(date)?)? {
+        found.push(row.map(|row| row.number))?;
+    }
+    Ok(found)
+}
+
+fn named(alloc: Global, names: &[u8]) -> Result<Vec<Digest>, Fail> {
+    let mut parents = Vec::new(alloc);
+    for name in names {
+        parents.push(parent(*name)?)?;
+    }
+    Ok(parents)
 }
 
 fn latest_of_each(alloc: Global, table: &IndexedRows<Row>, date: i64) -> Result<Vec<u64>, Fail> {
@@ -161,5 +271,77 @@ fn each_parent_has_one_row_at_a_date(rt: HostRuntime) -> Result<(), Fail> {
     assert!(rt; latest_of_each(alloc, &table, 1)?.as_slice() == [0, 1].as_slice());
     assert!(rt; latest_of_each(alloc, &table, 2)?.as_slice() == [2, 1, 3].as_slice());
     assert!(rt; latest_of_each(alloc, &table, 9)?.as_slice() == [4, 2, 5, 6, 3, 8].as_slice());
+    Ok(())
+}
+
+#[test]
+fn rows_are_told_from_the_rows_of_their_parents(rt: HostRuntime) -> Result<(), Fail> {
+    let alloc = rt.alloc();
+    let mut table = table(alloc, &[])?;
+    assert_eq!(rt; table.fit_count(&Once), 0);
+    append(alloc, &mut table, OLD)?;
+    assert_eq!(rt; table.fit_count(&Once), 2);
+    assert_eq!(rt; table_of(alloc, tied_rows(alloc)?)?.fit_count(&Once), 3);
+    assert_eq!(rt; table_of(alloc, rows(alloc, 0, NEW)?)?.fit_count(&Once), 4);
+    Ok(())
+}
+
+#[test]
+fn many_parents_are_looked_up_in_any_order(rt: HostRuntime) -> Result<(), Fail> {
+    let alloc = rt.alloc();
+    let mut table = table(alloc, OLD)?;
+    append(alloc, &mut table, NEW)?;
+    for (names, date, numbers) in ASKED {
+        let found = latest_of(alloc, &table, &named(alloc, names)?, *date)?;
+        assert!(rt; found.as_slice() == *numbers);
+    }
+    Ok(())
+}
+
+#[test]
+fn far_and_near_parents_are_found_from_one_another(rt: HostRuntime) -> Result<(), Fail> {
+    let alloc = rt.alloc();
+    let mut places = Vec::new(alloc);
+    for name in 0..100 {
+        places.push((2 * (99 - name), 1))?;
+    }
+    let table = table(alloc, &places)?;
+    let names = [
+        0, 1, 2, 3, 40, 41, 42, 100, 196, 197, 198, 199, 7, 6, 255, 0,
+    ];
+    let found = latest_of(alloc, &table, &named(alloc, &names)?, 1)?;
+    for (name, number) in names.iter().zip(found) {
+        let wanted = if name % 2 == 0 && *name < 200 {
+            Some(99 - u64::from(*name) / 2)
+        } else {
+            None
+        };
+        assert_eq!(rt; number, wanted);
+    }
+    Ok(())
+}
+
+#[test]
+fn parents_that_begin_alike_are_told_apart(rt: HostRuntime) -> Result<(), Fail> {
+    let alloc = rt.alloc();
+    let table = table_of(alloc, tied_rows(alloc)?)?;
+    for (ninth, last, date, number) in LATEST_TIED {
+        let parent = tied_parent(*ninth, *last)?;
+        assert_eq!(rt;
+            table.latest(&parent, day(*date)?).map(|row| row.number),
+            *number
+        );
+    }
+    let asked = vec![in alloc;
+        tied_parent(2, 0)?,
+        tied_parent(1, 4)?,
+        tied_parent(1, 9)?,
+        tied_parent(1, 0)?,
+    ]?;
+    assert!(rt;
+        latest_of(alloc, &table, &asked, 2)?.as_slice()
+            == [Some(1), None, Some(2), Some(0)].as_slice()
+    );
+    assert!(rt; latest_of_each(alloc, &table, 9)?.as_slice() == [3, 2, 1].as_slice());
     Ok(())
 }

@@ -1,13 +1,13 @@
 use Rattle.dv_index.proofs.Vocabulary.{◌≡◌, ◌-◌, ◌++◌, arith, ap, drop, get_or, length, refl, take, ◌∙◌, length-take-le, take_at, parents_of}
 use Rattle.dv_index.proofs.Merging.{begins, ends, goes_on}
-use Rattle.dv_index.proofs.Order.{number_lt, number_order}
+use Rattle.dv_index.proofs.EntryOrder.{entry_lt, entry_order, no_entry}
 use Rattle.dv_index.proofs.merges.merge.Goals as goal
 
 pub loop-left-init : goal.loop-left-init
 loop-left-init g c =
     let parents = parents_of g.R.Placed.place c.args.rows.now in
     let end : c.len-end.result ≡ length c.args.index.now.items = omega (arith, c.len-end.ensures, c.args.index.now.ok) in
-    rw end (begins (number_lt parents) (number_order parents) c.args.index.now.items c.args.arrivals.now c.extend_from_slice.new.self.items c.requires.olds c.requires.news (c.in-Ok.ensures {u = tt}).items)
+    rw end (begins (entry_lt parents) (entry_order parents) c.args.index.now.items c.args.arrivals.now c.extend_from_slice.new.self.items c.requires.olds c.requires.news (c.in-Ok.ensures {u = tt}).items)
 
 pub loop-left-preserved : goal.loop-left-preserved
 loop-left-preserved g c =
@@ -21,18 +21,18 @@ loop-left-preserved g c =
     let within = rw read at c.count_up_to-place.ensures.within in
     let point = rw read at c.count_up_to-place.ensures.point in
     rw next
-    (goes_on (number_lt parents) (number_order parents) c.args.index.now.items c.args.arrivals.now c.loop-left.index.items c.put_before.new.index c.loop-left.end c.loop-left.left (c.loop-left.left - 1) c.count_up_to-place.result
-    (get_or c.args.arrivals.now (c.loop-left.left - 1) 0) m (omega arith) refl (omega (arith, within, counted)) point
+    (goes_on (entry_lt parents) (entry_order parents) c.args.index.now.items c.args.arrivals.now c.loop-left.index.items c.put_before.new.index c.loop-left.end c.loop-left.left (c.loop-left.left - 1) c.count_up_to-place.result
+    (get_or c.args.arrivals.now (c.loop-left.left - 1) no_entry) no_entry m (omega arith) refl (omega (arith, within, counted)) point
     (c.put_before.ensures.len ∙ ap length value) (rw value at c.put_before.ensures.front) (rw value at c.put_before.ensures.back))
 
 pub returns-clause-each : goal.returns-clause-each
 returns-clause-each g c =
     let parents = parents_of g.R.Placed.place c.args.rows.now in
     let none : c.loop-left.left ≡ 0 = omega arith in
-    (ends (number_lt parents) (number_order parents) c.args.index.now.items c.args.arrivals.now c.loop-left.index.items c.loop-left.end (rw none at c.loop-left.invariant)).0
+    (ends (entry_lt parents) (entry_order parents) c.args.index.now.items c.args.arrivals.now c.loop-left.index.items c.loop-left.end (rw none at c.loop-left.invariant)).0
 
 pub returns-clause-ordered : goal.returns-clause-ordered
 returns-clause-ordered g c =
     let parents = parents_of g.R.Placed.place c.args.rows.now in
     let none : c.loop-left.left ≡ 0 = omega arith in
-    (ends (number_lt parents) (number_order parents) c.args.index.now.items c.args.arrivals.now c.loop-left.index.items c.loop-left.end (rw none at c.loop-left.invariant)).1
+    (ends (entry_lt parents) (entry_order parents) c.args.index.now.items c.args.arrivals.now c.loop-left.index.items c.loop-left.end (rw none at c.loop-left.invariant)).1

@@ -1,12 +1,9 @@
-use Rattle.dv_index.proofs.Vocabulary.{◌≡◌, arith, length, refl, ◌∙◌, length-map, parents_of}
-use Rattle.dv_index.proofs.Grown.{all_numbers}
+use Rattle.dv_index.proofs.Vocabulary.{◌≡◌, ◌-◌, arith, length, length-map, parents_of}
+use Rattle.dv_index.proofs.EntryOrder.{started}
 use Rattle.dv_index.proofs.numbers.complete.Goals as goal
 
 pub returns : goal.returns
 returns g c =
     let long = length-map c.args.rows.now (λ row. (g.R.Placed.place row).parent) in
-    let start : c.len-start.result ≡ length c.args.index.now.items = omega (arith, c.len-start.ensures, c.args.index.now.ok) in
-    record {
-      each = all_numbers (parents_of g.R.Placed.place c.args.rows.now) c.args.index.now.items _ _ (omega (arith, c.requires.fewer)) c.requires.index (rw start at c.add_numbers.ensures.items ∙ rw long refl) c.sort_numbers.ensures.each;
-      ordered = c.sort_numbers.ensures.ordered;
-    }
+    let all : length c.args.rows.now - 0 ≡ length c.args.rows.now = omega arith in
+    started (parents_of g.R.Placed.place c.args.rows.now) c.put_entries.new.made.items c.sort_entries.new.index.items (rw long (rw all at c.put_entries.ensures.items)) c.put_entries.ensures.each c.sort_entries.ensures.each c.sort_entries.ensures.ordered

@@ -1,25 +1,31 @@
-use Rattle.dv_index.proofs.Vocabulary.{◌≡◌, ◌∙◌, Some, None, get_or, refl, arith, sym, append-nil, length-map, map_push, slice_get-get_or, last_row, parents_of}
+use Rattle.dv_index.proofs.Vocabulary.{◌≡◌, ◌∙◌, Some, None, get_or, refl, arith, sym, append-nil, length-map, map_push, slice_get-get_or, last_row, numbers_of, parents_of}
+use Rattle.dv_index.proofs.EntryOrder.{no_entry, number_at}
 use Rattle.dv_index.proofs.Order.{within}
 use Rattle.dv_index.proofs.Walk.{walk_more}
 use Rattle.dv_index.proofs.walks.last_rows.Goals as goal
 use Rattle.dv_index.proofs.walks.last_rows.Goals.{then-is_last+in_ok-push, else-is_last}
 
 pub bounds-rows-index : goal.bounds-rows-index
-bounds-rows-index g c = rw length-map at (within (parents_of g.R.Placed.place c.args.rows.now) c.args.index.now c.requires c.loop-place.place 0 c.loop-place-test.true)
+bounds-rows-index g c =
+    let parents = parents_of g.R.Placed.place c.args.rows.now in
+    let here = number_at parents c.args.index.now c.loop-place.place 0 no_entry c.loop-place-test.true in
+    rw (here, length-map) at (within parents (numbers_of c.args.index.now) c.requires.index c.loop-place.place 0 (rw length-map c.loop-place-test.true))
 
 pub offset_bounds-rows-index : goal.offset_bounds-rows-index
 offset_bounds-rows-index g c = let inside = bounds-rows-index g c in omega arith
 
 pub loop-place-preserved : goal.loop-place-preserved
 loop-place-preserved g c =
-    let h = last_row g.R.Placed.place c.args.rows.now c.args.index.now c.args.date in
+    let h = last_row g.R.Placed.place c.args.rows.now (numbers_of c.args.index.now) c.args.date in
     elim c.if-is_last.branch [
       | then-is_last+in_ok-push w ↦
+          let parents = parents_of g.R.Placed.place c.args.rows.now in
           let pushed = (w.in_ok-push.ensures {u = tt}).items in
           let last = sym c.is_last.ensures ∙ w.if-is_last.true in
-          let inside = rw length-map at (within (parents_of g.R.Placed.place c.args.rows.now) c.args.index.now c.requires c.loop-place.place 0 c.loop-place-test.true) in
-          let there = slice_get-get_or c.args.rows.now (get_or c.args.index.now c.loop-place.place 0) w.index-rows-index.result inside in
-          let row : h c.loop-place.place ≡ Some w.index-rows-index.result = rw (last, there, ← w.index-rows-index.is) refl in
+          let here = number_at parents c.args.index.now c.loop-place.place 0 no_entry c.loop-place-test.true in
+          let inside = rw (here, length-map) at (within parents (numbers_of c.args.index.now) c.requires.index c.loop-place.place 0 (rw length-map c.loop-place-test.true)) in
+          let there = slice_get-get_or c.args.rows.now (get_or c.args.index.now c.loop-place.place no_entry).number w.index-rows-index.result inside in
+          let row : h c.loop-place.place ≡ Some w.index-rows-index.result = rw (last, here, there, ← w.index-rows-index.is) refl in
           rw (w.found-is, pushed, map_push, c.loop-place.invariant, walk_more h c.loop-place.place (Some w.index-rows-index.result) row) refl
       | else-is_last w ↦
           let other = sym c.is_last.ensures ∙ w.if-is_last.false in

@@ -1,6 +1,6 @@
-use Rattle.dv_index.proofs.Vocabulary.{◌≡◌, map, filter_map, range_with_len, last_row}
+use Rattle.dv_index.proofs.Vocabulary.{◌≡◌, map, filter_map, range_with_len, last_row, numbers_of}
 use Rattle.dv_index.proofs.walks.last_rows.Given as goal
 
 -- those found so far
 abbrev pub invariant-loop-place : goal.invariant-loop-place
-invariant-loop-place g l = map (λ row. row.now) l.found.items ≡ filter_map (last_row g.R.Placed.place l.rows l.index l.date) (range_with_len 0 l.place)
+invariant-loop-place g l = map (λ row. row.now) l.found.items ≡ filter_map (last_row g.R.Placed.place l.rows (numbers_of l.index) l.date) (range_with_len 0 l.place)

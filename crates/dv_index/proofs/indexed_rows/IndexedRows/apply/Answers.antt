@@ -1,10 +1,10 @@
 use Rattle.dv_index.proofs.Vocabulary.{◌∙◌, arith}
-use Rattle.dv_index.proofs.Grown.{counted, kept_index}
+use Rattle.dv_index.proofs.EntryOrder.{counted, kept_entries}
 use Rattle.dv_index.proofs.indexed_rows.IndexedRows.apply.Goals as goal
 
 pub grow-requires-clause-index : goal.grow-requires-clause-index
 grow-requires-clause-index g c =
-    kept_index g.R.Placed.place c.self.inside.rows.items c.args.rows c.deref.result.now c.self.inside.index.items (c.deref.ensures.value ∙ c.append_within.ensures) c.self.invariant.0
+    kept_entries g.R.Placed.place c.self.inside.rows.items c.args.rows c.deref.result.now c.self.inside.index.items (c.deref.ensures.value ∙ c.append_within.ensures) c.self.invariant.0
 
 pub grow-requires-clause-fewer : goal.grow-requires-clause-fewer
 grow-requires-clause-fewer g c =

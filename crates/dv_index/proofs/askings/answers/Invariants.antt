@@ -1,0 +1,10 @@
+use Rattle.dv_index.proofs.Vocabulary.{◌≤◌, length, latest_at, numbers_of, option_map, take}
+use Rattle.dv_index.proofs.Scattered.{AreAnswered}
+use Rattle.dv_index.proofs.askings.answers.Given as goal
+
+-- the parents that were asked for so far have their answers in their places
+abbrev pub invariant-loop-entry : goal.invariant-loop-entry
+invariant-loop-entry g l = record {
+  within : l.count ≤ length l.index;
+  answered : AreAnswered (option_map (λ row. row.now)) (λ parent. latest_at g.R.Placed.place l.rows parent l.date) l.parents (take l.entry-index (numbers_of l.asked)) l.found.items;
+}
