@@ -2,6 +2,11 @@ pub mod FeedSteps
 pub mod GivenSteps
 pub mod LengthSteps
 pub mod NormalForms
+pub mod PartnerForms
 pub mod ReadRows
 pub mod ReadWindows
+pub mod RowForms
+pub mod RowOrders
+pub mod TextForms
 pub mod Vocabulary
+pub mod WindowForms

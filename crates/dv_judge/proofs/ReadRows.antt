@@ -155,7 +155,7 @@ module _ (feed : FeedDef) (names : List (List ℕ)) (room : ℕ) where
 -- ---- rows two by two
 
 -- no row parts ways with another, where the feed has a driver and its rule isn't broken
-partners_agree : (feed : FeedDef) (place : ℕ) (places : List ℕ) (rows : List NRow) → two_drivers feed (place ∷ places) rows ≡ None → (a b : NRow) → Contains rows a → Contains rows b → part_ways feed a b ≡ false
+pub partners_agree : (feed : FeedDef) (place : ℕ) (places : List ℕ) (rows : List NRow) → two_drivers feed (place ∷ places) rows ≡ None → (a b : NRow) → Contains rows a → Contains rows b → part_ways feed a b ≡ false
 partners_agree feed place places rows e a b a_in b_in = by (part_ways feed a b) refl
   where
     none : shared_drivers feed rows ≡ []

@@ -29,7 +29,7 @@ pub use Rattle.dv_stage.specs.declared.faults.StageFault.{StageFault}
 pub use Rattle.dv_text.proofs.Options.{got_from}
 pub use Rattle.dv_text.proofs.Passing.{none_passes, passes_where_none_fails}
 pub use Rattle.dv_text.proofs.SortedLists.{length-sorted_by}
-pub use Rattle.dv_text.specs.Normal.{is_blank, without_leading}
+pub use Rattle.dv_text.specs.Normal.{is_blank, without_leading, without_trailing}
 pub use Rattle.dv_text.specs.declared.rows.Key.{Key}
 pub use Rattle.dv_text.specs.declared.rows.NRow.{NRow}
 pub use Rattle.dv_text.specs.declared.rows.Staged.{Staged}
@@ -41,6 +41,25 @@ pub use Rattle.std.proofs.lemmas.Result.{err_from_is_err_and}
 pub use Rattle.std.specs.Char.{to_ascii_uppercase}
 pub use Rattle.std.specs.List.{prefix_len, suffix_len}
 pub use Rattle.std.specs.Option.{option_and_then}
-pub use Rattle.std.specs.Prelude.{min, reverse, ◌==◌}
+pub use Rattle.std.specs.Prelude.{min, reverse}
 pub use mathlib.Core.List.{reverse_aux}
+pub use Rattle.dv_text.proofs.Vocabulary.{AllByRecursion, Contains-get_or, IsTotalOrder, Less-from_sorted, and_from, false_from_ne_true, false≢true, is_lt, is_none, nat_cmp, nat_cmp_total, on_total, ordering_then, pointwise, row_eq, slice_cmp, slice_eq-Decides, text_cmp, texts_eq, then_total, tied_itself, sorted_from_all_adjacent}
+pub use Rattle.dv_text.proofs.Vocabulary.{Ordering, Less, Equal, length-drop, ◌&&◌, ◌==◌, ◌↔◌, ◌⊎◌}
+unfoldable pub use Rattle.std.specs.List.Sorted.{IsStrictlySortedBy}
+pub use Rattle.dv_records.specs.States.{is_keyed, is_one_row}
+pub use Rattle.dv_text.proofs.Deciding.{refs_exact, refs_total, row_eq-Decides, texts_exact, texts_total}
+pub use Rattle.dv_text.proofs.Members.{all_members, all_more, member_of_all}
+pub use Rattle.dv_text.proofs.Options.{none_from}
+pub use Rattle.dv_text.proofs.Orderings.{is_less, then_less}
+pub use Rattle.dv_text.proofs.Passing.{filter-none, none_pass, passes_at, same_answer}
+pub use Rattle.dv_text.proofs.SortedLists.{one_of_ties, sorted_by-sorted}
+pub use Rattle.dv_stage.proofs.RivalFacts.{no_rival_of_itself, rival_from, rival_parts}
+pub use Rattle.dv_judge.specs.Forms.{row_name_cmp}
+pub use Rattle.std.proofs.lemmas.Bool.{not-true}
+pub use Rattle.std.proofs.lemmas.Fn.{always_returns_same}
+pub use Rattle.std.specs.List.{IsAllAdjacentAnswer}
+pub use Rattle.std.proofs.lemmas.List.{length-take}
+pub use Rattle.std.proofs.Math.Seq.{take-length}
+pub use Rattle.std.proofs.lemmas.List.Sums.{prefix_len-le-length, suffix_len-le-length}
+pub use Rattle.std.specs.Option.{option_map_or}
 pub use Rattle.std.proofs.lemmas.Grind.{common_steps}

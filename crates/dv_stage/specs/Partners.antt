@@ -1,11 +1,13 @@
 -- Driving keys beside the references that they stand in.
-use Rattle.std.specs.Prelude.{◌≡◌, List, Bool, Option, option_map}
+use Rattle.std.specs.Prelude.{◌≡◌, ℕ, refl, List, Bool, Option, option_map}
 use Rattle.std.specs.FinMap.{IsAntisymmetric, slice_cmp-IsAntisymmetric}
 use Rattle.std.specs.Ordering.{ordering_then}
 use Rattle.std.specs.declared.cmp.Ordering.{Ordering}
 use Rattle.dv_text.specs.Exact.{both_tied, key_cmp-IsAntisymmetric}
 use Rattle.dv_text.specs.Keys.{refs_eq}
 use Rattle.dv_text.specs.Orders.{refs_cmp}
+use Rattle.dv_text.specs.PrefixLaws.{first_agrees, key_agrees}
+use Rattle.dv_text.specs.Prefixes.{Agrees, first_prefix, key_prefix}
 use Rattle.dv_text.specs.declared.rows.Key.{Key}
 use Rattle.dv_text.specs.declared.rows.NRow.{NRow}
 use Rattle.dv_catalog.specs.declared.entries.FeedDef.{FeedDef}
@@ -28,6 +30,13 @@ share_driver p q = refs_eq p.driver q.driver
 -- the first driving keys that the next ones equal
 abbrev pub first_pair : List Partner → Option (List Key)
 first_pair partners = option_map (λ p. p.driver) (first_neighbour share_driver partners)
+
+-- the number of the first driving key
+abbrev pub partner_prefix : Partner → ℕ
+partner_prefix p = first_prefix key_prefix p.driver
+
+pub partner_agrees : Agrees partner_prefix partner_cmp
+partner_agrees x y lt = rw (first_agrees key_agrees x.driver y.driver lt) refl
 
 pub partner_cmp-IsAntisymmetric : IsAntisymmetric partner_cmp
 partner_cmp-IsAntisymmetric x y e =

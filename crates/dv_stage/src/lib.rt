@@ -15,6 +15,7 @@ mod taken_rows;
 mod whole;
 
 pub use faults::StageFault;
+pub use partners::two_drivers;
 pub use stages::{Staged2, stage};
 
 #[cfg(test)]

@@ -8,7 +8,7 @@ ghost use Rattle.dv_stage.specs.Partners as spec;
 
 use crate::rows::ref_at;
 use dv_catalog::{FeedDef, Rule};
-use dv_text::{Duplicate, Exact, Key, List, Memory, NRow, sorted_distinct};
+use dv_text::{Duplicate, Exact, Key, List, Memory, NRow, Prefixed, sorted_by_prefix};
 use std::alloc::Global;
 
 // The driving keys of a row, and its references.
@@ -22,6 +22,18 @@ impl Exact for Partner {
     ghost use Rattle.dv_stage.specs.Partners.{partner_cmp-IsAntisymmetric};
 
     ghost tells_apart = { partner_cmp-IsAntisymmetric };
+}
+
+impl Prefixed for Partner {
+    ghost use Rattle.dv_stage.specs.Partners.{partner_agrees, partner_prefix};
+
+    ghost number = { partner_prefix };
+
+    fn prefix(&self) -> u128 {
+        self.driver.prefix()
+    }
+
+    ghost agrees = { partner_agrees };
 }
 
 fn driver_keys(alloc: Global, feed: &FeedDef, row: &NRow) -> Result<List<Key>, Memory>
@@ -74,19 +86,17 @@ fn first_pair(partners: &[Partner]) -> Option<&List<Key>>
 fn shared_driver(alloc: Global, feed: &FeedDef, rows: &[NRow]) -> Result<Option<List<Key>>, Memory>
     ensures { IfOk result (λ driver. driver ≡ slice_get (readings.shared_drivers feed.now rows.now) 0) }
 {
-    let partners = sorted_distinct(all_partners(alloc, feed, rows)?);
+    let partners = sorted_by_prefix(all_partners(alloc, feed, rows)?)?;
     match first_pair(partners.items()) {
         Some(driver) => Ok(Some(driver.copy()?)),
         None => Ok(None),
     }
 }
 
-// The rule of a feed with a driver whose driving keys have several partners.
-pub(crate) fn two_drivers(
-    alloc: Global,
-    feed: &FeedDef,
-    rows: &[NRow],
-) -> Result<Option<Rule>, Memory>
+/// The rule W18, where the rows of a feed break it: the feed has a driver, and two rows with the same driving
+/// keys have different references. It names the least such keys. Want of memory is the error; the rows may
+/// stand in any order, and are sorted by their driving keys once.
+pub fn two_drivers(alloc: Global, feed: &FeedDef, rows: &[NRow]) -> Result<Option<Rule>, Memory>
     ensures { IfOk result (λ rule. rule ≡ readings.two_drivers feed.now feed.now.driver rows.now) }
 {
     if feed.driver.items().is_empty() {

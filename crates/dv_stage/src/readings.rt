@@ -18,7 +18,7 @@ use crate::rows::row_at;
 use crate::taken_rows::TakenRows;
 use csv::{ByteRecord, Reader};
 use dv_catalog::{FeedDef, Rule};
-use dv_text::{Duplicate, List, Memory, NRow};
+use dv_text::{Duplicate, Memory, NRow};
 use std::alloc::Global;
 
 // The row of a record.
@@ -111,13 +111,13 @@ pub(crate) fn read_rows(
     room: u32,
     reader: &mut Reader<&[u8]>,
     row: &mut ByteRecord,
-) -> Result<List<NRow>, StageFault>
+) -> Result<Vec<NRow>, StageFault>
     requires header { IsHeader header.now }
     requires reader { IsExtractReader reader.old }
     requires room { room ≤ most_records }
     ensures ok { IfOk result (λ rows. records_rule header.now.feed.now header.now.names room 1 [] (records_left reader.old) ≡ None) }
-    ensures rows { IfOk result (λ rows. rows ≡ map (row_of header.now.feed.now header.now.names) (records_left reader.old)) }
-    ensures few { IfOk result (λ rows. length rows ≤ room) }
+    ensures rows { IfOk result (λ rows. rows.items ≡ map (row_of header.now.feed.now header.now.names) (records_left reader.old)) }
+    ensures few { IfOk result (λ rows. length rows.items ≤ room) }
     ensures broken { IfErr result (λ e. TellsRule e (records_rule header.now.feed.now header.now.names room 1 [] (records_left reader.old))) }
 {
     let mut taken = TakenRows::new(alloc, header.layout.attrs.items().is_empty());

@@ -16,7 +16,7 @@ use crate::records::{extract_reader, next_row};
 use crate::whole::whole_extract;
 use csv::{ByteRecord, Reader};
 use dv_catalog::{Catalog, FeedDef, Rule};
-use dv_text::{Duplicate, List, NRow, Staged, sorted_rows};
+use dv_text::{Duplicate, List, NRow, Staged, sorted_by_prefix};
 use std::alloc::Global;
 
 /// An extract that was staged: its rows, which ascend and are distinct, and how many records they were
@@ -58,14 +58,12 @@ fn read_behind(
         layout,
     };
     let rows = read_rows(alloc, &header, room, reader, row)?;
-    if let Some(rule) = two_drivers(alloc, feed, rows.items())? {
+    if let Some(rule) = two_drivers(alloc, feed, rows.as_slice())? {
         return Err(StageFault::Broken(rule));
     }
-    let count = rows.items().len() as u32;
-    Ok(TakenExtract {
-        rows: sorted_rows(rows),
-        count,
-    })
+    let count = rows.len() as u32;
+    let rows = sorted_by_prefix(rows)?;
+    Ok(TakenExtract { rows, count })
 }
 
 // What an extract reads as for a feed.

@@ -99,9 +99,9 @@ impl TakenRows {
         }
     }
 
-    pub(crate) fn into_rows(self) -> List<NRow>
-        ensures { result ≡ self.rows.items }
+    pub(crate) fn into_rows(self) -> Vec<NRow>
+        ensures { result.items ≡ self.rows.items }
     {
-        List::from_vec(self.rows)
+        self.rows
     }
 }

@@ -129,7 +129,7 @@ fn read(
     Ok(shown)
 }
 
-static KEYS: [(&[u8], &[u8]); 9] = [
+static KEYS: [(&[u8], &[u8]); 12] = [
     (b"K\na1\n A2 \n", b"2:A1,/|\nA2,/|\n"),
     (
         b"\xEF\xBB\xBFK\r\n\r\n\"a2\"\r\na1\r\na1",
@@ -139,6 +139,12 @@ static KEYS: [(&[u8], &[u8]); 9] = [
     (b"K,NOTES\na1,\"b,\"\"c\"\"\n\"\nA2,", b"2:A1,/|\nA2,/|\n"),
     (b"\nK\n\n\nA2\n\na1\n\n", b"2:A1,/|\nA2,/|\n"),
     (b"K\nab\xC3\xA9c\n", b"1:AB\xC3\xA9C,/|\n"),
+    (b"K\nA\0\nA\n \0\n", b"3:\0,/|\nA,/|\nA\0,/|\n"),
+    (
+        b"K\nCUSTOMER-00000012\nCUSTOMER-00000011\nCUSTOMER-0000001\n",
+        b"3:CUSTOMER-0000001,/|\nCUSTOMER-00000011,/|\nCUSTOMER-00000012,/|\n",
+    ),
+    (b"K\na\nb\nb\n", b"3:A,/|\nB,/|\n"),
     (b"K\n", b"0:"),
     (b"", b"W7 0 0 "),
     (b"K\na\nb\nc\nd\n", b"W17 4 0 "),

@@ -21,7 +21,7 @@ use crate::records::{extract_reader, next_row};
 use crate::stages::TakenExtract;
 use csv::{ByteRecord, Reader};
 use dv_catalog::{FeedDef, Rule};
-use dv_text::{List, Memory, NRow, sorted_rows};
+use dv_text::{Memory, NRow, sorted_by_prefix};
 use std::alloc::Global;
 
 fn is_of_one_name(before: &NRow, row: &NRow) -> bool
@@ -70,15 +70,15 @@ fn whole_rows(
     room: u32,
     reader: &mut Reader<&[u8]>,
     row: &mut ByteRecord,
-) -> Result<Option<List<NRow>>, Memory>
+) -> Result<Option<Vec<NRow>>, Memory>
     requires header { IsHeader header.now }
     requires reader { IsExtractReader reader.old }
     requires room { room ≤ most_records }
-    ensures ok { IfOk result (λ found. IfSome found (λ rows. spec.HasNoRivals rows → records_rule header.now.feed.now header.now.names room 1 [] (records_left reader.old) ≡ None)) }
-    ensures rows { IfOk result (λ found. IfSome found (λ rows. rows ≡ map (row_of header.now.feed.now header.now.names) (records_left reader.old))) }
-    ensures few { IfOk result (λ found. IfSome found (λ rows. length rows ≤ room)) }
+    ensures ok { IfOk result (λ found. IfSome found (λ rows. spec.HasNoRivals rows.items → records_rule header.now.feed.now header.now.names room 1 [] (records_left reader.old) ≡ None)) }
+    ensures rows { IfOk result (λ found. IfSome found (λ rows. rows.items ≡ map (row_of header.now.feed.now header.now.names) (records_left reader.old))) }
+    ensures few { IfOk result (λ found. IfSome found (λ rows. length rows.items ≤ room)) }
 {
-    let mut rows = List::new(alloc);
+    let mut rows = Vec::new(alloc);
     for row_no in 1..room + 2 {
         if !next_row(reader, row)? {
             return Ok(Some(rows));
@@ -123,11 +123,11 @@ fn whole_behind(
     let Some(rows) = whole_rows(alloc, &header, room, reader, row)? else {
         return Ok(None);
     };
-    if !is_kept(two_drivers(alloc, feed, rows.items())?) {
+    if !is_kept(two_drivers(alloc, feed, rows.as_slice())?) {
         return Ok(None);
     }
-    let count = rows.items().len() as u32;
-    let rows = sorted_rows(rows);
+    let count = rows.len() as u32;
+    let rows = sorted_by_prefix(rows)?;
     if repeats_name(rows.items()) {
         return Ok(None);
     }

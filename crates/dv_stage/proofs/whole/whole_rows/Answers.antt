@@ -6,8 +6,8 @@ pub loop-row_no-preserved : goal.loop-row_no-preserved
 loop-row_no-preserved c =
     let feed = c.args.header.now.feed.now in
     let names = c.args.header.now.names in
-    let earlier = c.loop-row_no.rows in
-    let grown = c.push.new.self in
+    let earlier = c.loop-row_no.rows.items in
+    let grown = c.push.new.self.items in
     let all = records_left c.args.reader.now in
     let left = records_left c.loop-row_no.reader in
     let rest = records_left c.next_row.new.reader in
@@ -17,9 +17,9 @@ loop-row_no-preserved c =
     let own = rw c.in-Some.is at c.in_ok-made.ensures.ok in
     record {
       reader = c.in_ok-next_row.ensures.keeps search;
-      number = rw c.in_ok-push.ensures.ok (omega (arith, length-append earlier (c.in-Some.made ∷ []), c.loop-row_no.invariant.number));
+      number = rw c.in_ok-push.ensures.items (omega (arith, length-append earlier (c.in-Some.made ∷ []), c.loop-row_no.invariant.number));
       rule = λ small apart.
           c.loop-row_no.invariant.rule (omega (arith, small)) apart
-          ∙ rule_more feed names earlier grown all left rest fields c.in-Some.made is_left c.loop-row_no.invariant.rows is_row c.in_ok-push.ensures.ok c.args.room c.loop-row_no.row_no own (omega (arith, small)) apart;
-      rows = rows_more feed names earlier grown all left rest fields c.in-Some.made is_left c.loop-row_no.invariant.rows is_row c.in_ok-push.ensures.ok;
+          ∙ rule_more feed names earlier grown all left rest fields c.in-Some.made is_left c.loop-row_no.invariant.rows is_row c.in_ok-push.ensures.items c.args.room c.loop-row_no.row_no own (omega (arith, small)) apart;
+      rows = rows_more feed names earlier grown all left rest fields c.in-Some.made is_left c.loop-row_no.invariant.rows is_row c.in_ok-push.ensures.items;
     }
