@@ -1,16 +1,8 @@
--- Deliveries that are made hashed ones are delivered, and have their hash keys.
-use Rattle.dv_key_tests.proofs.Vocabulary.{◌≡◌, List, [], ◌∷◌, refl, ap, map, AllByRecursion, All-from_recursion, Hashes, Delivery, HashedDelivery, AreHashed, delivered}
+-- A delivery that is put behind others with its hash key.
+use Rattle.dv_key_tests.proofs.Vocabulary.{◌≡◌, List, [], ◌∷◌, ◌++◌, All-push, AreHashed, HashedDelivery, Hashes, delivered, delivery_of, map-append}
 
-abbrev pub hashed_of : Hashes → Delivery → HashedDelivery
-hashed_of hashes item = record { delivery = item; digest = hashes.hash item.refs }
+pub delivered_more : (items : List HashedDelivery) (item : HashedDelivery) → delivered (items ++ item ∷ []) ≡ delivered items ++ delivery_of item ∷ []
+delivered_more items item = map-append delivery_of items (item ∷ [])
 
-pub delivered_are : (hashes : Hashes) (items : List Delivery) → delivered (map (hashed_of hashes) items) ≡ items
-delivered_are hashes [] = refl
-delivered_are hashes (item ∷ items) = ap (◌∷◌ item) (delivered_are hashes items)
-
-pub hashed_are : (hashes : Hashes) (items : List Delivery) → AreHashed hashes (map (hashed_of hashes) items)
-hashed_are hashes items = All-from_recursion _ (map (hashed_of hashes) items) (all items)
-  where
-    all : (rest : List Delivery) → AllByRecursion (λ item. item.digest ≡ hashes.hash item.delivery.refs) (map (hashed_of hashes) rest)
-    all [] = tt
-    all (item ∷ rest) = (refl, all rest)
+pub hashed_more : (hashes : Hashes) (items : List HashedDelivery) (item : HashedDelivery) → item.digest ≡ hashes.hash item.refs.now → AreHashed hashes items → AreHashed hashes (items ++ item ∷ [])
+hashed_more hashes items item is are = All-push (λ (item : HashedDelivery). item.digest ≡ hashes.hash item.refs.now) items item are is

@@ -1,10 +1,11 @@
 -- What the proofs of this crate take from elsewhere.
-pub use Rattle.dv_text.proofs.Vocabulary.{All-from_recursion, AllByRecursion, List, [], ap, list_all, map, nat_le, refl, subst, sym, true, ◌∙◌, ◌∷◌, ◌≡◌}
-pub use Rattle.dv_catalog.specs.declared.entries.Parent.TheVariants.{Hub}
+pub use Rattle.dv_text.proofs.Vocabulary.{List, [], ap, take, list_all, nat_le, subst, sym, true, ◌++◌, ◌∙◌, ◌∷◌, ◌≡◌}
 pub use Rattle.dv_keys.proofs.HubItems.{hub_items}
-pub use Rattle.dv_keys.proofs.ItemTests.{items_are}
 pub use Rattle.dv_keys.proofs.LinkItems.{link_items}
-pub use Rattle.dv_records.specs.Deltas.{AreHashed, delivered}
+pub use Rattle.dv_records.specs.Deltas.{AreHashed, delivered, delivery_of}
 pub use Rattle.dv_records.specs.declared.deliveries.Delivery.{Delivery}
 pub use Rattle.dv_records.specs.declared.deliveries.HashedDelivery.{HashedDelivery}
 pub use Rattle.dv_text.specs.Keys.{Hashes, hashes_of}
+pub use Rattle.dv_text.specs.declared.rows.Key.{Key}
+pub use Rattle.std.proofs.lemmas.List.{map-append}
+pub use Rattle.std.proofs.lemmas.List.Elements.{All-push}

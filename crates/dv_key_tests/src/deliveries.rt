@@ -1,5 +1,5 @@
 // Deliveries from text, and text of what collides.
-ghost use Rattle.std.specs.Prelude.{◌≡◌, IfOk, IsTrue, map};
+ghost use Rattle.std.specs.Prelude.{◌≡◌, ◌∷◌, ◌++◌, [], IfOk, IsTrue, OnOk};
 ghost use Rattle.dv_text.specs.Keys.{hashes_of};
 ghost use Rattle.dv_keys.specs.ItemTests as tests;
 ghost use Rattle.dv_records.specs.Deltas.{AreHashed, delivered};
@@ -59,45 +59,44 @@ pub(crate) fn deliveries(
     Ok(items)
 }
 
-fn hashed_one<H: KeyDigest>(
-    delivery: Delivery,
+// Puts a delivery at the end, with its hash key.
+fn add_hashed<'a, H: KeyDigest>(
+    made: &mut List<HashedDelivery<'a>>,
+    delivery: &'a Delivery,
     digest: &H,
     room: &mut Room,
-) -> Result<HashedDelivery, Fail>
-    ensures { IfOk result (λ made. made ≡ record { delivery = delivery; digest = (hashes_of H.digest_of H.size).hash delivery.refs }) }
+) -> Result<(), Fail>
+    ensures items { OnOk result (delivered made.new ≡ delivered made.old ++ delivery.now ∷ []) }
+    ensures hashed { OnOk result (AreHashed (hashes_of H.digest_of H.size) made.old → AreHashed (hashes_of H.digest_of H.size) made.new) }
 {
-    if !refs_fit(&delivery.refs) {
+    let refs = delivery.refs.items();
+    if !refs_fit(refs) {
         return Err("too long a list".into());
     }
-    let digest = hash_key(digest, &delivery.refs, room);
-    Ok(HashedDelivery { delivery, digest })
-}
-
-fn each_hashed<H: KeyDigest>(
-    alloc: Global,
-    items: List<Delivery>,
-    digest: &H,
-) -> Result<List<HashedDelivery>, Fail>
-    ensures { IfOk result (λ made. made ≡ map (λ item. record { delivery = item; digest = (hashes_of H.digest_of H.size).hash item.refs }) items) }
-{
-    let mut room = Room::new(alloc)?;
-    let mut made = List::new(alloc);
-    for delivery in items.into_vec() {
-        made.push(hashed_one(delivery, digest, &mut room)?)?;
-    }
-    Ok(made)
+    let item = HashedDelivery {
+        table: delivery.table,
+        refs,
+        feed: delivery.feed,
+        digest: hash_key(digest, refs, room),
+    };
+    made.push(item)?;
+    Ok(())
 }
 
 // Deliveries with their hash keys.
-pub(crate) fn hashed<H: KeyDigest>(
+pub(crate) fn hashed<'a, H: KeyDigest>(
     alloc: Global,
-    items: List<Delivery>,
+    items: &'a List<Delivery>,
     digest: &H,
-) -> Result<List<HashedDelivery>, Fail>
-    ensures items { IfOk result (λ made. delivered made ≡ items) }
+) -> Result<List<HashedDelivery<'a>>, Fail>
+    ensures items { IfOk result (λ made. delivered made ≡ items.now) }
     ensures hashed { IfOk result (λ made. AreHashed (hashes_of H.digest_of H.size) made) }
 {
-    let made = each_hashed(alloc, items, digest)?;
+    let mut room = Room::new(alloc)?;
+    let mut made = List::new(alloc);
+    for delivery in items.items() {
+        add_hashed(&mut made, delivery, digest, &mut room)?;
+    }
     Ok(made)
 }
 

@@ -36,7 +36,7 @@ fn delta<H: KeyDigest>(
     let catalog = catalog(alloc)?;
     let load = day(load)?;
     let items = deliveries(alloc, &catalog, Parent::Hub(hub), hub, keys)?;
-    let hashed = hashed(alloc, items, digest)?;
+    let hashed = hashed(alloc, &items, digest)?;
     if !are_up_to(table.rows(), load) {
         return Err("too late".into());
     }

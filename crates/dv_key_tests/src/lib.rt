@@ -1,4 +1,4 @@
-//! Tests of the tables of hubs and links, and of lists that are new beside those held. Each scenario is a line of text and tells a text:
+//! Tests of the tables of hubs and links, and of what tells deliveries. Each scenario is a line of text and tells a text:
 //! so a test has one call and one comparison.
 #![tactic(auto)]
 

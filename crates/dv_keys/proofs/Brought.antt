@@ -3,15 +3,65 @@ use Rattle.dv_keys.proofs.Vocabulary.{◌≡◌, ℕ, inl, inr, Bool, true, fals
 use Rattle.dv_keys.proofs.Vocabulary.{AllByRecursion, AreHashed, HashedDelivery, delivered, list_beside, recursion_from_All, Delivery, Key, Hashes, is_missing, refs_cmp, ◌⊎◌, map_member, Contains-cons_cases, Contains-nil, Contains-cons_here, Contains-cons_there, Contains-map, filtered_members}
 use Rattle.dv_keys.proofs.Vocabulary.{ascending-sorted_by, member_after_sort, member_before_sort, Mapping}
 use Rattle.dv_keys.proofs.Vocabulary.{Hashed, HasNoClash, IsLeastClash, Rivals, are_held_apart, least_rivals, brought, hashed_by, missing_in, hashed_cmp, hashed_item, hashed_cmp-IsAntisymmetric, is_held, all_hashed, is_new, new_item, new_lists, refs_exact, refs_total, brought_lists, with_missing}
-use Rattle.dv_keys.proofs.Clashes.{as_hashed, hashed_total, least_clash, no_clash}
+use Rattle.dv_keys.proofs.Vocabulary.{sym, not, is_some, same_Some, slice_get, refs_eq, if◌then◌else◌, Option, Held, Other, LentList, Standing, hashed_list, hashed_lists, is_new_beside, kept, lent_cmp, list_under, missing_of, sorted_by-map, standing, told}
+use Rattle.dv_keys.proofs.Clashes.{as_hashed, hashed_total, has_under, least_clash, no_clash}
 
 -- lists beside their hash keys have them
 pub beside_are : (hashes : Hashes) (items : List HashedDelivery) → AreHashed hashes items → map list_beside items ≡ map (hashed_item hashes) (delivered items)
 beside_are hashes items are = all items (recursion_from_All _ items are)
   where
-    all : (rest : List HashedDelivery) → AllByRecursion (λ item. item.digest ≡ hashes.hash item.delivery.refs) rest → map list_beside rest ≡ map (hashed_item hashes) (delivered rest)
+    all : (rest : List HashedDelivery) → AllByRecursion (λ item. item.digest ≡ hashes.hash item.refs.now) rest → map list_beside rest ≡ map (hashed_item hashes) (delivered rest)
     all [] are = refl
-    all (item ∷ rest) are = let more = all rest are.1 in λ i. record { digest = are.0 i; refs = item.delivery.refs; feed = item.delivery.feed } ∷ more i
+    all (item ∷ rest) are = let more = all rest are.1 in λ i. record { digest = are.0 i; refs = item.refs.now; feed = item.feed } ∷ more i
+
+-- of deliveries of which one is the first, the missing keys are those of its table
+pub missing_first : (mapping : Mapping) (items : List HashedDelivery) (first : HashedDelivery) → slice_get items 0 ≡ Some first → missing_of mapping (delivered items) ≡ missing_in mapping first.table
+missing_first mapping [] first e = let no : None ≡ Some first = e in cc
+missing_first mapping (item ∷ items) first e = ap (λ (i : HashedDelivery). missing_in mapping i.table) (same_Some item first e)
+
+-- and what they bring is as much as those
+pub brought_first : (mapping : Mapping) (hashes : Hashes) (items : List HashedDelivery) (first : HashedDelivery) → slice_get items 0 ≡ Some first → (missing : List Key) → missing ≡ missing_of mapping (delivered items)
+    → hashed_lists hashes missing first.feed (delivered items) ≡ brought_lists mapping hashes (delivered items)
+brought_first mapping hashes [] first e missing is = let no : None ≡ Some first = e in cc
+brought_first mapping hashes (item ∷ items) first e missing is =
+    let same = same_Some item first e in
+    λ i. sorted_by hashed_cmp (hashed_list hashes (is i) (sym same i).feed ∷ map (hashed_item hashes) (delivered (item ∷ items)))
+
+-- lists in order, and what is said of them in order
+pub told_in_order : (hashes : Hashes) (missing : List Key) (feed : ℕ) (items : List HashedDelivery) → AreHashed hashes items → (lists : List LentList) → map told lists ≡ hashed_list hashes missing feed ∷ map list_beside items
+    → map told (sorted_by lent_cmp lists) ≡ hashed_lists hashes missing feed (delivered items)
+told_in_order hashes missing feed items are lists is =
+    sym (sorted_by-map hashed_cmp told lists) ∙ ap (sorted_by hashed_cmp) (is ∙ ap (λ rest. hashed_list hashes missing feed ∷ rest) (beside_are hashes items are))
+
+-- ---- how lists stand to those that are held
+
+-- a list is new exactly where it is not missing, and none has its hash key
+new_stands : (held : List Hashed) (list : LentList) → is_new_beside list (standing held (told list)) ≡ is_new held (told list)
+new_stands held list = by (list_under list.digest held) refl (has_under held list.digest)
+  where
+    by : (o : Option (List Key)) → list_under list.digest held ≡ o → is_held list.digest held ≡ is_some (list_under list.digest held) → is_new_beside list (standing held (told list)) ≡ is_new held (told list)
+    by None e is = let none : is_held list.digest held ≡ false = is ∙ ap is_some e in rw (e, none) (missing (list_all is_missing list.refs.now))
+      where
+        missing : (t : Bool) → not t ≡ not (t || false)
+        missing true = refl
+        missing false = refl
+    by (Some other) e is = let there : is_held list.digest held ≡ true = is ∙ ap is_some e in rw (e, there) (same (refs_eq other list.refs.now) (list_all is_missing list.refs.now))
+      where
+        same : (u t : Bool) → is_new_beside list (if u then Held else Other) ≡ not (t || true)
+        same true true = refl
+        same true false = refl
+        same false true = refl
+        same false false = refl
+
+-- those that are kept are the new ones
+pub kept_new : (held : List Hashed) (lists : List LentList) → kept lists (map (λ list. standing held (told list)) lists) ≡ filter (is_new held) (map told lists)
+kept_new held [] = refl
+kept_new held (list ∷ lists) = by (is_new held (told list)) refl (kept_new held lists)
+  where
+    by : (t : Bool) → is_new held (told list) ≡ t → kept lists (map (λ list. standing held (told list)) lists) ≡ filter (is_new held) (map told lists)
+        → kept (list ∷ lists) (map (λ list. standing held (told list)) (list ∷ lists)) ≡ filter (is_new held) (map told (list ∷ lists))
+    by true e rest = let new = new_stands held list ∙ e in rw (new, e) (ap (◌∷◌ (told list)) rest)
+    by false e rest = let new = new_stands held list ∙ e in rw (new, e) rest
 
 -- where nothing clashes, lists of one hash key are one
 pub one_list : (all : List Hashed) → HasNoClash all → (digest : List ℕ) (a b : List Key) → Contains all (record { digest = digest; refs = a }) → Contains all (record { digest = digest; refs = b }) → a ≡ b

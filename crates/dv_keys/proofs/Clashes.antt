@@ -2,10 +2,12 @@
 use Rattle.dv_keys.proofs.Vocabulary.{◌≡◌, ◌⊎◌, ℕ, inl, inr, Bool, true, false, List, [], ◌∷◌, ◌++◌, Option, Some, None, refl, sym, ◌∙◌, ap, subst, map, option_map, Contains, find, slice_get, IsTotalOrder, on_total, then_total, tied_itself, nat_list_cmp_total, nat_cmp-IsAntisymmetric}
 use Rattle.dv_keys.proofs.Vocabulary.{slice_cmp-IsAntisymmetric, cons_option, filter_map, IsStrictlySortedBy, bytes_eq, Ordering, Less, Equal, Greater, nat_cmp_total, Contains-append_cases, Contains-append_left, Contains-append_right, Contains-map, map_member, bytes_eq-Decides, Key}
 use Rattle.dv_keys.proofs.Vocabulary.{refs_eq, refs_cmp, sorted_by, Contains-cons_cases, Contains-cons_here, Contains-cons_there, Contains-nil, filter_map_member, member_of_all, member_of_filter_map, ascending-sorted_by, member_after_sort, member_before_sort, digest_cmp, Pair, Hashed}
-use Rattle.dv_keys.proofs.Vocabulary.{HasNoClash, IsClash, IsLeastClash, HashedList, Rivals, hashed_cmp, hashed_cmp-IsAntisymmetric, rivals_cmp-IsAntisymmetric, are_held_apart, is_other_held, list_under, all_neighbours, all_rivals, least_rivals, neighbours, rivals_cmp, rivals_of, held_rival}
+use Rattle.dv_keys.proofs.Vocabulary.{HasNoClash, IsClash, IsLeastClash, HashedList, Rivals, hashed_cmp, hashed_cmp-IsAntisymmetric, rivals_cmp-IsAntisymmetric, are_held_apart, list_under, all_neighbours, all_rivals, least_rivals, neighbours, rivals_cmp, rivals_of, held_rival}
 use Rattle.dv_keys.proofs.Vocabulary.{refs_eq-Decides, refs_exact}
 use Rattle.dv_keys.proofs.Vocabulary.{refs_total, finds, found_member, made_of, asymmetric, irreflexive, turned, then_less}
+use Rattle.dv_keys.proofs.Vocabulary.{is_some, list_any, map-map, or_parts, LentList, Standing, clash, has_clash, is_held, is_other, standing, told}
 use Rattle.dv_keys.proofs.Held.{one_held}
+use Rattle.dv_keys.proofs.Placed.{some_found}
 
 -- ---- orders
 
@@ -246,17 +248,76 @@ module _ (held : List Hashed) (apart : are_held_apart held ≡ true) (items : Li
                 (elim most [ inl lesser ↦ rivals_total.trans met (both other.first other.second) rivals lesser less | inr here ↦ subst (λ r. rivals_cmp r rivals ≡ Less) (sym here) less ]));
           }
 
--- where no other list is held, there is no pair of a held list
-pub no_rival : (held : List Hashed) (list : HashedList) → is_other_held list.digest list.refs held ≡ false → None ≡ held_rival held list
-no_rival held list e = by (list_under list.digest held) refl
+-- ---- where there is no pair
+
+-- of equal lists there is none
+same_none : (a b : List Key) → refs_eq a b ≡ true → rivals_of a b ≡ None
+same_none a b same =
+    let is : a ≡ b = (refs_eq-Decides a b).0 same in
+    let tied : refs_cmp a b ≡ Equal = subst (λ r. refs_cmp a r ≡ Equal) is (tied_itself refs_total a) in
+    rw tied refl
+
+no_pair : (last next : HashedList) → clash last next ≡ false → neighbours last next ≡ None
+no_pair last next apart = by (bytes_eq last.digest next.digest) refl
   where
-    by : (o : Option (List Key)) → list_under list.digest held ≡ o → None ≡ held_rival held list
+    by : (t : Bool) → bytes_eq last.digest next.digest ≡ t → neighbours last next ≡ None
+    by false e = rw e refl
+    by true e = same (refs_eq last.refs next.refs) refl
+      where
+        same : (t : Bool) → refs_eq last.refs next.refs ≡ t → neighbours last next ≡ None
+        same true f = rw e (same_none last.refs next.refs f)
+        same false f = let no : true ≡ false = rw (e, f) at apart in cc
+
+no_neighbours : (lists : List HashedList) → has_clash lists ≡ false → all_neighbours lists ≡ []
+no_neighbours [] apart = refl
+no_neighbours (last ∷ []) apart = refl
+no_neighbours (last ∷ next ∷ rest) apart =
+    let parts = or_parts (clash last next) (has_clash (next ∷ rest)) apart in
+    let here = no_pair last next parts.0 in
+    let more = no_neighbours (next ∷ rest) parts.1 in
+    rw (here, more) refl
+
+-- a list that stands beside no other has none with a held one
+no_held : (held : List Hashed) (list : HashedList) → is_other (standing held list) ≡ false → held_rival held list ≡ None
+no_held held list e = by (list_under list.digest held) refl
+  where
+    by : (o : Option (List Key)) → list_under list.digest held ≡ o → held_rival held list ≡ None
     by None f = rw f refl
     by (Some other) f = same (refs_eq other list.refs) refl
       where
-        same : (t : Bool) → refs_eq other list.refs ≡ t → None ≡ held_rival held list
-        same true g =
-            let is : other ≡ list.refs = (refs_eq-Decides other list.refs).0 g in
-            let tied : refs_cmp other list.refs ≡ Equal = subst (λ r. refs_cmp other r ≡ Equal) is (tied_itself refs_total other) in
-            rw (f, tied) refl
+        same : (t : Bool) → refs_eq other list.refs ≡ t → held_rival held list ≡ None
+        same true g = rw f (same_none other list.refs g)
         same false g = let no : true ≡ false = rw (f, g) at e in cc
+
+none_held : (held : List Hashed) (lists : List HashedList) → list_any is_other (map (standing held) lists) ≡ false → filter_map (held_rival held) lists ≡ []
+none_held held [] e = refl
+none_held held (list ∷ lists) e =
+    let parts = or_parts (is_other (standing held list)) (list_any is_other (map (standing held) lists)) e in
+    let here = no_held held list parts.0 in
+    let more = none_held held lists parts.1 in
+    rw (here, more) refl
+
+-- where neighbours do not clash, and no list stands beside another one, there is no pair
+pub none_among : (held : List Hashed) (lists : List LentList) (standings : List Standing) → standings ≡ map (λ list. standing held (told list)) lists → has_clash (map told lists) ≡ false → list_any is_other standings ≡ false
+    → None ≡ least_rivals held (map told lists)
+none_among held lists standings are apart none =
+    let near = no_neighbours (map told lists) apart in
+    let far = none_held held (map told lists) (ap (list_any is_other) (map-map (standing held) told lists ∙ sym are) ∙ none) in
+    rw (near, far) refl
+
+-- a list is held exactly where one is found under its hash key
+pub has_under : (held : List Hashed) (digest : List ℕ) → is_held digest held ≡ is_some (list_under digest held)
+has_under held digest = sym (some_found (λ (list : Hashed). bytes_eq list.digest digest) held) ∙ by (find (λ (list : Hashed). bytes_eq list.digest digest) held)
+  where
+    by : (o : Option Hashed) → is_some o ≡ is_some (option_map (λ (list : Hashed). list.refs) o)
+    by None = refl
+    by (Some list) = refl
+
+-- the pairs of lists that are made of others
+pub filter_map-map : {X Y Z : Type 0} (f : Y → Option Z) (g : X → Y) (xs : List X) → filter_map f (map g xs) ≡ filter_map (λ x. f (g x)) xs
+filter_map-map f g [] = refl
+filter_map-map {Z = Z} f g (x ∷ xs) = by (f (g x)) refl (filter_map-map f g xs)
+  where
+    by : (o : Option Z) → f (g x) ≡ o → filter_map f (map g xs) ≡ filter_map (λ x. f (g x)) xs → filter_map f (map g (x ∷ xs)) ≡ filter_map (λ x. f (g x)) (x ∷ xs)
+    by None e rest = rw e rest
+    by (Some z) e rest = rw e (ap (◌∷◌ z) rest)

@@ -2,6 +2,7 @@
 use Rattle.dv_keys.proofs.Vocabulary.{◌≡◌, ℕ, Bool, true, false, List, [], ◌∷◌, ◌++◌, ◌||◌, Option, Some, None, refl, sym, ◌∙◌, ap, subst, reverse, nat_le, option_map, map, Bor, Ok, Err, Contains, Result, IfOk, if◌then◌else◌, filter_map, list_all, Key, Window, Hashes, is_missing, sorted_by}
 use Rattle.dv_keys.proofs.Vocabulary.{filter_map_member, Place, Parent, Mapping, DeltaFault, Collision, Memory, Delivery, batch_of, Pair, collision_in, deliveries, is_known, Answers, Hashed, HasNoClash, IfCollides, IsLeastClash, HashedList, hashed_item, is_held, list_under, AreItems, delta}
 use Rattle.dv_keys.proofs.Vocabulary.{lists_of, new_row, row_cmp, all_hashed, new_lists, are_placed_rows, has_row_under, row_under}
+use Rattle.dv_keys.proofs.Vocabulary.{LentList, beside, standing, told, zip}
 use Rattle.dv_keys.proofs.Batches.{filter_map_none, filter_map_same, rows_are, rows_ascend, rows_new}
 use Rattle.dv_keys.proofs.Held.{is_held_rows, list_under_rows}
 use Rattle.dv_keys.proofs.Placed.{whole}
@@ -15,6 +16,24 @@ module _ {R : Type 0} (place : R → Place) (list : R → List Key) where
   pub one_found : (digest : List ℕ) (rows : List R) (found : Option (Bor R)) → option_map (λ (row : Bor R). row.now) found ≡ row_under place digest rows → (row : Bor R) → found ≡ Some row
       → list_under digest (lists_of place list rows) ≡ Some (list row.now)
   one_found digest rows found e row is = list_under_rows place list digest rows ∙ ap (option_map list) (sym e ∙ ap (option_map (λ (row : Bor R). row.now)) is)
+
+  -- how a list stands to the row that is found under its hash key
+  beside_row : (rows : List R) (lent : LentList) (found : Option (Bor R)) → option_map (λ (row : Bor R). row.now) found ≡ row_under place lent.digest rows
+      → beside lent.refs.now (option_map (λ (row : Bor R). list row.now) found) ≡ standing (lists_of place list rows) (told lent)
+  beside_row rows lent found e = ap (beside lent.refs.now) (by found ∙ ap (option_map list) e ∙ sym (list_under_rows place list lent.digest rows))
+    where
+      by : (o : Option (Bor R)) → option_map (λ (row : Bor R). list row.now) o ≡ option_map list (option_map (λ (row : Bor R). row.now) o)
+      by None = refl
+      by (Some row) = refl
+
+  pub beside_rows : (rows : List R) (lents : List LentList) (found : List (Option (Bor R))) → map (option_map (λ (row : Bor R). row.now)) found ≡ map (λ digest. row_under place digest rows) (map (λ (lent : LentList). lent.digest) lents)
+      → map (λ (lent, row). beside lent.refs.now (option_map (λ (r : Bor R). list r.now) row)) (zip lents found) ≡ map (λ lent. standing (lists_of place list rows) (told lent)) lents
+  beside_rows rows [] found e = refl
+  beside_rows rows (lent ∷ lents) [] e = cc
+  beside_rows rows (lent ∷ lents) (first ∷ found) e =
+      let here : option_map (λ (row : Bor R). row.now) first ≡ row_under place lent.digest rows = cc in
+      let rest : map (option_map (λ (row : Bor R). row.now)) found ≡ map (λ digest. row_under place digest rows) (map (λ (l : LentList). l.digest) lents) = cc in
+      λ i. beside_row rows lent first here i ∷ beside_rows rows lents found rest i
 
   module _ (hashes : Hashes) (row_of : HashedList → Option R) where
     module _ (load : ℕ)

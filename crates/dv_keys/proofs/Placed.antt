@@ -3,10 +3,11 @@
 use Rattle.dv_keys.proofs.Vocabulary.{◌≡◌, ◌-◌, ℕ, inl, inr, Bool, true, false, ◌&&◌, List, [], ◌∷◌, ◌++◌, Option, Some, None, refl, sym, ◌∙◌, ap, subst, arith, length, reverse, nat_le, option_map, is_some, Bor, le-leb, Contains, find, not, slice_get, nat_list_cmp_total, list_all, list_any}
 use Rattle.dv_keys.proofs.Vocabulary.{IsStrictlySortedBy, bytes_eq, Less, and_from, and_parts, false≢true, false_from_ne_true, not-true, or_parts, Contains-append_cases, bytes_eq-Decides, Contains-cons_here, Contains-cons_there, member_of_all, reverse_member, Place, are_in_load_order, irreflexive}
 use Rattle.dv_keys.proofs.Vocabulary.{latest_at, digest_cmp, up_to_last, are_parents_apart, are_placed_rows, has_row_under, row_under, all_pass, passes_at, find_none, find_same, finds, found_member, none_found_at, none_pass, some_passes_at}
+use Rattle.dv_keys.proofs.Vocabulary.{map}
 use Rattle.dv_keys.proofs.Alike.{one_alike}
 
 -- one is found exactly where one passes
-some_found : {X : Type 0} (p : X → Bool) (xs : List X) → is_some (find p xs) ≡ list_any p xs
+pub some_found : {X : Type 0} (p : X → Bool) (xs : List X) → is_some (find p xs) ≡ list_any p xs
 some_found p [] = refl
 some_found p (x ∷ xs) = by (p x) refl (some_found p xs)
   where
@@ -63,6 +64,17 @@ module _ {R : Type 0} (place : R → Place) where
       ∙ latest_is rows digest (place last).load are
       (λ x has. le-leb (place x).load (place last).load
       (up_to_last place rows last (and_parts (are_parents_apart place rows) (are_in_load_order place rows) are).1 (sym (subst (λ (l : List R). Some last ≡ slice_get l (length l - 1)) same is)) x has))
+
+  -- no row is later than the last one
+  pub none_later : (rows : List R) → are_placed_rows place rows ≡ true → (listed : List R) → listed ≡ rows → (last : R) → Some last ≡ slice_get listed (length listed - 1) → list_all (λ row. nat_le (place row).load (place last).load) rows ≡ true
+  none_later rows are listed same last is =
+      all_pass (λ row. nat_le (place row).load (place last).load) rows (λ row has. le-leb (place row).load (place last).load
+      (up_to_last place rows last (and_parts (are_parents_apart place rows) (are_in_load_order place rows) are).1 (sym (subst (λ (l : List R). Some last ≡ slice_get l (length l - 1)) same is)) row has))
+
+  -- the last rows of digests that are not later than a date than which no row is
+  pub rows_are : (rows : List R) (digests : List (List ℕ)) (date : ℕ) → are_placed_rows place rows ≡ true → list_all (λ row. nat_le (place row).load date) rows ≡ true
+      → map (λ digest. latest_at place rows digest date) digests ≡ map (λ digest. row_under place digest rows) digests
+  rows_are rows digests date are early = λ i. map (λ digest. latest_is rows digest date are (λ row has. passes_at (λ (r : R). nat_le (place r).load date) rows row early has) i) digests
 
   -- ---- rows and new ones behind them
 

@@ -22,20 +22,22 @@ pub use Rattle.dv_catalog.specs.declared.tables.TableId.{TableId}
 pub use Rattle.dv_catalog.specs.declared.tables.TableId.TheVariants.{Effect, Multi, Sat, Status}
 pub use Rattle.dv_digest.proofs.Lengths.{refs_text_fits}
 pub use Rattle.dv_digest.specs.declared.rooms.TheConstants.{ROOM_SIZE}
-pub use Rattle.dv_keys.specs.HashedLists.{brought_lists, hashed_cmp, hashed_item, hashed_list, hashed_lists, list_beside, with_missing}
-pub use Rattle.dv_keys.specs.HashedOrder.{hashed_cmp-IsAntisymmetric, rivals_cmp-IsAntisymmetric}
-pub use Rattle.dv_keys.specs.HeldLists.{are_held_apart, differs_from, is_held, is_other_held, list_under}
+pub use Rattle.dv_keys.specs.HashedLists.{HashedList, brought_lists, hashed_cmp, hashed_item, hashed_list, hashed_lists, list_beside, missing_of, told, with_missing}
+pub use Rattle.dv_keys.specs.HashedOrder.{hashed_cmp-IsAntisymmetric, lent_cmp, rivals_cmp-IsAntisymmetric}
+pub use Rattle.dv_keys.specs.HeldLists.{are_held_apart, beside, is_held, list_under, standing}
 pub use Rattle.dv_keys.specs.HubDeltas.{AreHubItems, IsHeld, IsHubItem, IsNext, hub_delta, hub_hashed}
 pub use Rattle.dv_keys.specs.ItemTests.{are_apart, are_items, is_alone, is_item, is_table_of}
 pub use Rattle.dv_keys.specs.Items.{AreItems, IsItem, are_keys_of, is_key_of, is_parent_table, missing_key}
 pub use Rattle.dv_keys.specs.KeyDeltas.{delta, lists_of, new_row, row_cmp}
 pub use Rattle.dv_keys.specs.LinkDeltas.{AreLinkItems, AreNames, TellLists, key_with, link_delta, link_hashed}
 pub use Rattle.dv_keys.specs.LinkLists.{are_of_links, hubs_in, hubs_of, is_of_link, key_or, key_under, keys_under, stored}
-pub use Rattle.dv_keys.specs.NewLists.{all_hashed, is_new, new_item, new_lists}
+pub use Rattle.dv_keys.specs.NewLists.{all_hashed, is_new, is_new_beside, kept, new_beside, new_item, new_lists}
 pub use Rattle.dv_keys.specs.NewRows.{hub_row_of, link_row}
 pub use Rattle.dv_keys.specs.PlacedRows.{are_parents_apart, are_placed_rows, has_row_under, row_under}
-pub use Rattle.dv_keys.specs.Rivalries.{all_neighbours, all_rivals, held_rival, least_rivals, neighbours, rivals_cmp, rivals_of}
-pub use Rattle.dv_keys.specs.declared.hashed_lists.HashedList.{HashedList}
+pub use Rattle.dv_keys.specs.Rivalries.{all_neighbours, all_rivals, clash, has_clash, held_rival, is_other, least_rivals, neighbours, rivals_cmp, rivals_of}
+pub use Rattle.dv_keys.specs.declared.hashed_lists.LentList.{LentList}
+pub use Rattle.dv_keys.specs.declared.holds_lists.Standing.{Standing}
+pub use Rattle.dv_keys.specs.declared.holds_lists.Standing.TheVariants.{Held, New, Other}
 pub use Rattle.dv_keys.specs.declared.rivals.Rivals.{Rivals}
 pub use Rattle.dv_records.proofs.BatchTies.{batch_made, tied_by_digest}
 pub use Rattle.dv_text.proofs.Passing.{all_pass_replicate, find_none, find_same, list_any-map, none_found_at, none_pass, passes_got, same_answer}
@@ -46,7 +48,7 @@ pub use Rattle.dv_records.proofs.CollisionTies.{collision_free, collision_tied}
 pub use Rattle.dv_records.proofs.DatedRows.{up_to_last}
 pub use Rattle.dv_records.proofs.Delivered.{deliveries_member, delivery-offered, first_offer-member, first_offer-refs, has_first_offer, is_offered-member, offered_member}
 pub use Rattle.dv_records.proofs.HubTables.{offered_key, table_has, table_row}
-pub use Rattle.dv_records.specs.Deltas.{Answers, AreHashed, HasNoClash, Hashed, IfCollides, IsClash, IsLeastClash, brought, delivered, hashed_by, missing_in}
+pub use Rattle.dv_records.specs.Deltas.{Answers, AreHashed, HasNoClash, Hashed, IfCollides, IsClash, IsLeastClash, brought, delivered, delivery_of, hashed_by, missing_in}
 pub use Rattle.dv_records.specs.HubNames.{HubName, key_named}
 pub use Rattle.dv_records.specs.HubPlaces.{hub_place}
 pub use Rattle.dv_records.specs.LinkPlaces.{link_place}
@@ -71,3 +73,7 @@ unfoldable pub use Rattle.std.specs.List.Sorted.{IsStrictlySortedBy}
 pub use Rattle.std.specs.Prelude.{IfOk, Result, filter, ◌||◌}
 pub use Rattle.std.specs.declared.cmp.Ordering.{Ordering}
 pub use Rattle.std.specs.declared.cmp.Ordering.TheVariants.{Equal, Greater, Less}
+pub use Rattle.dv_text.proofs.StableSorts.{sorted_by-map}
+pub use Rattle.dv_text.proofs.Vocabulary.{same_Some}
+pub use Rattle.std.proofs.lemmas.List.{map-append}
+pub use Rattle.std.proofs.lemmas.Simd.{map-map}

@@ -2,10 +2,14 @@
 use Rattle.std.specs.Prelude.{◌≡◌, refl}
 use Rattle.std.specs.declared.cmp.Ordering.{Ordering}
 use Rattle.std.specs.declared.cmp.Ordering.TheVariants.{Less, Equal, Greater}
+use Rattle.std.specs.Cmp.{IsTotalOrder, nat_cmp_total, on_total, then_total}
+use Rattle.std.specs.Cmp.Lexicographic.{lists_total, nat_list_cmp_total}
 use Rattle.std.specs.FinMap.{IsAntisymmetric, nat_cmp-IsAntisymmetric, slice_cmp-IsAntisymmetric}
 use Rattle.std.specs.Ordering.{ordering_then}
 use Rattle.dv_text.specs.Exact.{key_cmp-IsAntisymmetric}
-use Rattle.dv_keys.specs.HashedLists.{hashed_cmp}
+use Rattle.dv_text.specs.declared.rows.Key.{Key}
+use Rattle.dv_keys.specs.declared.hashed_lists.LentList.{LentList}
+use Rattle.dv_keys.specs.HashedLists.{hashed_cmp, told}
 use Rattle.dv_keys.specs.Rivalries.{rivals_cmp}
 
 both_tied : (r s : Ordering) → ordering_then r s ≡ Equal → (r ≡ Equal) × (s ≡ Equal)
@@ -28,3 +32,12 @@ rivals_cmp-IsAntisymmetric x y e =
     let first = slice_cmp-IsAntisymmetric key_cmp-IsAntisymmetric x.first y.first both.0 in
     let second = slice_cmp-IsAntisymmetric key_cmp-IsAntisymmetric x.second y.second both.1 in
     λ i. record { first = first i; second = second i }
+
+-- lent lists in the order of what is said of them
+abbrev pub lent_cmp : LentList → LentList → Ordering
+lent_cmp a b = hashed_cmp (told a) (told b)
+
+pub lent_total : IsTotalOrder lent_cmp
+lent_total =
+    then_total (on_total (λ (list : LentList). list.digest) nat_list_cmp_total)
+    (then_total (on_total (λ (list : LentList). list.refs.now) (lists_total (on_total (λ (key : Key). key.parts) (lists_total nat_list_cmp_total)))) (on_total (λ (list : LentList). list.feed) nat_cmp_total))

@@ -1,10 +1,13 @@
 -- The reference lists that a table holds, each under its hash key.
-use Rattle.std.specs.Prelude.{ℕ, Bool, true, false, not, ◌&&◌, List, [], ◌∷◌, Option, Some, None, find, option_map}
+use Rattle.std.specs.Prelude.{ℕ, Bool, true, not, ◌&&◌, List, [], ◌∷◌, Option, Some, None, find, if◌then◌else◌, option_map}
 use Rattle.std.specs.List.{list_any}
 use Rattle.std.specs.Str.{bytes_eq}
 use Rattle.dv_text.specs.declared.rows.Key.{Key}
 use Rattle.dv_text.specs.Keys.{refs_eq}
 use Rattle.dv_records.specs.Deltas.{Hashed}
+use Rattle.dv_keys.specs.HashedLists.{HashedList}
+use Rattle.dv_keys.specs.declared.holds_lists.Standing.{Standing}
+use Rattle.dv_keys.specs.declared.holds_lists.Standing.TheVariants.{Held, New, Other}
 
 -- the list with a hash key
 abbrev pub list_under : List ℕ → List Hashed → Option (List Key)
@@ -14,13 +17,14 @@ list_under digest held = option_map (λ list. list.refs) (find (λ list. bytes_e
 abbrev pub is_held : List ℕ → List Hashed → Bool
 is_held digest held = list_any (λ list. bytes_eq list.digest digest) held
 
-abbrev pub differs_from : List Key → Option (List Key) → Bool
-differs_from refs None = false
-differs_from refs (Some other) = not (refs_eq other refs)
+-- how a list stands to the one that has its hash key
+abbrev pub beside : List Key → Option (List Key) → Standing
+beside refs None = New
+beside refs (Some other) = if refs_eq other refs then Held else Other
 
--- whether another list has the hash key
-abbrev pub is_other_held : List ℕ → List Key → List Hashed → Bool
-is_other_held digest refs held = differs_from refs (list_under digest held)
+-- how a list with its hash key stands to those that are held
+abbrev pub standing : List Hashed → HashedList → Standing
+standing held list = beside list.refs (list_under list.digest held)
 
 -- no two lists have one hash key
 abbrev pub are_held_apart : List Hashed → Bool

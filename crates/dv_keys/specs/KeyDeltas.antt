@@ -9,8 +9,7 @@ use Rattle.dv_index.specs.Places.{Place}
 use Rattle.dv_records.specs.declared.deliveries.Delivery.{Delivery}
 use Rattle.dv_records.specs.Batches.{batch_of, digest_cmp}
 use Rattle.dv_records.specs.Deltas.{Hashed}
-use Rattle.dv_keys.specs.declared.hashed_lists.HashedList.{HashedList}
-use Rattle.dv_keys.specs.HashedLists.{hashed_item}
+use Rattle.dv_keys.specs.HashedLists.{HashedList, hashed_item}
 use Rattle.dv_keys.specs.PlacedRows.{has_row_under}
 
 -- the reference lists that rows stand for, with the hash keys under which they stand

@@ -7,7 +7,7 @@ use Rattle.dv_catalog.specs.Feeds.{source}
 use Rattle.dv_records.specs.declared.raw_rows.HubRow.{HubRow}
 use Rattle.dv_records.specs.declared.raw_rows.LinkRow.{LinkRow}
 use Rattle.dv_records.specs.Hubs.{each_hash, only_key}
-use Rattle.dv_keys.specs.declared.hashed_lists.HashedList.{HashedList}
+use Rattle.dv_keys.specs.HashedLists.{HashedList}
 
 -- the hub row of a list of one key
 abbrev pub hub_row_of : Mapping → ℕ → HashedList → Option HubRow

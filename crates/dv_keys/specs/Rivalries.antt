@@ -1,15 +1,18 @@
 -- Pairs of different reference lists with one hash key, among lists in the order of their hash keys and held ones.
-use Rattle.std.specs.Prelude.{List, [], ◌∷◌, ◌++◌, Option, None, Some, if◌then◌else◌, slice_get}
+use Rattle.std.specs.Prelude.{Bool, true, false, not, ◌&&◌, ◌||◌, List, [], ◌∷◌, ◌++◌, Option, None, Some, if◌then◌else◌, slice_get}
 use Rattle.std.specs.List.{cons_option, filter_map}
 use Rattle.std.specs.Ordering.{match_ordering, ordering_then}
 use Rattle.std.specs.Str.{bytes_eq}
 use Rattle.std.specs.declared.cmp.Ordering.{Ordering}
 use Rattle.dv_text.specs.declared.rows.Key.{Key}
+use Rattle.dv_text.specs.Keys.{refs_eq}
 use Rattle.dv_text.specs.Orders.{refs_cmp}
 use Rattle.dv_text.specs.Sorting.{sorted_by}
 use Rattle.dv_records.specs.Deltas.{Hashed}
+use Rattle.dv_keys.specs.HashedLists.{HashedList}
 use Rattle.dv_keys.specs.HeldLists.{list_under}
-use Rattle.dv_keys.specs.declared.hashed_lists.HashedList.{HashedList}
+use Rattle.dv_keys.specs.declared.holds_lists.Standing.{Standing}
+use Rattle.dv_keys.specs.declared.holds_lists.Standing.TheVariants.{Other}
 use Rattle.dv_keys.specs.declared.rivals.Rivals.{Rivals}
 
 -- by the first list, then by the second one
@@ -32,6 +35,21 @@ rivals_with (Some other) refs = rivals_of other refs
 -- the pair of a list and the held one with its hash key
 abbrev pub held_rival : List Hashed → HashedList → Option Rivals
 held_rival held list = rivals_with (list_under list.digest held) list.refs
+
+-- whether two lists are different and have one hash key
+abbrev pub clash : HashedList → HashedList → Bool
+clash last next = bytes_eq last.digest next.digest && not (refs_eq last.refs next.refs)
+
+-- whether a list and the next one do
+abbrev pub has_clash : List HashedList → Bool
+has_clash [] = false
+has_clash (last ∷ []) = false
+has_clash (last ∷ next ∷ rest) = clash last next || has_clash (next ∷ rest)
+
+-- whether another list is held
+abbrev pub is_other : Standing → Bool
+is_other Other = true
+is_other standing = false
 
 -- the pairs of each list and the next one
 abbrev pub all_neighbours : List HashedList → List Rivals

@@ -1,63 +1,103 @@
 // The deliveries whose hash keys a table has not yet.
-ghost use Rattle.std.specs.Prelude.{◌≡◌, IfOk, IsTrue, filter, length, nat_lt};
+ghost use Rattle.std.specs.Prelude.{◌≡◌, ◌++◌, IfOk, IsTrue, OnOk, length, map, nat_lt};
 ghost use Rattle.std.specs.List.{list_all};
+ghost use Rattle.std.specs.Option.{option_to_list};
 ghost use Rattle.dv_text.specs.Keys.{hashes_of};
 ghost use Rattle.dv_digest.specs.Fits.{refs_fit};
 ghost use Rattle.dv_records.specs.Deltas.{AreHashed, HasNoClash, IfCollides, IsLeastClash, delivered};
 ghost use Rattle.dv_keys.specs.HashedLists as hashing;
+ghost use Rattle.dv_keys.specs.HashedLists.{missing_of, told};
 ghost use Rattle.dv_keys.specs.HeldLists.{are_held_apart};
 ghost use Rattle.dv_keys.specs.Items.{AreItems};
 ghost use Rattle.dv_keys.specs.NewLists as spec;
 ghost use Rattle.dv_keys.specs.NewLists.{all_hashed};
 
-use crate::hashed_lists::{HashedList, hashed_lists};
-use crate::holds_lists::HoldsLists;
-use crate::missing_keys::{is_missing, missing_refs};
-use crate::rivals::{Rivals, least_rivals};
+use crate::hashed_lists::{LentList, hashed_lists};
+use crate::holds_lists::{HoldsLists, Standing};
+use crate::missing_keys::missing_refs;
+use crate::rivals::{Rivals, rivals_among};
 use dv_catalog::Catalog;
 use dv_records::{DeltaFault, HashedDelivery};
-use dv_text::{KeyDigest, List, Memory};
+use dv_text::{Key, KeyDigest, List, Memory, are_missing};
 use std::alloc::Global;
 
-// The lists of deliveries, and the list of missing keys of their table.
-fn brought_lists<H: KeyDigest>(
+/// The list of missing keys of the table that deliveries are to; no keys where there are no deliveries.
+pub(crate) fn missing_for(
     alloc: Global,
-    items: &[HashedDelivery],
+    items: &List<HashedDelivery>,
+    catalog: &Catalog,
+) -> Result<List<Key>, Memory>
+    requires { AreItems catalog.now (delivered items.now) }
+    ensures { IfOk result (λ refs. refs ≡ missing_of catalog.now (delivered items.now)) }
+{
+    catalog.note_valid();
+    let Some(first) = items.items().first() else {
+        return Ok(List::new(alloc));
+    };
+    let missing = missing_refs(alloc, catalog, first.table)?;
+    Ok(missing)
+}
+
+// The lists of deliveries, and the list of missing keys of their table.
+fn brought_lists<'a, H: KeyDigest>(
+    alloc: Global,
+    missing: &'a List<Key>,
+    items: &'a [HashedDelivery<'_>],
     catalog: &Catalog,
     digest: &H,
-) -> Result<List<HashedList>, Memory>
+) -> Result<List<LentList<'a>>, Memory>
+    requires missing { missing.now ≡ missing_of catalog.now (delivered items.now) }
     requires items { AreItems catalog.now (delivered items.now) }
     requires hashed { AreHashed (hashes_of H.digest_of H.size) items.now }
-    ensures { IfOk result (λ lists. lists ≡ hashing.brought_lists catalog.now (hashes_of H.digest_of H.size) (delivered items.now)) }
+    ensures { IfOk result (λ lists. map told lists ≡ hashing.brought_lists catalog.now (hashes_of H.digest_of H.size) (delivered items.now)) }
 {
     catalog.note_valid();
     let Some(first) = items.first() else {
         return Ok(List::new(alloc));
     };
-    let missing = missing_refs(alloc, catalog, first.delivery.table)?;
-    let lists = hashed_lists(alloc, &missing, first.delivery.feed, items, digest)?;
+    let lists = hashed_lists(alloc, missing, first.feed, items, digest)?;
     Ok(lists)
 }
 
-fn is_new<T: HoldsLists>(hashed: &HashedList, table: &T) -> bool
-    ensures { result ≡ spec.is_new (T.held table.now) hashed.now }
+fn is_new(list: &LentList, standing: Standing) -> bool
+    ensures { result ≡ spec.is_new_beside list.now standing }
 {
-    !(is_missing(&hashed.refs) || table.holds(&hashed.digest))
+    match standing {
+        Standing::New => !are_missing(list.refs),
+        _ => false,
+    }
+}
+
+// Puts a list at the end, if it is new.
+fn add<'a>(
+    made: &mut List<LentList<'a>>,
+    list: &LentList<'a>,
+    standing: Standing,
+) -> Result<(), Memory>
+    ensures { OnOk result (map told made.new ≡ map told made.old ++ option_to_list (spec.new_beside list.now standing)) }
+{
+    if !is_new(list, standing) {
+        return Ok(());
+    }
+    let list = LentList {
+        digest: list.digest,
+        refs: list.refs,
+        feed: list.feed,
+    };
+    made.push(list)
 }
 
 // The lists that are new, in their order.
-fn kept<T: HoldsLists>(
+fn kept<'a>(
     alloc: Global,
-    lists: List<HashedList>,
-    table: &T,
-) -> Result<List<HashedList>, Memory>
-    ensures { IfOk result (λ made. made ≡ filter (spec.is_new (T.held table.now)) lists) }
+    lists: &[LentList<'a>],
+    standings: &[Standing],
+) -> Result<List<LentList<'a>>, Memory>
+    ensures { IfOk result (λ made. map told made ≡ spec.kept lists.now standings.now) }
 {
     let mut made = List::new(alloc);
-    for hashed in lists.into_vec() {
-        if is_new(&hashed, table) {
-            made.push(hashed)?;
-        }
+    for (list, standing) in lists.iter().zip(standings) {
+        add(&mut made, list, *standing)?;
     }
     Ok(made)
 }
@@ -65,31 +105,35 @@ fn kept<T: HoldsLists>(
 /// The delivered lists that are not all missing, and whose hash keys the table has not, each with its hash
 /// key, in the order of these. Conditions: the table holds no two lists under one hash key; the items are
 /// deliveries to one hub or link of the catalog, by its feeds, no two of one list; a list has a key of each
-/// hub, of the hub's number of parts, each of at most 4,096 bytes; and an item's digest is the hash key of its
-/// list. Where two different lists among the missing one, those of the items and those of the table have one
-/// hash key, the error is the least such pair. Want of memory is `DeltaFault::Memory`.
-pub fn new_lists<T: HoldsLists, H: KeyDigest>(
+/// hub, of the hub's number of parts, each of at most 4,096 bytes; an item's digest is the hash key of its
+/// list; and the missing keys are those of the table. Where two different lists among the missing one, those
+/// of the items and those of the table have one hash key, the error is the least such pair. Want of memory is
+/// `DeltaFault::Memory`.
+pub(crate) fn new_lists<'a, T: HoldsLists, H: KeyDigest>(
     alloc: Global,
-    items: &List<HashedDelivery>,
+    missing: &'a List<Key>,
+    items: &'a List<HashedDelivery<'_>>,
     table: &T,
     catalog: &Catalog,
     digest: &H,
-) -> Result<List<HashedList>, DeltaFault>
+) -> Result<List<LentList<'a>>, DeltaFault>
     requires held { IsTrue (are_held_apart (T.held table.now)) }
+    requires missing { missing.now ≡ missing_of catalog.now (delivered items.now) }
     requires items { AreItems catalog.now (delivered items.now) }
     requires hashed { AreHashed (hashes_of H.digest_of H.size) items.now }
     ensures apart { IfOk result (λ lists. HasNoClash (all_hashed catalog.now (hashes_of H.digest_of H.size) (T.held table.now) (delivered items.now))) }
-    ensures lists { IfOk result (λ lists. lists ≡ spec.new_lists (hashes_of H.digest_of H.size) (T.held table.now) (delivered items.now)) }
+    ensures lists { IfOk result (λ lists. map told lists ≡ spec.new_lists (hashes_of H.digest_of H.size) (T.held table.now) (delivered items.now)) }
     ensures feeds { IfOk result (λ lists. IsTrue (list_all (λ list. nat_lt list.feed (length catalog.now.feeds)) lists)) }
-    ensures fits { IfOk result (λ lists. IsTrue (list_all (λ list. refs_fit list.refs) lists)) }
+    ensures fits { IfOk result (λ lists. IsTrue (list_all (λ list. refs_fit list.refs.now) lists)) }
     ensures collision { IfCollides result (IsLeastClash (all_hashed catalog.now (hashes_of H.digest_of H.size) (T.held table.now) (delivered items.now))) }
 {
     catalog.note_valid();
-    let lists = brought_lists(alloc, items.items(), catalog, digest)?;
-    if let Some(rivals) = least_rivals(alloc, lists.items(), table)? {
+    let lists = brought_lists(alloc, missing, items.items(), catalog, digest)?;
+    let standings = table.standings(alloc, lists.items())?;
+    if let Some(rivals) = rivals_among(alloc, lists.items(), &standings, table)? {
         let Rivals { first, second } = rivals;
         return Err(DeltaFault::Collision { first, second });
     }
-    let made = kept(alloc, lists, table)?;
+    let made = kept(alloc, lists.items(), &standings)?;
     Ok(made)
 }

@@ -1,83 +1,118 @@
-// Reference lists with their hash keys, in order.
-ghost use Rattle.std.specs.Prelude.{◌≡◌, ◌∷◌, ◌++◌, IfOk, IsTrue, OnOk, map};
+// Lent reference lists with their hash keys, in order.
+ghost use Rattle.std.specs.Prelude.{◌≡◌, ◌∷◌, ◌++◌, [], IfOk, IsTrue, OnOk, map};
+ghost use Rattle.std.specs.Ordering.{nat_cmp, ordering_then};
 ghost use Rattle.dv_text.specs.Keys.{hashes_of};
+ghost use Rattle.dv_text.specs.Orders.{refs_cmp};
 ghost use Rattle.dv_digest.specs.Fits.{refs_fit};
 ghost use Rattle.dv_records.specs.Deltas.{AreHashed, delivered};
 ghost use Rattle.dv_keys.specs.HashedLists as spec;
 
 use dv_digest::{Room, hash_key};
-use dv_records::HashedDelivery;
-use dv_text::{Digest, Duplicate, Exact, Key, KeyDigest, List, Memory, sorted_distinct};
+use dv_records::{HashedDelivery, Ranked, sorted_firsts};
+use dv_text::{Digest, Key, KeyDigest, List, Memory};
 use std::alloc::Global;
+use std::cmp::Ordering;
 
 /// A reference list with its hash key and the feed that delivers it, in the order of the hash keys, and then
-/// of the lists.
-#[derive(Debug, PartialEq, Eq, PartialOrd, Ord, Drop)]
-pub struct HashedList {
-    pub digest: Digest,
-    pub refs: List<Key>,
-    pub feed: u32,
+/// of the lists. The list is lent from where it stands in the window.
+#[derive(Debug, Drop)]
+pub(crate) struct LentList<'a> {
+    pub(crate) digest: Digest,
+    pub(crate) refs: &'a [Key],
+    pub(crate) feed: u32,
 }
 
-impl Exact for HashedList {
-    ghost use Rattle.dv_keys.specs.HashedOrder.{hashed_cmp-IsAntisymmetric};
-
-    ghost tells_apart = { hashed_cmp-IsAntisymmetric };
+// The order of lists with one hash key.
+fn compared_beyond(a: &LentList, b: &LentList) -> Ordering
+    ensures { result ≡ ordering_then (refs_cmp a.now.refs.now b.now.refs.now) (nat_cmp a.now.feed b.now.feed) }
+{
+    match a.refs.cmp(&b.refs) {
+        Ordering::Less => Ordering::Less,
+        Ordering::Equal => a.feed.cmp(&b.feed),
+        Ordering::Greater => Ordering::Greater,
+    }
 }
 
-// The list of missing keys, as one of the feed.
-fn missing_list<H: KeyDigest>(
+impl<'a> Ranked for LentList<'a> {
+    ghost use Rattle.dv_keys.specs.HashedOrder.{lent_cmp, lent_total};
+
+    ghost rank_cmp = { lent_cmp };
+
+    fn compared(&self, other: &LentList<'a>) -> Ordering {
+        match self.digest.cmp(&other.digest) {
+            Ordering::Less => Ordering::Less,
+            Ordering::Equal => compared_beyond(self, other),
+            Ordering::Greater => Ordering::Greater,
+        }
+    }
+
+    ghost total = { lent_total };
+}
+
+// Puts the list of missing keys at the end, as one of the feed.
+fn add_missing<'a, H: KeyDigest>(
     alloc: Global,
-    refs: &List<Key>,
+    made: &mut Vec<LentList<'a>>,
+    refs: &'a [Key],
     feed: u32,
     digest: &H,
-) -> Result<HashedList, Memory>
+) -> Result<(), Memory>
     requires { IsTrue (refs_fit refs.now) }
-    ensures { IfOk result (λ made. made ≡ spec.hashed_list (hashes_of H.digest_of H.size) refs.now feed) }
+    ensures { OnOk result (map spec.told made.new.items ≡ map spec.told made.old.items ++ spec.hashed_list (hashes_of H.digest_of H.size) refs.now feed ∷ []) }
 {
     let mut room = Room::new(alloc)?;
     let digest = hash_key(digest, refs, &mut room);
-    let refs = refs.copy()?;
-    Ok(HashedList { digest, refs, feed })
+    put(made, LentList { digest, refs, feed })
 }
 
-// The list of a delivery.
-fn list_beside(item: &HashedDelivery) -> Result<HashedList, Memory>
-    ensures { IfOk result (λ made. made ≡ spec.list_beside item.now) }
+// Puts an item at the end.
+fn put<T: Drop>(made: &mut Vec<T>, item: T) -> Result<(), Memory>
+    ensures { OnOk result (made.new.items ≡ made.old.items ++ item ∷ []) }
 {
-    let refs = item.delivery.refs.copy()?;
-    Ok(HashedList {
+    made.push(item)?;
+    Ok(())
+}
+
+// Puts the list of a delivery at the end.
+fn add_item<'a>(made: &mut Vec<LentList<'a>>, item: &'a HashedDelivery<'_>) -> Result<(), Memory>
+    ensures { OnOk result (map spec.told made.new.items ≡ map spec.told made.old.items ++ spec.list_beside item.now ∷ []) }
+{
+    let list = LentList {
         digest: item.digest,
-        refs,
-        feed: item.delivery.feed,
-    })
+        refs: item.refs,
+        feed: item.feed,
+    };
+    put(made, list)
 }
 
 // Puts the lists of deliveries at the end of a list.
-fn add_items(made: &mut Vec<HashedList>, items: &[HashedDelivery]) -> Result<(), Memory>
-    ensures { OnOk result (made.new.items ≡ made.old.items ++ map spec.list_beside items.now) }
+fn add_items<'a>(
+    made: &mut Vec<LentList<'a>>,
+    items: &'a [HashedDelivery<'_>],
+) -> Result<(), Memory>
+    ensures { OnOk result (map spec.told made.new.items ≡ map spec.told made.old.items ++ map spec.list_beside items.now) }
 {
     for item in items {
-        made.push(list_beside(item)?)?;
+        add_item(made, item)?;
     }
     Ok(())
 }
 
 /// The list of missing keys, as one of the feed, and those of deliveries, all with their hash keys, in order.
-#[tactic(auto, using(crate::proofs::Brought::beside_are))]
-pub(crate) fn hashed_lists<H: KeyDigest>(
+pub(crate) fn hashed_lists<'a, H: KeyDigest>(
     alloc: Global,
-    missing: &List<Key>,
+    missing: &'a List<Key>,
     feed: u32,
-    items: &[HashedDelivery],
+    items: &'a [HashedDelivery<'_>],
     digest: &H,
-) -> Result<List<HashedList>, Memory>
+) -> Result<List<LentList<'a>>, Memory>
     requires missing { IsTrue (refs_fit missing.now) }
     requires hashed { AreHashed (hashes_of H.digest_of H.size) items.now }
-    ensures { IfOk result (λ made. made ≡ spec.hashed_lists (hashes_of H.digest_of H.size) missing.now feed (delivered items.now)) }
+    ensures { IfOk result (λ made. map spec.told made ≡ spec.hashed_lists (hashes_of H.digest_of H.size) missing.now feed (delivered items.now)) }
 {
     let mut made = Vec::new(alloc);
-    made.push(missing_list(alloc, missing, feed, digest)?)?;
+    add_missing(alloc, &mut made, missing.items(), feed, digest)?;
     add_items(&mut made, items)?;
-    Ok(sorted_distinct(made))
+    let lists = sorted_firsts(made)?;
+    Ok(lists)
 }

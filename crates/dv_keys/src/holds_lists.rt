@@ -1,22 +1,28 @@
-ghost use Rattle.std.specs.Prelude.{◌≡◌, IfOk, List as list_of};
+ghost use Rattle.std.specs.Prelude.{◌≡◌, IfOk, List as list_of, map};
 ghost use Rattle.dv_records.specs.Deltas.{Hashed};
-ghost use Rattle.dv_keys.specs.HeldLists.{is_held, is_other_held, list_under};
+ghost use Rattle.dv_keys.specs.HashedLists.{told};
+ghost use Rattle.dv_keys.specs.HeldLists.{list_under, standing};
 
+use crate::hashed_lists::LentList;
 use dv_text::{Digest, Key, List, Memory};
 use std::alloc::Global;
 
+/// How a reference list stands to a table: no list has its hash key there, or this one has, or another one.
+#[derive(Clone, Copy, Debug, PartialEq, Eq)]
+pub(crate) enum Standing {
+    New,
+    Held,
+    Other,
+}
+
 /// A table that holds reference lists by their hash keys.
-pub trait HoldsLists {
+pub(crate) trait HoldsLists {
     /// The lists, each with its hash key.
     ghost held: { Self → list_of Hashed };
 
-    /// Whether a list has this hash key. Takes no memory.
-    fn holds(&self, d: &Digest) -> bool
-        ensures { result ≡ is_held d.now (held self.now) };
-
-    /// Whether another list than this one has the hash key. Takes no memory.
-    fn holds_other(&self, d: &Digest, refs: &List<Key>) -> bool
-        ensures { result ≡ is_other_held d.now refs.now (held self.now) };
+    /// How each of these lists stands to the table, in their order.
+    fn standings(&self, alloc: Global, lists: &[LentList<'_>]) -> Result<Vec<Standing>, Memory>
+        ensures { IfOk result (λ made. made.items ≡ map (λ list. standing (held self.now) (told list)) lists.now) };
 
     /// The list with this hash key; none exactly where there is none.
     fn list(&self, alloc: Global, d: &Digest) -> Result<Option<List<Key>>, Memory>

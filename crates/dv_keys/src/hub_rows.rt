@@ -3,23 +3,24 @@ ghost use Rattle.std.specs.Prelude.{◌≡◌, ◌<◌, ◌++◌, IfOk, IsTrue, 
 ghost use Rattle.std.specs.List.{filter_map, list_all};
 ghost use Rattle.std.specs.Option.{option_to_list};
 ghost use Rattle.dv_records.specs.Hubs as hubs;
+ghost use Rattle.dv_keys.specs.HashedLists.{told};
 ghost use Rattle.dv_keys.specs.NewRows.{hub_row_of};
 
-use crate::hashed_lists::HashedList;
+use crate::hashed_lists::LentList;
 use crate::told_lists::TellsLists;
 use dv_catalog::{Catalog, record_source};
 use dv_records::HubRow;
 use dv_text::{Duplicate, Key, List, Memory, Stamp};
 use std::alloc::Global;
 
-fn only_key(refs: List<Key>) -> Option<Key>
-    ensures { result ≡ hubs.only_key refs }
+// The key of a list of one key, copied; none of any other list.
+fn only_key(refs: &[Key]) -> Result<Option<Key>, Memory>
+    ensures { IfOk result (λ key. key ≡ hubs.only_key refs.now) }
 {
-    let mut keys = refs.into_vec();
-    if keys.len() != 1 {
-        return None;
+    match refs {
+        [only] => Ok(Some(only.copy()?)),
+        _ => Ok(None),
     }
-    keys.pop()
 }
 
 /// The keys of rows as lists of one.
@@ -31,8 +32,8 @@ impl TellsLists<HubRow> for OwnKeys {
 
     ghost list = { λ own row. row.key ∷ [] };
 
-    fn stands_for(&self, row: &HubRow, refs: &List<Key>) -> bool {
-        match refs.items() {
+    fn stands_for(&self, row: &HubRow, refs: &[Key]) -> bool {
+        match refs {
             [only] => row.key == *only,
             _ => false,
         }
@@ -49,19 +50,18 @@ impl TellsLists<HubRow> for OwnKeys {
 fn row_of(
     alloc: Global,
     load: Stamp,
-    hashed: HashedList,
+    list: &LentList,
     catalog: &Catalog,
 ) -> Result<Option<HubRow>, Memory>
-    requires { hashed.feed < length catalog.now.feeds }
-    ensures { IfOk result (λ row. row ≡ hub_row_of catalog.now load hashed) }
+    requires { list.now.feed < length catalog.now.feeds }
+    ensures { IfOk result (λ row. row ≡ hub_row_of catalog.now load (told list.now)) }
 {
-    let HashedList { digest, refs, feed } = hashed;
-    let Some(key) = only_key(refs) else {
+    let Some(key) = only_key(list.refs)? else {
         return Ok(None);
     };
-    let source = record_source(alloc, catalog.feed(feed))?;
+    let source = record_source(alloc, catalog.feed(list.feed))?;
     Ok(Some(HubRow {
-        digest,
+        digest: list.digest,
         load,
         source,
         key,
@@ -77,20 +77,19 @@ fn add(rows: &mut List<HubRow>, made: Option<HubRow>) -> Result<(), Memory>
     Ok(())
 }
 
-/// The rows of lists of one key, in their order.
-#[tactic(auto, using(crate::proofs::Batches::filter_map_push))]
+/// The rows of lists of one key, in their order. Their keys alone are copied.
 pub(crate) fn hub_rows(
     alloc: Global,
     load: Stamp,
-    lists: List<HashedList>,
+    lists: &[LentList],
     catalog: &Catalog,
 ) -> Result<List<HubRow>, Memory>
-    requires { IsTrue (list_all (λ list. nat_lt list.feed (length catalog.now.feeds)) lists) }
-    ensures { IfOk result (λ made. made ≡ filter_map (hub_row_of catalog.now load) lists) }
+    requires { IsTrue (list_all (λ list. nat_lt list.feed (length catalog.now.feeds)) lists.now) }
+    ensures { IfOk result (λ made. made ≡ filter_map (λ list. hub_row_of catalog.now load (told list)) lists.now) }
 {
     let mut rows = List::new(alloc);
-    for hashed in lists.into_vec() {
-        let made = row_of(alloc, load, hashed, catalog)?;
+    for list in lists {
+        let made = row_of(alloc, load, list, catalog)?;
         add(&mut rows, made)?;
     }
     Ok(rows)

@@ -10,10 +10,12 @@ ghost use Rattle.dv_keys.specs.HubDeltas.{AreHubItems, IsHeld, IsNext, hub_delta
 ghost use Rattle.dv_keys.specs.HubRows as spec;
 ghost use Rattle.dv_keys.specs.HubRows.{are_hub_rows};
 
+use crate::additions::missing_for;
 use crate::deltas::lists_for;
 use crate::hub_rows::{OwnKeys, hub_rows};
 use crate::key_rows::KeyRows;
 use dv_catalog::Catalog;
+use dv_index::IndexedRows;
 use dv_records::{DeltaFault, HashedDelivery, HubRow};
 use dv_text::{Digest, Key, KeyDigest, List, Memory, Stamp};
 use std::alloc::Global;
@@ -44,6 +46,16 @@ impl HubTable {
     {
         let held = KeyRows::from_rows(alloc, rows)?;
         Ok(HubTable { held })
+    }
+
+    /// The table of rows that have an index. Condition: no two have one digest, and their load dates do not fall.
+    /// Takes no memory.
+    pub fn from_indexed(indexed: IndexedRows<HubRow>) -> HubTable
+        requires { IsTrue (are_hub_rows indexed.rows) }
+        ensures { result ≡ indexed }
+    {
+        let held = KeyRows::from_indexed(indexed);
+        HubTable { held }
     }
 
     /// The rows, in the order in which they were loaded. Takes no memory.
@@ -96,7 +108,7 @@ impl HubTable {
     pub fn delta<H: KeyDigest>(
         &self,
         load: Stamp,
-        items: &List<HashedDelivery>,
+        items: &List<HashedDelivery<'_>>,
         catalog: &Catalog,
         digest: &H,
     ) -> Result<List<HubRow>, DeltaFault>
@@ -113,8 +125,11 @@ impl HubTable {
             → Answers result None [] }
     {
         let alloc = self.held.allocator();
-        let lists = lists_for(alloc, items, &self.held, &OwnKeys, catalog, digest)?;
-        let rows = hub_rows(alloc, load, lists, catalog)?;
+        let missing = missing_for(alloc, items, catalog)?;
+        let lists = lists_for(
+            alloc, &missing, items, &self.held, &OwnKeys, catalog, digest,
+        )?;
+        let rows = hub_rows(alloc, load, lists.items(), catalog)?;
         Ok(rows)
     }
 }

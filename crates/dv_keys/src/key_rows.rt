@@ -1,10 +1,11 @@
 // Rows of which no two have one hash key: what the tables of hubs and links are made of.
-ghost use Rattle.std.specs.Prelude.{◌≡◌, ◌≤◌, ◌++◌, IfOk, IsTrue, OnOk, length, option_map};
+ghost use Rattle.std.specs.Prelude.{◌≡◌, ◌≤◌, ◌++◌, IfOk, IsTrue, OnOk, length, map, nat_le, option_map};
+ghost use Rattle.std.specs.List.{list_all};
 ghost use Rattle.dv_keys.specs.PlacedRows as spec;
 ghost use Rattle.dv_keys.specs.PlacedRows.{are_placed_rows};
 
 use dv_index::{IndexedRows, Placed};
-use dv_text::{Digest, List, Memory};
+use dv_text::{Digest, List, Memory, Stamp};
 use std::alloc::Global;
 use std::marker::Model;
 
@@ -35,6 +36,14 @@ impl<R: Placed> KeyRows<R> {
     {
         let indexed = IndexedRows::from_rows(alloc, rows)?;
         Ok(KeyRows { indexed })
+    }
+
+    /// The same of rows that have an index. Condition: no two rows have one hash key. Takes no memory.
+    pub(crate) fn from_indexed(indexed: IndexedRows<R>) -> KeyRows<R>
+        requires { IsTrue (are_placed_rows R.place indexed.rows) }
+        ensures { result ≡ indexed }
+    {
+        KeyRows { indexed }
     }
 
     /// The allocator that the table keeps: there is one, so no clause says which. Takes no memory.
@@ -71,6 +80,25 @@ impl<R: Placed> KeyRows<R> {
         ensures { result ≡ spec.has_row_under R.place d.now self.now.rows }
     {
         self.row(d).is_some()
+    }
+
+    // A date than which no row is later.
+    fn last_load(&self) -> Stamp
+        ensures { IsTrue (list_all (λ row. nat_le (R.place row).load result) self.now.rows) }
+    {
+        match self.indexed.rows().last() {
+            None => Stamp::OPEN,
+            Some(last) => last.load(),
+        }
+    }
+
+    /// Of each of these hash keys its row, in their order; none exactly where no row has it.
+    pub(crate) fn rows_of(&self, digests: &[Digest]) -> Result<Vec<Option<&R>>, Memory>
+        ensures { IfOk result (λ found. map (option_map (λ row. row.now)) found.items ≡ map (λ d. spec.row_under R.place d self.now.rows) digests.now) }
+    {
+        let date = self.last_load();
+        let found = self.indexed.latest_of(digests, date)?;
+        Ok(found)
     }
 
     /// Makes room for so many more rows. The rows stay as they are, also for want of memory.

@@ -3,6 +3,7 @@
 #![tactic(auto)]
 
 mod additions;
+mod copies;
 mod deltas;
 mod hashed_lists;
 mod holds_lists;
@@ -18,9 +19,6 @@ mod raw_tables;
 mod rivals;
 mod told_lists;
 
-pub use additions::new_lists;
-pub use hashed_lists::HashedList;
-pub use holds_lists::HoldsLists;
 pub use hub_table::HubTable;
 pub use items::are_items;
 pub use link_table::LinkTable;

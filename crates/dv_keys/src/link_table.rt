@@ -12,11 +12,13 @@ ghost use Rattle.dv_keys.specs.LinkLists.{are_of_links};
 ghost use Rattle.dv_keys.specs.LinkRows as spec;
 ghost use Rattle.dv_keys.specs.LinkRows.{are_link_rows};
 
+use crate::additions::missing_for;
 use crate::deltas::lists_for;
 use crate::key_rows::KeyRows;
 use crate::link_rows::link_rows;
 use crate::named_keys::NamedKeys;
 use dv_catalog::{Catalog, TableId};
+use dv_index::IndexedRows;
 use dv_records::{DeltaFault, HashedDelivery, HubNames, LinkRow};
 use dv_text::{Digest, KeyDigest, List, Memory, Stamp};
 use std::alloc::Global;
@@ -30,7 +32,7 @@ fn hubs_of<'a>(items: &[HashedDelivery], catalog: &'a Catalog) -> &'a [u32]
     let Some(first) = items.first() else {
         return &[];
     };
-    match first.delivery.table {
+    match first.table {
         TableId::Link(link) => catalog.link(link).hubs.items(),
         _ => &[],
     }
@@ -61,6 +63,16 @@ impl LinkTable {
     {
         let held = KeyRows::from_rows(alloc, rows)?;
         Ok(LinkTable { held })
+    }
+
+    /// The table of rows that have an index. Condition: no two have one digest, and their load dates do not fall.
+    /// Takes no memory.
+    pub fn from_indexed(indexed: IndexedRows<LinkRow>) -> LinkTable
+        requires { IsTrue (are_link_rows indexed.rows) }
+        ensures { result ≡ indexed }
+    {
+        let held = KeyRows::from_indexed(indexed);
+        LinkTable { held }
     }
 
     /// The rows, in the order in which they were loaded. Takes no memory.
@@ -117,7 +129,7 @@ impl LinkTable {
     pub fn delta<H: KeyDigest, N: HubNames>(
         &self,
         load: Stamp,
-        items: &List<HashedDelivery>,
+        items: &List<HashedDelivery<'_>>,
         names: &N,
         catalog: &Catalog,
         digest: &H,
@@ -140,8 +152,9 @@ impl LinkTable {
             catalog,
             hubs: hubs_of(items.items(), catalog),
         };
-        let lists = lists_for(alloc, items, &self.held, &named, catalog, digest)?;
-        let rows = link_rows(alloc, load, lists, catalog, digest)?;
+        let missing = missing_for(alloc, items, catalog)?;
+        let lists = lists_for(alloc, &missing, items, &self.held, &named, catalog, digest)?;
+        let rows = link_rows(alloc, load, lists.items(), catalog, digest)?;
         Ok(rows)
     }
 }

@@ -30,7 +30,7 @@ fn empty_parts(alloc: Global, count: u32) -> Result<List<Text>, Memory>
 {
     let mut parts = List::new(alloc);
     for _ in 0..count {
-        parts.push(Text::from_vec(Vec::new(alloc)))?;
+        parts.push(Text::empty())?;
     }
     Ok(parts)
 }

@@ -112,14 +112,8 @@ impl<'a, N: HubNames> TellsLists<LinkRow> for NamedKeys<'a, N> {
 
     ghost list = { λ t row. keys_under t.catalog.now (N.names t.names.now) t.hubs.now row.hubs };
 
-    fn stands_for(&self, row: &LinkRow, refs: &List<Key>) -> bool {
-        stand_for(
-            self.catalog,
-            self.names,
-            self.hubs,
-            row.hubs.items(),
-            refs.items(),
-        )
+    fn stands_for(&self, row: &LinkRow, refs: &[Key]) -> bool {
+        stand_for(self.catalog, self.names, self.hubs, row.hubs.items(), refs)
     }
 
     fn told(&self, alloc: Global, row: &LinkRow) -> Result<List<Key>, Memory> {

@@ -25,13 +25,17 @@ pub record Hashed : Type 0 where
 abbrev pub hashed_by : Hashes → List Key → Hashed
 hashed_by hashes refs = record { digest = hashes.hash refs; refs = refs }
 
+-- the delivery whose reference list is lent, without its hash key
+abbrev pub delivery_of : HashedDelivery → Delivery
+delivery_of item = record { table = item.table; refs = item.refs.now; feed = item.feed }
+
 -- deliveries without their hash keys
 abbrev pub delivered : List HashedDelivery → List Delivery
-delivered items = map (λ item. item.delivery) items
+delivered items = map delivery_of items
 
 -- each has the hash key of its reference list
 abbrev pub AreHashed : Hashes → List HashedDelivery → Type 0
-AreHashed hashes items = All (λ item. item.digest ≡ hashes.hash item.delivery.refs) items
+AreHashed hashes items = All (λ item. item.digest ≡ hashes.hash item.refs.now) items
 
 -- what is missing in the raw table of a hub or a link: the missing key, or the list of missing keys
 abbrev pub missing_in : Mapping → TableId → List Key

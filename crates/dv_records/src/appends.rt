@@ -62,8 +62,15 @@ pub(crate) fn append(
     ensures ok { OnOk result (tables.new ≡ appended_to table rows tables.old) }
     ensures err { OnErr result (tables.new ≡ tables.old) }
 {
-    let mut entries = mem::replace(tables, List::new(alloc)).into_vec();
-    let done = append_entry(&mut entries, table, rows);
-    *tables = List::from_vec(entries);
-    done
+    match mem::replace(tables, List::new(alloc)).into_vec() {
+        Ok(mut entries) => {
+            let done = append_entry(&mut entries, table, rows);
+            *tables = List::from_vec(entries);
+            done
+        }
+        Err(failed) => {
+            *tables = failed.value;
+            Err(Memory)
+        }
+    }
 }

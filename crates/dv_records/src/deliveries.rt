@@ -13,10 +13,12 @@ pub struct Delivery {
     pub feed: u32,
 }
 
-/// A delivery with the hash key of its reference list.
+/// A delivery with the hash key of its reference list, which is lent from where the list stands in the window.
 #[derive(Debug, Drop)]
-pub struct HashedDelivery {
-    pub delivery: Delivery,
+pub struct HashedDelivery<'a> {
+    pub table: TableId,
+    pub refs: &'a [Key],
+    pub feed: u32,
     pub digest: Digest,
 }
 

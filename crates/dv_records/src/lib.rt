@@ -34,7 +34,7 @@ pub use snapshots::{BridgeRow, PitCell, PitRow, Snap, SnapHead, SnapId, SnapTabl
 pub use sorting::{Ranked, sorted_firsts};
 pub use stores::{Rows, Store, TableRows};
 pub use turns::Fail;
-pub use weights::weight;
+pub use weights::{Weighed, weight};
 
 #[cfg(test)]
 mod tests;

@@ -40,7 +40,7 @@ impl Turn {
 /// to, and how many failed.
 #[derive(Debug, Drop)]
 pub(crate) struct Turns {
-    fails: Vec<Fail>,
+    fails: List<Fail>,
     changes: u64,
     faults: u64,
 }
@@ -50,7 +50,7 @@ impl Model for Turns {
 
     ghost Value = { Plan };
 
-    ghost view = { λ t. record { fails = t.fails.items; changes = t.changes; faults = t.faults } };
+    ghost view = { λ t. record { fails = t.fails; changes = t.changes; faults = t.faults } };
 }
 
 // The place of the first failure that is planned for a reading call.
@@ -61,12 +61,12 @@ fn read_failure(fails: &[Fail]) -> Option<usize>
 }
 
 // Takes out the first failure that is planned for a reading call, and answers whether there was one.
-fn use_up(fails: &mut Vec<Fail>) -> bool
-    ensures was { result ≡ read_fails fails.old.items }
-    ensures used { OnTrue result (fails.new.items ≡ without_first (λ fail. fail.change == 0) fails.old.items) }
-    ensures kept { OnFalse result (fails.new.items ≡ fails.old.items) }
+fn use_up(fails: &mut List<Fail>) -> bool
+    ensures was { result ≡ read_fails fails.old }
+    ensures used { OnTrue result (fails.new ≡ without_first (λ fail. fail.change == 0) fails.old) }
+    ensures kept { OnFalse result (fails.new ≡ fails.old) }
 {
-    match read_failure(fails) {
+    match read_failure(fails.items()) {
         None => false,
         Some(at) => {
             fails.remove(at);
@@ -104,7 +104,7 @@ impl Turns {
         ensures { result ≡ new_plan fails }
     {
         Turns {
-            fails: fails.into_vec(),
+            fails,
             changes: 0,
             faults: 0,
         }
@@ -126,7 +126,7 @@ impl Turns {
     pub(crate) fn next(&self) -> Turn
         ensures { result ≡ next_turn self.now }
     {
-        turn_of(change_failure(&self.fails, self.changes.saturating_add(1)))
+        turn_of(change_failure(self.fails.items(), self.changes.saturating_add(1)))
     }
 
     /// Counts a changing call of this turn.

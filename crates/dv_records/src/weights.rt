@@ -20,9 +20,11 @@ const DIGEST: u128 = 32;
 const CELL: u128 = 16;
 
 /// What has a weight of its own: a text, or a row.
-trait Weighed {
+pub trait Weighed {
+    /// What it weighs.
     ghost weight_of: { Self → ℕ };
 
+    /// What it weighs, or the largest number of 128 bits where that is more. Takes no memory.
     fn weight(&self) -> u128
         ensures { result ≡ min (weight_of self.now) (2 ^ 128 - 1) };
 }

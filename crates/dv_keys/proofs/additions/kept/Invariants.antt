@@ -1,5 +1,6 @@
-use Rattle.dv_keys.proofs.Vocabulary.{◌≡◌, filter, is_new}
+use Rattle.dv_keys.proofs.Vocabulary.{◌≡◌, ◌++◌, kept, map, told}
 use Rattle.dv_keys.proofs.additions.kept.Given as goal
 
-abbrev pub invariant-loop-hashed : goal.invariant-loop-hashed
-invariant-loop-hashed g l = l.made ≡ filter (is_new (g.T.HoldsLists.held l.table)) l.yielded
+-- the lists so far and those behind them are all
+abbrev pub invariant-loop-list : goal.invariant-loop-list
+invariant-loop-list l = map told l.made ++ kept l.list-iterator.a.rest.now l.list-iterator.b.rest.now ≡ kept l.lists l.standings

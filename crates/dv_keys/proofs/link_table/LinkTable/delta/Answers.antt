@@ -1,4 +1,4 @@
-use Rattle.dv_keys.proofs.Vocabulary.{◌≡◌, List, Ok, Err, Some, true, ◌∙◌, ap, subst, sym, filter_map, err_from_is_err_and, delivered, hashes_of, LinkRow, IsLeastClash, link_place, HashedList, are_of_links, hubs_of, keys_under, stored, all_hashed, link_row}
+use Rattle.dv_keys.proofs.Vocabulary.{◌≡◌, List, Ok, Err, Some, true, ◌∙◌, ap, subst, sym, filter_map, err_from_is_err_and, delivered, hashes_of, LinkRow, IsLeastClash, link_place, LentList, map, map-map, told, are_of_links, hubs_of, keys_under, stored, all_hashed, link_row}
 use Rattle.dv_keys.proofs.KeyDeltas.{fault_collides, made_are, map_filter}
 use Rattle.dv_keys.proofs.LinkItems.{are_items, items_of_links}
 use Rattle.dv_keys.proofs.LinkWindows.{answers_held, answers_next, link_row_digest, link_row_load, told_apart, told_least}
@@ -14,11 +14,11 @@ pub returns-in_err-lists : goal.returns-in_err-lists
 returns-in_err-lists g c =
     let hashes = hashes_of g.H.KeyDigest.digest_of g.H.KeyDigest.size in
     let names = g.N.HubNames.names c.args.names.now in
-    let p = err_from_is_err_and c.from_residual.result c.from_residual.ensures.1 in
+    let p = err_from_is_err_and c.from_residual-in_err-lists.result c.from_residual-in_err-lists.ensures.1 in
     let rows = c.self.inside.held.rows in
     let clash =
     told_least c.args.catalog.now hashes names rows (delivered c.args.items.now) (Err c.in_err-lists.field-0.0) c.hubs_of.result.now (c.hubs_of.ensures ∙ ap (λ l. hubs_of c.args.catalog.now (delivered l)) c.items.ensures)
-    (fault_collides (List HashedList) (List LinkRow) c.in_err-lists.field-0.0
+    (fault_collides (List LentList) (List LinkRow) c.in_err-lists.field-0.0
     (IsLeastClash (all_hashed c.args.catalog.now hashes (stored c.args.catalog.now names c.hubs_of.result.now rows) (delivered c.args.items.now))) c.in_err-lists.ensures.collision) in
     rw (p.1, p.2, ← c.self.view_is)
     (record {
@@ -44,7 +44,7 @@ returns g c =
     (link_row_digest c.args.catalog.now hashes c.args.load) (link_row_load c.args.catalog.now hashes c.args.load)
     c.args.catalog.now rows c.in_ok-lists.ensures.kept (rw (← c.self.view_is) at c.requires.dated) (delivered c.args.items.now)
     (are_items c.args.catalog.now (delivered c.args.items.now) c.requires.items) c.in_ok-lists.ensures.apart c.in_ok-rows.rows
-    (c.in_ok-rows.ensures ∙ map_filter row_of c.in_ok-lists.lists ∙ ap (filter_map (λ list. Some (row_of list))) c.in_ok-lists.ensures.lists) in
+    (rw c.items-2.ensures at c.in_ok-rows.ensures ∙ sym (map-map row_of told c.in_ok-lists.lists) ∙ ap (map row_of) c.in_ok-lists.ensures.lists ∙ map_filter row_of _) in
     rw (← c.self.view_is)
     (record {
       apart = apart;
@@ -54,3 +54,6 @@ returns g c =
       batch = λ link older window. answers_next c.args.catalog.now hashes names link older window rows c.args.load (delivered c.args.items.now) (Ok c.in_ok-rows.rows) apart made.0 tt;
       held = λ link older window. answers_held c.args.catalog.now hashes names link older window rows c.args.load (delivered c.args.items.now) (Ok c.in_ok-rows.rows) apart made.0 tt;
     })
+
+pub missing_for-requires : goal.missing_for-requires
+missing_for-requires g c = are_items c.args.catalog.now (delivered c.args.items.now) c.requires.items
