@@ -5,5 +5,6 @@ pub mod PointWise
 pub mod RowPlacing
 pub mod SatDeltaBatch
 pub mod SatFollowing
+pub mod SideBySide
 pub mod Together
 pub mod Vocabulary

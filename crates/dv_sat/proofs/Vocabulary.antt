@@ -47,3 +47,5 @@ pub use Rattle.dv_sat.specs.MultiRows.{multi_change, multi_delta}
 pub use Rattle.dv_records.specs.Satellites.{multi_batch, multi_cmp, multi_row}
 pub use Rattle.std.proofs.Common.{map}
 pub use Rattle.dv_records.proofs.Vocabulary.{◌↔◌}
+pub use Rattle.dv_text.proofs.Vocabulary.{length-map}
+pub use Rattle.std.proofs.lemmas.List.{nil_from_length}

@@ -32,13 +32,18 @@ has_load rows load = list_any (λ row. row.load == load) rows
 abbrev pub are_same : List MultiRow → List NRow → NRow → Bool
 are_same valid staged row = pointwise row_eq (map (described_row row.refs) valid) (rows_of staged row.refs)
 
+-- the row that an extract's row adds, beside those that are valid for its parent: none where these are all those of its
+-- reference list
+abbrev pub multi_change_from : Hashes → List ℕ → List MultiRow → ℕ → List NRow → NRow → Option MultiRow
+multi_change_from hashes source valid load staged row =
+    if are_same valid staged row then None
+    else
+    Some (record { parent = hashes.hash row.refs; load = load; source = source; diff = hashes.diff row.attrs; sub = row.sub; attrs = row.attrs })
+
 -- the row that an extract's row adds: none where the rows that are valid for its parent at the load date are all those of
 -- its reference list
 abbrev pub multi_change : Hashes → List ℕ → List MultiRow → ℕ → List NRow → NRow → Option MultiRow
-multi_change hashes source rows load staged row =
-    if are_same (all_valid_at rows (hashes.hash row.refs) load) staged row then None
-    else
-    Some (record { parent = hashes.hash row.refs; load = load; source = source; diff = hashes.diff row.attrs; sub = row.sub; attrs = row.attrs })
+multi_change hashes source rows load staged row = multi_change_from hashes source (all_valid_at rows (hashes.hash row.refs) load) load staged row
 
 -- what the rows of an extract add to a multi-active satellite, by hash key, then by sub; nothing where it has a row of
 -- this load date

@@ -36,12 +36,16 @@ abbrev pub has_attrs : Option SatRow → List (List ℕ) → Bool
 has_attrs None attrs = false
 has_attrs (Some row) attrs = texts_eq row.attrs attrs
 
--- the row that an extract's row adds: none where the row that is valid for its parent at the load date has its attributes
-abbrev pub sat_change : Hashes → List ℕ → List SatRow → ℕ → NRow → Option SatRow
-sat_change hashes source rows load row =
-    if has_attrs (valid_at rows (hashes.hash row.refs) load) row.attrs then None
+-- the row that an extract's row adds, beside the one that is valid for its parent: none where that has its attributes
+abbrev pub sat_change_from : Hashes → List ℕ → Option SatRow → ℕ → NRow → Option SatRow
+sat_change_from hashes source valid load row =
+    if has_attrs valid row.attrs then None
     else
     Some (record { parent = hashes.hash row.refs; load = load; source = source; diff = hashes.diff row.attrs; attrs = row.attrs })
+
+-- the row that an extract's row adds: none where the row that is valid for its parent at the load date has its attributes
+abbrev pub sat_change : Hashes → List ℕ → List SatRow → ℕ → NRow → Option SatRow
+sat_change hashes source rows load row = sat_change_from hashes source (valid_at rows (hashes.hash row.refs) load) load row
 
 -- what the rows of an extract add to a satellite, by hash key; nothing where it has a row of this load date
 abbrev pub sat_delta : Hashes → List ℕ → List SatRow → ℕ → List NRow → List SatRow

@@ -1,12 +1,19 @@
-// The multi-active row of an extract's row, and whether rows are described already.
-ghost use Rattle.std.specs.Prelude.{◌≡◌, IfOk, map};
+// The multi-active row of an extract's row, beside those that are valid for its parent.
+ghost use Rattle.std.specs.Prelude.{◌≡◌, IfOk, IsTrue, map};
 ghost use Rattle.std.specs.List.{list_all, zip};
+ghost use Rattle.std.specs.List.Sorted.{IsStrictlySortedBy};
 ghost use Rattle.std.specs.Cmp.Lexicographic.{pointwise};
-ghost use Rattle.dv_text.specs.Keys.{row_eq};
+ghost use Rattle.dv_text.specs.Keys.{hashes_of, row_eq};
+ghost use Rattle.dv_text.specs.Orders.{row_cmp};
+ghost use Rattle.dv_digest.specs.Fits as fits;
 ghost use Rattle.dv_records.specs.Reconstruction.{described_row};
+ghost use Rattle.dv_sat.specs.MultiRows.{multi_change_from};
 
+use crate::runs::rows_of_list;
+use crate::sat_changes::diff;
+use dv_digest::Room;
 use dv_records::MultiRow;
-use dv_text::{Digest, Duplicate, Key, List, Memory, NRow, Stamp, Text};
+use dv_text::{Digest, Duplicate, Key, KeyDigest, List, Memory, NRow, Stamp, Text};
 
 fn describes(valid: &MultiRow, refs: &List<Key>, row: &NRow) -> bool
     ensures { result ≡ row_eq (described_row refs.now valid.now) row.now }
@@ -24,16 +31,16 @@ fn each_describes(valid: &[MultiRow], refs: &List<Key>, rows: &[NRow]) -> bool
         .all(|(valid, row)| describes(valid, refs, row))
 }
 
-/// Whether rows of a satellite are those of a reference list, one by one. Takes no memory.
+// Whether rows of a satellite are those of a reference list, one by one. Takes no memory.
 #[tactic(auto, using(crate::proofs::PointWise::unequal, crate::proofs::PointWise::zipped))]
-pub(crate) fn are_described(valid: &[MultiRow], refs: &List<Key>, rows: &[NRow]) -> bool
+fn are_described(valid: &[MultiRow], refs: &List<Key>, rows: &[NRow]) -> bool
     ensures { result ≡ pointwise row_eq (map (described_row refs.now) valid.now) rows.now }
 {
     valid.len() == rows.len() && each_describes(valid, refs, rows)
 }
 
-/// A row of these values, with the sub and the attributes of an extract's row.
-pub(crate) fn new_multi_row(
+// A row of these values, with the sub and the attributes of an extract's row.
+fn new_multi_row(
     parent: Digest,
     load: Stamp,
     source: &Text,
@@ -53,4 +60,29 @@ pub(crate) fn new_multi_row(
         sub,
         attrs,
     })
+}
+
+/// The row that an extract's row adds, where the parent is the hash key of its reference list: none where the rows
+/// that are valid for the parent are all those of the list.
+pub(crate) fn change<H: KeyDigest>(
+    valid: &[MultiRow],
+    load: Stamp,
+    source: &Text,
+    staged: &[NRow],
+    row: &NRow,
+    parent: &Digest,
+    digest: &H,
+    room: &mut Room,
+) -> Result<Option<MultiRow>, Memory>
+    requires ascending { IsStrictlySortedBy row_cmp staged.now }
+    requires key { parent.now ≡ (hashes_of H.digest_of H.size).hash row.now.refs }
+    requires attrs_fit { IsTrue (fits.attrs_fit row.now.attrs) }
+    ensures { IfOk result (λ made. made ≡ multi_change_from (hashes_of H.digest_of H.size) source.now valid.now load staged.now row.now) }
+{
+    if are_described(valid, &row.refs, rows_of_list(staged, &row.refs)) {
+        return Ok(None);
+    }
+    let diff = diff(digest, &row.attrs, room);
+    let made = new_multi_row(*parent, load, source, diff, row)?;
+    Ok(Some(made))
 }

@@ -1,19 +1,19 @@
-ghost use Rattle.std.specs.Prelude.{◌≡◌, ◌≤◌, ◌<◌, ◌++◌, ◌==◌, All, IfOk, IsTrue, OnOk, length, map};
+ghost use Rattle.std.specs.Prelude.{◌≡◌, ◌≤◌, ◌<◌, ◌++◌, ◌&&◌, All, IfOk, IsTrue, OnOk, find, length, map, nat_le, option_map, reverse};
 ghost use Rattle.std.specs.List.{filter_map, list_all};
 ghost use Rattle.std.specs.List.Sorted.{IsStrictlySortedBy};
-ghost use Rattle.std.specs.Cmp.Lexicographic.{pointwise};
-ghost use Rattle.dv_text.specs.Keys.{hashes_of, row_eq};
+ghost use Rattle.std.specs.Str.{bytes_eq};
+ghost use Rattle.dv_text.specs.Keys.{hashes_of};
 ghost use Rattle.dv_text.specs.Orders.{row_cmp};
 ghost use Rattle.dv_digest.specs.Fits as fits;
 ghost use Rattle.dv_digest.specs.HashedExtracts.{HasKeys};
 ghost use Rattle.dv_catalog.specs.Feeds.{source};
-ghost use Rattle.dv_records.specs.Reconstruction.{all_valid_at, described_row};
+ghost use Rattle.dv_records.specs.Reconstruction.{all_valid_at, loaded_with};
 ghost use Rattle.dv_sat.specs.MultiRows.{are_up_to, multi_change, multi_delta, multi_order, IsMultiBatchAfter};
 ghost use Rattle.dv_sat.specs.MultiRows as spec;
 
-use crate::multi_changes::{are_described, new_multi_row};
-use crate::runs::{rows_of_list, rows_with};
-use crate::sat_changes::{add, diff};
+use crate::multi_changes::change;
+use crate::runs::rows_with;
+use crate::sat_changes::add;
 use dv_catalog::{Catalog, record_source};
 use dv_digest::{HashedExtract, Room};
 use dv_index::IndexedRows;
@@ -51,6 +51,16 @@ impl MultiTable {
     {
         let indexed = IndexedRows::from_rows(alloc, rows)?;
         Ok(MultiTable { indexed })
+    }
+
+    /// The table of rows that have an index. Condition: they ascend strictly by load date, then by parent,
+    /// then by sub. Takes no
+    /// memory.
+    pub fn from_indexed(indexed: IndexedRows<MultiRow>) -> MultiTable
+        requires { IsStrictlySortedBy multi_order indexed.rows }
+        ensures { result ≡ indexed }
+    {
+        MultiTable { indexed }
     }
 
     /// The rows, in their order. Takes no memory.
@@ -96,7 +106,21 @@ impl MultiTable {
     pub fn at(&self, parent: &Digest, date: Stamp) -> &[MultiRow]
         ensures { result.now ≡ all_valid_at self.now.rows parent.now date }
     {
-        match self.indexed.latest(parent, date) {
+        self.loaded_with(parent, self.indexed.latest(parent, date))
+    }
+
+    // Of each of these parents the last row that is not later than a date, in their order.
+    fn each_last(&self, parents: &[Digest], date: Stamp) -> Result<Vec<Option<&MultiRow>>, Memory>
+        ensures { IfOk result (λ found. map (option_map (λ row. row.now)) found.items ≡ map (λ parent. find (λ row. bytes_eq row.parent parent && nat_le row.load date) (reverse self.now.rows)) parents.now) }
+    {
+        self.indexed.latest_of(parents, date)
+    }
+
+    // The rows of a parent with the load date of one of them; none where there is none.
+    fn loaded_with(&self, parent: &Digest, last: Option<&MultiRow>) -> &[MultiRow]
+        ensures { result.now ≡ loaded_with self.now.rows parent.now (option_map (λ row. row.now) last.entry) }
+    {
+        match last {
             Some(last) => rows_with(self.indexed.rows(), parent, last.load),
             None => &[],
         }
@@ -114,42 +138,6 @@ impl MultiTable {
         }
     }
 
-    // Whether the rows that are valid for a parent at a date are all those of a row's reference list among rows.
-    fn are_same(&self, parent: &Digest, date: Stamp, staged: &[NRow], row: &NRow) -> bool
-        requires { IsStrictlySortedBy row_cmp staged.now }
-        ensures { result ≡ spec.are_same (all_valid_at self.now.rows parent.now date) staged.now row.now }
-    {
-        are_described(
-            self.at(parent, date),
-            &row.refs,
-            rows_of_list(staged, &row.refs),
-        )
-    }
-
-    // The row that an extract's row adds, where the parent is the hash key of its reference list.
-    fn change<H: KeyDigest>(
-        &self,
-        load: Stamp,
-        source: &Text,
-        staged: &[NRow],
-        row: &NRow,
-        parent: &Digest,
-        digest: &H,
-        room: &mut Room,
-    ) -> Result<Option<MultiRow>, Memory>
-        requires ascending { IsStrictlySortedBy row_cmp staged.now }
-        requires key { parent.now ≡ (hashes_of H.digest_of H.size).hash row.now.refs }
-        requires attrs_fit { IsTrue (fits.attrs_fit row.now.attrs) }
-        ensures { IfOk result (λ made. made ≡ multi_change (hashes_of H.digest_of H.size) source.now self.now.rows load staged.now row.now) }
-    {
-        if self.are_same(parent, load, staged, row) {
-            return Ok(None);
-        }
-        let diff = diff(digest, &row.attrs, room);
-        let made = new_multi_row(*parent, load, source, diff, row)?;
-        Ok(Some(made))
-    }
-
     // The rows that an extract's rows add, in the order of these.
     fn changes<H: KeyDigest>(
         &self,
@@ -164,10 +152,12 @@ impl MultiTable {
         requires attrs_fit { IsTrue (list_all (λ row. fits.attrs_fit row.attrs) rows.now) }
         ensures { IfOk result (λ made. made.items ≡ filter_map (multi_change (hashes_of H.digest_of H.size) source.now self.now.rows load rows.now) rows.now) }
     {
+        let found = self.each_last(keys, load)?;
         let mut room = Room::new(self.allocator())?;
         let mut made = Vec::new(self.allocator());
-        for (row, key) in rows.iter().zip(keys) {
-            let change = self.change(load, source, rows, row, key, digest, &mut room)?;
+        for ((row, key), last) in rows.iter().zip(keys).zip(found.iter()) {
+            let valid = self.loaded_with(key, *last);
+            let change = change(valid, load, source, rows, row, key, digest, &mut room)?;
             add(&mut made, change)?;
         }
         Ok(made)

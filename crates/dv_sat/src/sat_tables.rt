@@ -9,7 +9,7 @@ ghost use Rattle.dv_records.specs.Reconstruction.{valid_at};
 ghost use Rattle.dv_sat.specs.SatRows.{are_up_to, current_of, sat_change, sat_delta, sat_order, IsSatBatchAfter};
 ghost use Rattle.dv_sat.specs.SatRows as spec;
 
-use crate::sat_changes::{add, diff, new_row};
+use crate::sat_changes::{add, change};
 use dv_catalog::{Catalog, record_source};
 use dv_digest::{HashedExtract, Room};
 use dv_index::IndexedRows;
@@ -47,6 +47,15 @@ impl SatTable {
     {
         let indexed = IndexedRows::from_rows(alloc, rows)?;
         Ok(SatTable { indexed })
+    }
+
+    /// The table of rows that have an index. Condition: they ascend strictly by load date, then by parent. Takes no
+    /// memory.
+    pub fn from_indexed(indexed: IndexedRows<SatRow>) -> SatTable
+        requires { IsStrictlySortedBy sat_order indexed.rows }
+        ensures { result ≡ indexed }
+    {
+        SatTable { indexed }
     }
 
     /// The rows, in their order. Takes no memory.
@@ -103,6 +112,13 @@ impl SatTable {
         self.indexed.latest(parent, last.load)
     }
 
+    // Of each of these parents the row that is valid for it at a date, in their order.
+    fn each_at(&self, parents: &[Digest], date: Stamp) -> Result<Vec<Option<&SatRow>>, Memory>
+        ensures { IfOk result (λ found. map (option_map (λ row. row.now)) found.items ≡ map (λ parent. valid_at self.now.rows parent date) parents.now) }
+    {
+        self.indexed.latest_of(parents, date)
+    }
+
     // Whether the last row has a load date: no row has it where that one hasn't.
     fn has_load(&self, load: Stamp) -> bool
         requires { IsTrue (are_up_to self.now.rows load) }
@@ -113,38 +129,6 @@ impl SatTable {
             Some(row) => row.load == load,
             None => false,
         }
-    }
-
-    // Whether the row that is valid for a parent at a date has these attributes.
-    fn has_attrs(&self, parent: &Digest, date: Stamp, attrs: &List<Text>) -> bool
-        ensures { result ≡ spec.has_attrs (valid_at self.now.rows parent.now date) attrs.now }
-    {
-        match self.at(parent, date) {
-            Some(row) => row.attrs == *attrs,
-            None => false,
-        }
-    }
-
-    // The row that an extract's row adds, where the parent is the hash key of its reference list.
-    fn change<H: KeyDigest>(
-        &self,
-        load: Stamp,
-        source: &Text,
-        row: &NRow,
-        parent: &Digest,
-        digest: &H,
-        room: &mut Room,
-    ) -> Result<Option<SatRow>, Memory>
-        requires key { parent.now ≡ (hashes_of H.digest_of H.size).hash row.now.refs }
-        requires attrs_fit { IsTrue (fits.attrs_fit row.now.attrs) }
-        ensures { IfOk result (λ made. made ≡ sat_change (hashes_of H.digest_of H.size) source.now self.now.rows load row.now) }
-    {
-        if self.has_attrs(parent, load, &row.attrs) {
-            return Ok(None);
-        }
-        let diff = diff(digest, &row.attrs, room);
-        let made = new_row(*parent, load, source, diff, &row.attrs)?;
-        Ok(Some(made))
     }
 
     // The rows that an extract's rows add, in the order of these.
@@ -160,10 +144,11 @@ impl SatTable {
         requires attrs_fit { IsTrue (list_all (λ row. fits.attrs_fit row.attrs) rows.now) }
         ensures { IfOk result (λ made. made.items ≡ filter_map (sat_change (hashes_of H.digest_of H.size) source.now self.now.rows load) rows.now) }
     {
+        let found = self.each_at(keys, load)?;
         let mut room = Room::new(self.allocator())?;
         let mut made = Vec::new(self.allocator());
-        for (row, key) in rows.iter().zip(keys) {
-            let change = self.change(load, source, row, key, digest, &mut room)?;
+        for ((row, key), valid) in rows.iter().zip(keys).zip(found.iter()) {
+            let change = change(*valid, load, source, row, key, digest, &mut room)?;
             add(&mut made, change)?;
         }
         Ok(made)

@@ -28,13 +28,13 @@ pub fn pieces(alloc: Global, text: &[u8], separator: u8) -> Result<Vec<Text>, Me
     let mut piece = Vec::new(alloc);
     for byte in text {
         if *byte == separator {
-            made.push(Text::from_vec(piece))?;
+            made.push(Text::from_vec(piece)?)?;
             piece = Vec::new(alloc);
         } else {
             piece.push(*byte)?;
         }
     }
-    made.push(Text::from_vec(piece))?;
+    made.push(Text::from_vec(piece)?)?;
     Ok(made)
 }
 

@@ -41,7 +41,7 @@ pub(crate) fn rows(alloc: Global, text: &[u8]) -> Result<List<NRow>, Memory> {
 pub(crate) fn all_fit(rows: &[NRow]) -> bool
     ensures { result ≡ list_all (λ row. fits.refs_fit row.refs) rows.now }
 {
-    rows.iter().all(|row| refs_fit(&row.refs))
+    rows.iter().all(|row| refs_fit(row.refs.items()))
 }
 
 pub(crate) fn all_attrs_fit(rows: &[NRow]) -> bool

@@ -1,13 +1,19 @@
 -- Digests in a list, sorted or not.
-use Rattle.dv_track.proofs.Vocabulary.{◌≡◌, ◌↔◌, ℕ, ◌+◌, inl, inr, List, [], ◌∷◌, Option, Some, None, Result, Ok, Err, refl, ap, subst, arith, length, get_or, filter, reverse, ◌&&◌, nat_le, Contains, is_ok, Decides, IsTrue, Ordering, Equal, IsTotalOrder}
-use Rattle.dv_track.proofs.Vocabulary.{nat_cmp-IsAntisymmetric, slice_cmp-IsAntisymmetric, IsAntisymmetric, filter_map, IsBinarySearchResult, IsSearchInRange, IsStrictlySortedBy, IsSortedBy, is_lt, bytes_eq, and_parts, cases_lt, false≢true, tied_itself, searchable_from_sorted, Less-from_sorted}
-use Rattle.dv_track.proofs.Vocabulary.{bytes_eq-Decides, sorted_by, found_member, same_answer, some_passes, some_passes_at, member_after_sort, member_before_sort, StatusRow, digest_cmp, status_place, latest_at, latest_of_each, is_appearance, says_present, is_among, parents_of}
+use Rattle.dv_track.proofs.Vocabulary.{◌≡◌, ℕ, ◌+◌, List, [], ◌∷◌, Option, Some, None, refl, ap, subst, arith, get_or, filter, reverse, ◌&&◌, nat_le, Contains, Decides, Ordering, Equal, IsTotalOrder}
+use Rattle.dv_track.proofs.Vocabulary.{nat_cmp-IsAntisymmetric, slice_cmp-IsAntisymmetric, filter_map, IsStrictlySortedBy, IsSortedBy, is_lt, bytes_eq, and_parts, Less-from_sorted}
+use Rattle.dv_track.proofs.Vocabulary.{bytes_eq-Decides, sorted_by, found_member, same_answer, some_passes, some_passes_at, member_after_sort, member_before_sort, digest_cmp, latest_at, is_among}
 use Rattle.dv_index.specs.Places.{Place}
-use Rattle.dv_track.proofs.Vocabulary.{Bool, true, false, map, sym, ◌++◌, ◌||◌, ◌∙◌, any-filter_same, list_any-append, nat_list_cmp_total, same_ascending, present_parents}
+use Rattle.dv_track.proofs.Vocabulary.{Bool, true, false, map, sym, ◌++◌, ◌||◌, ◌∙◌, any-filter_same, list_any-append, nat_list_cmp_total, same_ascending, false_from_ne_true, irreflexive, or-false, Less, drop, zero, suc}
 
 -- two digests that tie are one
 pub exact : (a b : List ℕ) → digest_cmp a b ≡ Equal → a ≡ b
 exact a b e = slice_cmp-IsAntisymmetric nat_cmp-IsAntisymmetric a b e
+
+pub apart : (a b : List ℕ) → digest_cmp a b ≡ Less → a ≡ b → ⊥
+apart a b less same = irreflexive nat_list_cmp_total b (subst (λ c. digest_cmp c b ≡ Less) same less)
+
+pub unequal : (a b : List ℕ) → (a ≡ b → ⊥) → bytes_eq a b ≡ false
+unequal a b differ = false_from_ne_true (bytes_eq a b) (λ e. differ ((bytes_eq-Decides a b).0 e))
 
 pub is_among-Decides : (digests : List (List ℕ)) (digest : List ℕ) → Decides (is_among digests digest) (Contains digests digest)
 is_among-Decides digests digest = (
@@ -21,19 +27,14 @@ module _ {X : Type 0} {R : X → X → Ordering} (o : IsTotalOrder R) where
       let less = Less-from_sorted R xs k (k + 1) d up (omega arith) under in
       rw (o.antisymm (get_or xs (k + 1) d) (get_or xs k d), less)
 
-  -- a binary search over an ascending list finds exactly its members
-  pub searched_members : IsAntisymmetric R → (xs : List X) (x : X) (r : Result ℕ ℕ) → IsStrictlySortedBy R xs → IsSearchInRange r (length xs) → IsBinarySearchResult (λ y. R y x) xs r → IsTrue (is_ok r) ↔ Contains xs x
-  searched_members exact xs x (Ok i) up inside found = (λ found_it. (i, inside, exact (get_or xs i x) x (found x)), λ has. refl)
-  searched_members exact xs x (Err i) up inside found = (
-    λ found_it. absurd (false≢true found_it),
-    λ (k, under, there).
-        let parts = found (searchable_from_sorted o (λ y. y) xs x (sorted_from_strictly xs up)) in
-        let tie : R (get_or xs k x) x ≡ Equal = rw there (tied_itself o x) in
-        elim (cases_lt k i) [
-          | inl before ↦ let less = parts.0 k x (omega arith) before in cc
-          | inr behind ↦ let more = parts.1 k x behind under in cc
-        ],
-  )
+-- a digest alone, or none
+abbrev pub if_there : Bool → List ℕ → List (List ℕ)
+if_there true digest = digest ∷ []
+if_there false digest = []
+
+pub among_there : (there : Bool) (digest z : List ℕ) → is_among (if_there there digest) z ≡ (there && bytes_eq digest z)
+among_there true digest z = or-false (bytes_eq digest z)
+among_there false digest z = refl
 
 -- it does not matter whether they are sorted
 pub among_sorted : (digests : List (List ℕ)) (digest : List ℕ) → is_among (sorted_by digest_cmp digests) digest ≡ is_among digests digest
@@ -58,6 +59,12 @@ same_among xs ys up vp same =
     (λ digest has. (is_among-Decides ys digest).0 (sym (same digest) ∙ (is_among-Decides xs digest).1 has))
     (λ digest has. (is_among-Decides xs digest).0 (same digest ∙ (is_among-Decides ys digest).1 has))
 
+pub ascending-drop : (digests : List (List ℕ)) (n : ℕ) → IsStrictlySortedBy digest_cmp digests → IsStrictlySortedBy digest_cmp (drop n digests)
+unfolding IsStrictlySortedBy
+ascending-drop digests zero up = up
+ascending-drop [] (suc n) up = tt
+ascending-drop (digest ∷ digests) (suc n) up = ascending-drop digests n up.1
+
 -- the parents of those latest rows that say something are the parents of which it is said
 pub said_parents : {R : Type 0} (parent_of : R → List ℕ) (says : R → Bool) (said : Option R → Bool) → said None ≡ false → ((row : R) → said (Some row) ≡ says row) → (latest : List ℕ → Option R)
     → ((parent : List ℕ) (row : R) → latest parent ≡ Some row → parent_of row ≡ parent) → (parents : List (List ℕ)) → map parent_of (filter says (filter_map latest parents)) ≡ filter (λ parent. said (latest parent)) parents
@@ -78,8 +85,3 @@ pub own_row : {R : Type 0} (place : R → Place) (rows : List R) (date : ℕ) (p
 own_row {R} place rows date parent row e =
     (bytes_eq-Decides (place row).parent parent).0
     (and_parts _ (nat_le (place row).load date) (found_member (λ (row : R). bytes_eq (place row).parent parent && nat_le (place row).load date) (reverse rows) row e).1).0
-
--- so the walk over the latest rows gives the parents that are present
-pub latest_present : (rows : List StatusRow) (date : ℕ) → parents_of (filter (λ row. is_appearance row.code) (latest_of_each status_place rows date)) ≡ present_parents rows date
-latest_present rows date =
-    said_parents (λ (row : StatusRow). row.parent) (λ row. is_appearance row.code) says_present refl (λ row. refl) (λ parent. latest_at status_place rows parent date) (own_row status_place rows date) (sorted_by digest_cmp (parents_of rows))

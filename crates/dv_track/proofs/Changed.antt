@@ -1,9 +1,9 @@
--- What an extract adds, by the digests that are in one of two lists alone.
-use Rattle.dv_track.proofs.Vocabulary.{◌≡◌, ℕ, Bool, true, false, List, [], ◌∷◌, ◌++◌, Option, None, refl, ◌∙◌, ap, filter, not, nat_list_cmp_total, filter_map, IsStrictlySortedBy-filter, sorted_by, ascending-sorted_by, StatusRow}
-use Rattle.dv_track.proofs.Vocabulary.{digest_cmp, present_at, code_between, change_between, changed, missing_in, is_among, parents_of, present_parents, status_change, status_changes, Some, Code, option_map, ◌&&◌, ◌||◌, bytes_eq, is_some}
-use Rattle.dv_track.proofs.Vocabulary.{list_any-append, or-true}
-use Rattle.dv_track.proofs.Amongst.{among-filter, among_both, among_sorted, is_among-Decides, same_among}
-use Rattle.dv_track.proofs.Presence.{among_present, present_parent}
+-- What an extract adds, by the parents that are present and the extract's keys alone.
+use Rattle.dv_track.proofs.Vocabulary.{◌≡◌, ℕ, Bool, true, false, List, [], ◌∷◌, ◌++◌, Option, None, refl, sym, ◌∙◌, ap, filter, nat_list_cmp_total, Contains, filter_map, IsStrictlySortedBy, IsStrictlySortedBy-filter, sorted_by, ascending-sorted_by, StatusRow}
+use Rattle.dv_track.proofs.Vocabulary.{digest_cmp, present_at, code_between, change_between, changes_between, is_among, parents_of, present_parents, status_change, status_changes, Some, Code, option_map, ◌&&◌, ◌||◌, bytes_eq, is_some, says_present, status_place}
+use Rattle.dv_track.proofs.Vocabulary.{list_any-append, or-true, Contains-cons_here, Contains-cons_there}
+use Rattle.dv_track.proofs.Amongst.{among-filter, among_sorted, is_among-Decides, same_among}
+use Rattle.dv_track.proofs.Presence.{among_there_at, there_parent}
 
 -- items without a value may be left out
 pub filter_map_some : {X Y : Type 0} (h : X → Option Y) (xs : List X) → filter_map h (filter (λ x. is_some (h x)) xs) ≡ filter_map h xs
@@ -13,6 +13,11 @@ filter_map_some h (x ∷ xs) = by (h x) refl (filter_map_some h xs)
     by : (o : Option _) → h x ≡ o → filter_map h (filter (λ x. is_some (h x)) xs) ≡ filter_map h xs → filter_map h (filter (λ x. is_some (h x)) (x ∷ xs)) ≡ filter_map h (x ∷ xs)
     by None e rest = rw e rest
     by (Some y) e rest = rw (e, e) (ap (λ l. y ∷ l) rest)
+
+-- only what is given of the members counts
+pub filter_map_same : {X Y : Type 0} (f h : X → Option Y) (xs : List X) → ((x : X) → Contains xs x → f x ≡ h x) → filter_map f xs ≡ filter_map h xs
+filter_map_same f h [] same = refl
+filter_map_same f h (x ∷ xs) same = rw (same x (Contains-cons_here x xs), filter_map_same f h xs (λ y has. same y (Contains-cons_there x xs y has))) refl
 
 module _ (source : List ℕ) (rows : List StatusRow) (load : ℕ) (now : List (List ℕ)) where
   abbrev was : List (List ℕ)
@@ -28,33 +33,39 @@ module _ (source : List ℕ) (rows : List StatusRow) (load : ℕ) (now : List (L
   all = parents_of rows ++ now
 
   same_change : (digest : List ℕ) → change_between source load was sorted digest ≡ change digest
-  same_change digest = rw (among_present rows load digest, among_sorted now digest) refl
+  same_change digest = rw (among_there_at status_place says_present refl rows load digest, among_sorted now digest) refl
 
   abbrev differs : List ℕ → Bool
   differs digest = is_some (change digest)
 
-  -- one that was present or is in the extract, and not both, is in the table or in the extract
-  one_of_both : {Y : Type 0} (f : Code → Y) (was now in_table : Bool) → (was ≡ true → in_table ≡ true) → ((not now && was) || (not was && now)) ≡ (is_some (option_map f (code_between was now)) && (in_table || now))
+  -- one that appeared or vanished was present or is in the extract, and where it was present it is in the table
+  one_of_both : {Y : Type 0} (f : Code → Y) (was now in_table : Bool) → (was ≡ true → in_table ≡ true)
+      → (is_some (option_map f (code_between was now)) && (was || now)) ≡ (is_some (option_map f (code_between was now)) && (in_table || now))
   one_of_both f true true in_table known = refl
   one_of_both f false false in_table known = refl
   one_of_both f false true in_table known = rw (or-true in_table) refl
   one_of_both f true false in_table known = rw (known refl) refl
 
-  same_digest : (digest : List ℕ) → is_among (changed was sorted) digest ≡ is_among (filter differs (sorted_by digest_cmp all)) digest
+  among_differing : (xs ys : List (List ℕ)) (digest : List ℕ) → is_among (filter differs (sorted_by digest_cmp (xs ++ ys))) digest ≡ (differs digest && (is_among xs digest || is_among ys digest))
+  among_differing xs ys digest =
+      among-filter differs (sorted_by digest_cmp (xs ++ ys)) digest ∙ ap (λ there. differs digest && there) (among_sorted (xs ++ ys) digest ∙ list_any-append (λ other. bytes_eq other digest) xs ys)
+
+  same_digest : (digest : List ℕ) → is_among (filter differs (sorted_by digest_cmp (was ++ sorted))) digest ≡ is_among (filter differs (sorted_by digest_cmp all)) digest
   same_digest digest =
-      among_both (λ digest. not (is_among sorted digest)) (λ digest. not (is_among was digest)) was sorted digest
-      ∙ rw (among_sorted now digest, among_present rows load digest, among-filter differs (sorted_by digest_cmp all) digest, among_sorted all digest, list_any-append (λ other. bytes_eq other digest) (parents_of rows) now)
-      (one_of_both _ (present_at rows digest load) (is_among now digest) (is_among (parents_of rows) digest) (λ e. (is_among-Decides (parents_of rows) digest).1 (present_parent rows digest load e)))
+      among_differing was sorted digest
+      ∙ rw (among_there_at status_place says_present refl rows load digest, among_sorted now digest)
+      (one_of_both _ (present_at rows digest load) (is_among now digest) (is_among (parents_of rows) digest) (λ e. (is_among-Decides (parents_of rows) digest).1 (there_parent status_place says_present refl rows digest load e)))
+      ∙ sym (among_differing (parents_of rows) now digest)
 
-  same_digests : changed was sorted ≡ filter differs (sorted_by digest_cmp all)
-  same_digests =
-      same_among (changed was sorted) (filter differs (sorted_by digest_cmp all))
-      (ascending-sorted_by digest_cmp nat_list_cmp_total (missing_in sorted was ++ missing_in was sorted))
-      (IsStrictlySortedBy-filter digest_cmp differs (sorted_by digest_cmp all) (ascending-sorted_by digest_cmp nat_list_cmp_total all))
-      same_digest
+  ascends : (digests : List (List ℕ)) → IsStrictlySortedBy digest_cmp (filter differs (sorted_by digest_cmp digests))
+  ascends digests = IsStrictlySortedBy-filter digest_cmp differs (sorted_by digest_cmp digests) (ascending-sorted_by digest_cmp nat_list_cmp_total digests)
 
-  pub all_changes : filter_map (change_between source load was sorted) (changed was sorted) ≡ status_changes source rows load now
+  same_digests : filter differs (sorted_by digest_cmp (was ++ sorted)) ≡ filter differs (sorted_by digest_cmp all)
+  same_digests = same_among (filter differs (sorted_by digest_cmp (was ++ sorted))) (filter differs (sorted_by digest_cmp all)) (ascends (was ++ sorted)) (ascends all) same_digest
+
+  pub all_changes : changes_between source load was sorted ≡ status_changes source rows load now
   all_changes =
-      ap (λ h. filter_map h (changed was sorted)) (λ i digest. same_change digest i)
+      ap (λ h. filter_map h (sorted_by digest_cmp (was ++ sorted))) (λ i digest. same_change digest i)
+      ∙ sym (filter_map_some change (sorted_by digest_cmp (was ++ sorted)))
       ∙ ap (filter_map change) same_digests
       ∙ filter_map_some change (sorted_by digest_cmp all)

@@ -4,10 +4,10 @@ use Rattle.dv_track.proofs.Vocabulary.{Contains-append_left, Contains-append_rig
 use Rattle.dv_track.proofs.Vocabulary.{StatusRow, appended, digest_cmp, IsApart, Extract, all_refs, delivers, lists_of, newest_rows, AreNewestFirst, present_at, code_of, status_batch, status_cmp, status_row, IsStatusBatch, newest_first, none_loaded, Contains-all_refs, delivers-from_Contains}
 use Rattle.dv_track.proofs.Vocabulary.{both_lists, tells, status_parent, status_stands, status_tied, has_load, hashes_in, is_among, parents_of, status_change, status_delta, made_of}
 use Rattle.dv_records.proofs.LastChange.{all_up_to}
-use Rattle.dv_track.proofs.Vocabulary.{same_answer}
+use Rattle.dv_track.proofs.Vocabulary.{same_answer, says_present, status_place}
 use Rattle.dv_track.proofs.Amongst.{exact, is_among-Decides}
 use Rattle.dv_track.proofs.Following.{change_parent}
-use Rattle.dv_track.proofs.Presence.{present_parent}
+use Rattle.dv_track.proofs.Presence.{there_parent}
 
 -- ---- rows of a table of extracts
 
@@ -99,7 +99,7 @@ module _ (hashes : Hashes) (source : List ℕ) (older : List Extract) (newest : 
       elim (Contains-append_cases (all_refs (newest_rows older)) refs_now refs has) [
         | inl before ↦
             Contains-append_left (parents_of rows) (hashes_in hashes refs_now) (hashes.hash refs)
-            (present_parent rows (hashes.hash refs) newest.load (was refs (both_lists newest older refs has) ∙ delivers-from_Contains (newest_rows older) refs before))
+            (there_parent status_place says_present refl rows (hashes.hash refs) newest.load (was refs (both_lists newest older refs has) ∙ delivers-from_Contains (newest_rows older) refs before))
         | inr member ↦ Contains-append_right (parents_of rows) (hashes_in hashes refs_now) (hashes.hash refs) (Contains-map hashes.hash refs_now refs member)
       ]
 

@@ -11,7 +11,9 @@ use Rattle.dv_records.proofs.EffectTies.{effect_parent, effect_stands, effect_ti
 use Rattle.dv_records.proofs.LastChange.{all_up_to}
 use Rattle.dv_track.specs.EffectRows.{effect_change, effect_delta, has_load, parents_of}
 use Rattle.dv_track.proofs.Amongst.{exact, is_among-Decides}
-use Rattle.dv_track.proofs.EffectChanged.{parent_there}
+use Rattle.dv_records.specs.EffectPlaces.{effect_place}
+use Rattle.dv_track.specs.EffectRows.{says_in_effect}
+use Rattle.dv_track.proofs.Presence.{there_parent}
 use Rattle.dv_track.proofs.EffectFollowing.{change_parent}
 
 -- a list that the newest extract delivers is in a run
@@ -109,7 +111,7 @@ module _ (hashes : Hashes) (source : List ℕ) (older : List Extract) (newest : 
       elim (Contains-append_cases (all_refs (newest_rows older)) refs_now refs has) [
         | inl before ↦
             Contains-append_left (parents_of rows) (hashes_in hashes refs_now) (hashes.hash refs)
-            (parent_there rows (hashes.hash refs) newest.load (ap is_some (was refs (both_lists newest older refs has)) ∙ goes_on older refs (delivers-from_Contains (newest_rows older) refs before)))
+            (there_parent effect_place says_in_effect refl rows (hashes.hash refs) newest.load (ap is_some (was refs (both_lists newest older refs has)) ∙ goes_on older refs (delivers-from_Contains (newest_rows older) refs before)))
         | inr member ↦ Contains-append_right (parents_of rows) (hashes_in hashes refs_now) (hashes.hash refs) (Contains-map hashes.hash refs_now refs member)
       ]
 

@@ -6,6 +6,9 @@ pub mod EffectChanged
 pub mod EffectFollowing
 pub mod EffectTold
 pub mod Following
-pub mod Merged
+pub mod Parted
 pub mod Presence
+pub mod PutIn
+pub mod Removed
 pub mod Vocabulary
+pub mod Walked

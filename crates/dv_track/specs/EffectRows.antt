@@ -1,5 +1,5 @@
 -- Effectivity tables row by row: what an extract adds to one, by the hash keys alone.
-use Rattle.std.specs.Prelude.{◌≡◌, ℕ, ◌==◌, nat_le, Bool, List, [], ◌∷◌, ◌++◌, Option, filter, is_some, map, if◌then◌else◌}
+use Rattle.std.specs.Prelude.{◌≡◌, ℕ, ◌==◌, nat_le, Bool, true, false, List, [], ◌∷◌, ◌++◌, Option, None, is_some, map, option_and_then, if◌then◌else◌}
 use Rattle.std.specs.List.{filter_map, list_all, list_any}
 use Rattle.std.specs.Option.{option_map}
 use Rattle.std.specs.Ordering.{nat_cmp, ordering_then}
@@ -10,7 +10,7 @@ use Rattle.dv_text.specs.Sorting.{sorted_by}
 use Rattle.dv_records.specs.declared.raw_rows.EffectRow.{EffectRow}
 use Rattle.dv_records.specs.Batches.{appended, digest_cmp}
 use Rattle.dv_records.specs.Collisions.{IsApart}
-use Rattle.dv_records.specs.EffectPeriods.{in_effect_since}
+use Rattle.dv_records.specs.EffectPeriods.{in_effect_since, opened_by}
 use Rattle.dv_records.specs.Effects.{effect_batch, effect_cmp, span_between}
 use Rattle.dv_records.specs.History.{Extract, lists_of, AreNewestFirst}
 use Rattle.dv_track.specs.Tracks.{hashes_in, is_among}
@@ -23,13 +23,9 @@ effect_order a b = ordering_then (nat_cmp a.load b.load) (effect_cmp a b)
 abbrev pub parents_of : List EffectRow → List (List ℕ)
 parents_of rows = map (λ row. row.parent) rows
 
--- whether a row opens a run
-abbrev pub opens : EffectRow → Bool
-opens row = row.begin == row.load
-
--- the parents that are in effect at a date, in order
-abbrev pub parents_in_effect : List EffectRow → ℕ → List (List ℕ)
-parents_in_effect rows date = filter (λ parent. is_some (in_effect_since rows parent date)) (sorted_by digest_cmp (parents_of rows))
+-- what an effectivity row says; where there is none, the parent isn't in effect
+abbrev pub says_in_effect : Option EffectRow → Bool
+says_in_effect row = is_some (option_and_then opened_by row)
 
 -- whether no row is later than a date
 abbrev pub are_up_to : List EffectRow → ℕ → Bool
@@ -43,6 +39,19 @@ has_load rows load = list_any (λ row. row.load == load) rows
 abbrev pub effect_between : List ℕ → ℕ → List ℕ → Option ℕ → Bool → Option EffectRow
 effect_between source load digest since now =
     option_map (λ span. record { parent = digest; load = load; source = source; begin = span.begin; end = span.end }) (span_between load since now)
+
+-- the row of a digest by whether it was in effect and whether it is in the extract; since when it was in effect counts only
+-- where a run ends
+abbrev pub effect_turn : List ℕ → ℕ → List ℕ → Option ℕ → Bool → Bool → Option EffectRow
+effect_turn source load digest since true false = effect_between source load digest since false
+effect_turn source load digest since false true = effect_between source load digest None true
+effect_turn source load digest since true true = None
+effect_turn source load digest since false false = None
+
+-- the rows of the digests of two lists, those that were in effect and those of the extract, in order
+abbrev pub effect_turns : List ℕ → List EffectRow → ℕ → List (List ℕ) → List (List ℕ) → List EffectRow
+effect_turns source rows load was now =
+    filter_map (λ digest. effect_turn source load digest (in_effect_since rows digest load) (is_among was digest) (is_among now digest)) (sorted_by digest_cmp (was ++ now))
 
 -- the row of a digest, where `now` are the digests of a load date
 abbrev pub effect_change : List ℕ → List EffectRow → ℕ → List (List ℕ) → List ℕ → Option EffectRow

@@ -1,25 +1,34 @@
--- The list of present parents that a status table keeps, and how rows and extracts change it.
-use Rattle.std.specs.Prelude.{◌≡◌, ℕ, Bool, true, false, not, List, [], ◌∷◌, ◌++◌, Option, filter}
+-- The list of parents that are there after the last row of a table, and how rows and extracts change it.
+use Rattle.std.specs.Prelude.{◌≡◌, ℕ, nat_le, Bool, true, false, not, List, [], ◌∷◌, ◌++◌, Option, Some, None, filter}
+use Rattle.std.specs.List.{filter_map, list_all}
 use Rattle.std.specs.Option.{option_map}
 use Rattle.std.specs.Ordering.{is_lt}
+use Rattle.std.specs.declared.cmp.Ordering.{Ordering}
+use Rattle.std.specs.declared.cmp.Ordering.TheVariants.{Equal, Greater, Less}
 use Rattle.dv_text.specs.Sorting.{sorted_by}
+use Rattle.dv_index.specs.Numbers.{parents_of}
+use Rattle.dv_index.specs.Places.{Place, latest_at}
 use Rattle.dv_records.specs.declared.raw_rows.StatusRow.{StatusRow}
 use Rattle.dv_records.specs.Batches.{digest_cmp}
-use Rattle.dv_records.specs.Reconstruction.{present_at}
 use Rattle.dv_records.specs.Statuses.{code_between}
-use Rattle.dv_track.specs.Tracks.{are_up_to, is_among, present_parents}
+use Rattle.dv_track.specs.declared.heads.Head.{Head}
+use Rattle.dv_track.specs.Tracks.{is_among}
 
--- parents are those that are present after the last row: at each date that no row is later than
-abbrev pub ArePresent : List StatusRow → List (List ℕ) → Type 0
-ArePresent rows parents = (date : ℕ) → are_up_to rows date ≡ true → parents ≡ present_parents rows date
+-- whether a parent is there at a date: what its last row that is not later says
+abbrev pub there_at : {X : Type 0} → (X → Place) → (Option X → Bool) → List X → List ℕ → ℕ → Bool
+there_at place says rows parent date = says (latest_at place rows parent date)
 
--- those of some digests that are not among others
-abbrev pub missing_in : List (List ℕ) → List (List ℕ) → List (List ℕ)
-missing_in others digests = filter (λ digest. not (is_among others digest)) digests
+-- the parents that are there at a date, in order
+abbrev pub parents_there : {X : Type 0} → (X → Place) → (Option X → Bool) → List X → ℕ → List (List ℕ)
+parents_there place says rows date = filter (λ parent. there_at place says rows parent date) (sorted_by digest_cmp (parents_of place rows))
 
--- the digests that are in one of two lists alone, in order
-abbrev pub changed : List (List ℕ) → List (List ℕ) → List (List ℕ)
-changed was now = sorted_by digest_cmp (missing_in now was ++ missing_in was now)
+-- whether no row is later than a date
+abbrev pub none_later : {X : Type 0} → (X → Place) → List X → ℕ → Bool
+none_later place rows date = list_all (λ row. nat_le (place row).load date) rows
+
+-- parents are those that are there after the last row: at each date that no row is later than
+abbrev pub AreThere : {X : Type 0} → (X → Place) → (Option X → Bool) → List X → List (List ℕ) → Type 0
+AreThere place says rows parents = (date : ℕ) → none_later place rows date ≡ true → parents ≡ parents_there place says rows date
 
 -- the row of a digest that was in a list or not, and is in another or not
 abbrev pub change_between : List ℕ → ℕ → List (List ℕ) → List (List ℕ) → List ℕ → Option StatusRow
@@ -27,9 +36,30 @@ change_between source load was now digest =
     option_map (λ code. record { parent = digest; load = load; source = source; code = code })
     (code_between (is_among was digest) (is_among now digest))
 
--- the parents that are present at a date, where `present` are those before the rows of the touched ones
-abbrev pub updated : List StatusRow → ℕ → List (List ℕ) → List (List ℕ) → List (List ℕ)
-updated rows date present touched = sorted_by digest_cmp (missing_in touched present ++ filter (λ parent. present_at rows parent date) touched)
+-- the rows of the digests of two lists, in order
+abbrev pub changes_between : List ℕ → ℕ → List (List ℕ) → List (List ℕ) → List StatusRow
+changes_between source load was now = filter_map (change_between source load was now) (sorted_by digest_cmp (was ++ now))
+
+-- the lesser of two digests that two lists begin with, and which of the lists begin with it
+abbrev pub lesser : List ℕ → List ℕ → Ordering → Head
+lesser was now Less = record { parent = was; was = true; now = false }
+lesser was now Equal = record { parent = was; was = true; now = true }
+lesser was now Greater = record { parent = now; was = false; now = true }
+
+-- the lesser digest that two lists begin with, and which of them begin with it
+abbrev pub least : List (List ℕ) → List (List ℕ) → Option Head
+least [] [] = None
+least (digest ∷ was) [] = Some (record { parent = digest; was = true; now = false })
+least [] (digest ∷ now) = Some (record { parent = digest; was = false; now = true })
+least (a ∷ was) (b ∷ now) = Some (lesser a b (digest_cmp a b))
+
+-- those of some digests that are not among others
+abbrev pub missing_in : List (List ℕ) → List (List ℕ) → List (List ℕ)
+missing_in others digests = filter (λ digest. not (is_among others digest)) digests
+
+-- the parents that are there at a date, where `present` are those before the rows of the touched ones
+abbrev pub updated : {X : Type 0} → (X → Place) → (Option X → Bool) → List X → ℕ → List (List ℕ) → List (List ℕ) → List (List ℕ)
+updated place says rows date present touched = sorted_by digest_cmp (missing_in touched present ++ filter (λ parent. there_at place says rows parent date) touched)
 
 -- those of some digests that are before another one in order, and those that are behind it
 abbrev pub before : List ℕ → List (List ℕ) → List (List ℕ)
@@ -37,8 +67,3 @@ before digest digests = filter (λ other. is_lt (digest_cmp other digest)) diges
 
 abbrev pub behind : List ℕ → List (List ℕ) → List (List ℕ)
 behind digest digests = filter (λ other. is_lt (digest_cmp digest other)) digests
-
--- a digest alone, or none
-abbrev pub if_there : Bool → List ℕ → List (List ℕ)
-if_there true digest = digest ∷ []
-if_there false digest = []

@@ -1,24 +1,24 @@
-ghost use Rattle.std.specs.Prelude.{◌≡◌, ◌≤◌, ◌<◌, ◌++◌, All, IfOk, IsTrue, OnOk, filter, length, map};
-ghost use Rattle.std.specs.List.{filter_map};
+ghost use Rattle.std.specs.Prelude.{◌≡◌, ◌≤◌, ◌<◌, ◌++◌, All, IfOk, IsTrue, OnOk, length};
 ghost use Rattle.std.specs.List.Sorted.{IsStrictlySortedBy};
 ghost use Rattle.dv_text.specs.Keys.{Hashes};
-ghost use Rattle.dv_text.specs.Sorting.{sorted_by};
 ghost use Rattle.dv_digest.specs.HashedExtracts.{HasKeys};
 ghost use Rattle.dv_catalog.specs.Feeds.{source};
 ghost use Rattle.dv_records.specs.Batches.{digest_cmp};
-ghost use Rattle.dv_records.specs.EffectPeriods.{effect_periods, in_effect_since, opened_by};
+ghost use Rattle.dv_records.specs.EffectPeriods.{effect_periods, in_effect_since};
 ghost use Rattle.dv_records.specs.History.{all_refs};
-ghost use Rattle.dv_track.specs.EffectRows.{are_up_to, effect_change, effect_changes, effect_delta, effect_order, keys_delta, IsEffectBatchAfter};
+ghost use Rattle.dv_track.specs.EffectRows.{are_up_to, effect_changes, effect_delta, effect_order, effect_turn, effect_turns, keys_delta, IsEffectBatchAfter};
 ghost use Rattle.dv_track.specs.EffectRows as spec;
 
-use crate::changes::{add, is_among};
+use crate::changes::add;
 use crate::effect_changes::{effect_row, opened};
 use crate::effect_periods::told;
+use crate::heads::{least, left};
+use crate::tracked_rows::TrackedRows;
 use dv_catalog::{Catalog, record_source};
 use dv_digest::HashedExtract;
 use dv_index::IndexedRows;
 use dv_records::{EffectRow, Period, sorted_firsts};
-use dv_text::{Digest, Duplicate, List, Memory, Stamp, Text, sorted_distinct};
+use dv_text::{Digest, Duplicate, List, Memory, Stamp, Text, sorted_list};
 use std::alloc::Global;
 use std::marker::Model;
 
@@ -27,7 +27,7 @@ use std::marker::Model;
 /// many more there is room. The rows ascend by load date, then by parent.
 #[derive(Drop)]
 pub struct EffectTable {
-    indexed: IndexedRows<EffectRow>,
+    tracked: TrackedRows<EffectRow>,
 }
 
 impl Model for EffectTable {
@@ -38,22 +38,9 @@ impl Model for EffectTable {
 
     ghost Value = { Indexed EffectRow };
 
-    ghost view = { λ table. table.indexed };
+    ghost view = { λ table. table.tracked };
 
-    ghost invariant = { λ table. IsStrictlySortedBy effect_order table.indexed.rows };
-}
-
-// The parents of the rows that open a run, in their order.
-fn opened_parents(alloc: Global, rows: &[&EffectRow]) -> Result<Vec<Digest>, Memory>
-    ensures { IfOk result (λ made. made.items ≡ spec.parents_of (filter (λ row. spec.opens row) (map (λ row. row.now) rows.now))) }
-{
-    let mut made = Vec::new(alloc);
-    for row in rows {
-        if opened(row).is_some() {
-            made.push(row.parent)?;
-        }
-    }
-    Ok(made)
+    ghost invariant = { λ table. IsStrictlySortedBy effect_order table.tracked.rows };
 }
 
 impl EffectTable {
@@ -62,8 +49,17 @@ impl EffectTable {
         requires { IsStrictlySortedBy effect_order rows }
         ensures { IfOk result (λ table. table.rows ≡ rows) }
     {
-        let indexed = IndexedRows::from_rows(alloc, rows)?;
-        Ok(EffectTable { indexed })
+        let tracked = TrackedRows::from_rows(alloc, rows)?;
+        Ok(EffectTable { tracked })
+    }
+
+    /// The table of rows that have an index. Condition: they ascend strictly by load date, then by parent.
+    pub fn from_indexed(indexed: IndexedRows<EffectRow>) -> Result<EffectTable, Memory>
+        requires { IsStrictlySortedBy effect_order indexed.rows }
+        ensures { IfOk result (λ table. table.rows ≡ indexed.rows) }
+    {
+        let tracked = TrackedRows::from_indexed(indexed)?;
+        Ok(EffectTable { tracked })
     }
 
     /// The rows, in their order. Takes no memory.
@@ -71,19 +67,19 @@ impl EffectTable {
         ensures value { result.now ≡ self.now.rows }
         ensures kept { IsStrictlySortedBy effect_order self.now.rows }
     {
-        self.indexed.rows()
+        self.tracked.rows()
     }
 
     /// The allocator that the table keeps: there is one, so no clause says which.
     pub(crate) fn allocator(&self) -> Global {
-        self.indexed.allocator()
+        self.tracked.allocator()
     }
 
     /// Does nothing: a call tells a proof that the rows ascend.
     pub(crate) fn note_order(&self)
         ensures { IsStrictlySortedBy effect_order self.now.rows }
     {
-        let _rows = self.indexed.rows();
+        let _rows = self.tracked.rows();
     }
 
     /// Makes room for so many more rows. The rows stay as they are, also for want of memory.
@@ -91,7 +87,7 @@ impl EffectTable {
         ensures rows { self.new.rows ≡ self.old.rows }
         ensures room { OnOk result (more ≤ self.new.spare) }
     {
-        self.indexed.reserve(more)
+        self.tracked.reserve(more)
     }
 
     /// Appends rows. Conditions: there is room for them, and all rows ascend strictly by load date, then by
@@ -101,14 +97,14 @@ impl EffectTable {
         requires order { IsStrictlySortedBy effect_order (self.old.rows ++ rows) }
         ensures { self.new.rows ≡ self.old.rows ++ rows }
     {
-        self.indexed.apply(rows);
+        self.tracked.apply(rows);
     }
 
     // Since when a parent is in effect at a date. Takes no memory.
     fn since(&self, parent: &Digest, date: Stamp) -> Option<Stamp>
         ensures { result ≡ in_effect_since self.now.rows parent.now date }
     {
-        opened(self.indexed.latest(parent, date)?)
+        opened(self.tracked.latest(parent, date)?)
     }
 
     // Whether the last row has a load date: no row has it where that one hasn't.
@@ -117,55 +113,68 @@ impl EffectTable {
         ensures value { result ≡ spec.has_load self.now.rows load }
         ensures ascending { IsStrictlySortedBy effect_order self.now.rows }
     {
-        match self.indexed.rows().last() {
+        match self.tracked.rows().last() {
             Some(row) => row.load == load,
             None => false,
         }
     }
 
-    // The parents that are in effect at a date, ascending. One walk over the index.
-    fn parents_in_effect(&self, date: Stamp) -> Result<Vec<Digest>, Memory>
-        ensures { IfOk result (λ found. found.items ≡ spec.parents_in_effect self.now.rows date) }
+    // The row of a parent that is in effect at a date or isn't, and is in the extract or isn't.
+    fn change(
+        &self,
+        parent: &Digest,
+        load: Stamp,
+        source: &Text,
+        was: bool,
+        now: bool,
+    ) -> Result<Option<EffectRow>, Memory>
+        ensures { IfOk result (λ row. row ≡ effect_turn source.now load parent.now (in_effect_since self.now.rows parent.now load) was now) }
     {
-        let rows = self.indexed.latest_of_each(date)?;
-        let found = opened_parents(self.allocator(), &rows)?;
-        Ok(found)
+        match (was, now) {
+            (true, false) => effect_row(parent, load, source, self.since(parent, load), false),
+            (false, true) => effect_row(parent, load, source, None, true),
+            (true, true) | (false, false) => Ok(None),
+        }
     }
 
-    // The rows of digests, in their order, where the keys of the extract ascend.
-    fn rows_of(
+    // The rows of the parents with which a run begins or ends, where those that are in effect ascend, and the keys of
+    // the extract. One walk over both.
+    fn changes_between(
         &self,
         load: Stamp,
         source: &Text,
-        keys: &List<Digest>,
-        digests: &List<Digest>,
+        was: &[Digest],
+        now: &[Digest],
     ) -> Result<List<EffectRow>, Memory>
-        requires keys { IsStrictlySortedBy digest_cmp keys.now }
-        ensures { IfOk result (λ made. made ≡ filter_map (effect_change source.now self.now.rows load keys.now) digests.now) }
+        requires was { IsStrictlySortedBy digest_cmp was.now }
+        requires now { IsStrictlySortedBy digest_cmp now.now }
+        ensures { IfOk result (λ made. made ≡ effect_turns source.now self.now.rows load was.now now.now) }
     {
+        let (mut was, mut now) = (was, now);
         let mut made = List::new(self.allocator());
-        for parent in digests.items() {
-            let now = is_among(keys.items(), parent);
-            let row = effect_row(parent, load, source, self.since(parent, load), now)?;
+        while let Some(head) = least(was, now) {
+            let row = self.change(&head.parent, load, source, head.was, head.now)?;
             add(&mut made, row)?;
+            was = left(was, head.was);
+            now = left(now, head.now);
         }
         Ok(made)
     }
 
-    // The rows of the parents with which a run begins or ends.
+    // The rows of the parents with which a run begins or ends, without a walk over the table.
     fn changes(
         &self,
         load: Stamp,
         source: &Text,
         keys: &List<Digest>,
     ) -> Result<List<EffectRow>, Memory>
+        requires { IsTrue (are_up_to self.now.rows load) }
         ensures { IfOk result (λ made. made ≡ effect_changes source.now self.now.rows load keys.now) }
     {
-        let mut all = self.parents_in_effect(load)?;
-        all.extend_from_slice(keys.items())?;
         let keys = keys.copy()?;
-        let keys = sorted_distinct(keys.into_vec());
-        let made = self.rows_of(load, source, &keys, &sorted_distinct(all))?;
+        let now = sorted_list(keys);
+        let was = self.tracked.present();
+        let made = self.changes_between(load, source, was, now.items())?;
         Ok(made)
     }
 
@@ -175,7 +184,7 @@ impl EffectTable {
     pub fn periods(&self, date: Stamp) -> Result<List<Period>, Memory>
         ensures { IfOk result (λ periods. periods ≡ effect_periods self.now.rows date) }
     {
-        let mut told = told(self.allocator(), self.indexed.rows(), date)?;
+        let mut told = told(self.allocator(), self.tracked.rows(), date)?;
         told.reverse();
         let periods = sorted_firsts(told)?;
         Ok(periods)

@@ -8,10 +8,14 @@ mod effect_feed_tables;
 mod effect_periods;
 mod effect_tables;
 mod feed_tables;
+mod heads;
 mod loads;
 mod merges;
 mod presences;
+mod removals;
 mod status_tables;
+mod telling;
+mod tracked_rows;
 
 pub use effect_tables::EffectTable;
 pub use status_tables::StatusTable;

@@ -1,19 +1,22 @@
-// The load dates of a table in order, which its last row tells.
+// The load dates of rows in load order, which the last row tells.
 ghost use Rattle.std.specs.Prelude.{◌≡◌, IsTrue};
 ghost use Rattle.std.specs.List.Sorted.{IsStrictlySortedBy};
+ghost use Rattle.dv_index.specs.Places.{are_in_load_order};
+ghost use Rattle.dv_track.specs.Presences.{none_later};
 ghost use Rattle.dv_track.specs.Tracks.{are_up_to, status_order};
 ghost use Rattle.dv_track.specs.Tracks as spec;
 
+use dv_index::Placed;
 use dv_records::StatusRow;
 use dv_text::Stamp;
 
 // A date that no row is later than. Takes no memory.
-pub(crate) fn last_load(rows: &[StatusRow]) -> Stamp
-    requires { IsStrictlySortedBy status_order rows.now }
-    ensures { IsTrue (are_up_to rows.now result) }
+pub(crate) fn last_load<R: Placed>(rows: &[R]) -> Stamp
+    requires { IsTrue (are_in_load_order R.place rows.now) }
+    ensures { IsTrue (none_later R.place rows.now result) }
 {
     match rows.last() {
-        Some(row) => row.load,
+        Some(row) => row.load(),
         None => Stamp::OPEN,
     }
 }

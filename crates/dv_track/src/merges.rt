@@ -1,91 +1,63 @@
-// Merges the parents of new rows into the kept list of present parents.
-ghost use Rattle.std.specs.Prelude.{◌≡◌, ◌≤◌, ◌<◌, ◌+◌, ◌++◌, [], length, vec_capacity};
-ghost use Rattle.std.specs.List.Sorted.{IsStrictlySortedBy};
+// Merges digests into an ascending list from the back, so that each is moved at most once.
+ghost use Rattle.std.specs.Prelude.{◌≡◌, ◌≤◌, ◌<◌, ◌+◌, ◌∷◌, ◌++◌, drop, false, length, not, take, true, vec_capacity};
+ghost use Rattle.std.specs.List.Sorted.{IsPartitionPoint, IsPermutation, IsSorted};
+ghost use Rattle.std.specs.Ordering.{is_lt};
 ghost use Rattle.dv_records.specs.Batches.{digest_cmp};
-ghost use Rattle.dv_track.specs.Presences.{before, behind, if_there, updated};
 
-use crate::presences::is_present;
-use dv_index::IndexedRows;
-use dv_records::StatusRow;
-use dv_text::{Digest, Stamp};
+use dv_text::Digest;
 
-// Those of some digests, which ascend, that are before another one, and those that are behind it.
-fn parted<'a>(digests: &'a [Digest], digest: &Digest) -> (&'a [Digest], &'a [Digest])
-    requires { IsStrictlySortedBy digest_cmp digests.now }
-    ensures before { result.0.now ≡ before digest.now digests.now }
-    ensures behind { result.1.now ≡ behind digest.now digests.now }
-    ensures bound { length result.0.now + length result.1.now ≤ length digests.now }
+// How many of the first of some digests, which are in order, are not greater than another one.
+fn count_up_to(digests: &[Digest], digest: &Digest) -> usize
+    requires { IsSorted digest_cmp digests.now }
+    ensures within { result ≤ length digests.now }
+    ensures point { IsPartitionPoint
+        (λ other. not (is_lt (digest_cmp digest.now other)) ≡ true)
+        (λ other. not (is_lt (digest_cmp digest.now other)) ≡ false)
+        digests.now result }
 {
-    match digests.binary_search(digest) {
-        Ok(place) => (&digests[..place], &digests[place + 1..]),
-        Err(place) => (&digests[..place], &digests[place..]),
-    }
+    digests.partition_point(|other| is_up_to(other, digest))
 }
 
-// Puts digests at the end, for which there is room. Takes no memory.
-fn put_all(made: &mut Vec<Digest>, digests: &[Digest])
-    requires { length made.old.items + length digests.now ≤ vec_capacity made.old }
-    ensures items { made.new.items ≡ made.old.items ++ digests.now }
-    ensures capacity { vec_capacity made.old ≤ vec_capacity made.new }
+// Whether a digest is not greater than another one.
+fn is_up_to(a: &Digest, b: &Digest) -> bool
+    ensures { result ≡ not (is_lt (digest_cmp b.now a.now)) }
 {
-    match made.extend_from_slice(digests) {
+    !b.cmp(a).is_lt()
+}
+
+// Moves the digests from a place to an end behind so many free places and one more, in which a digest goes.
+#[tactic(auto, using(dv_index::proofs::Moves::put_back))]
+fn put_before(digests: &mut [Digest], place: usize, end: usize, free: usize, digest: Digest)
+    requires range { place ≤ end }
+    requires room { end + free < length digests.old }
+    ensures len { length digests.new ≡ length digests.old }
+    ensures front { take place digests.new ≡ take place digests.old }
+    ensures back { drop (place + free) digests.new ≡ digest ∷ (drop place (take end digests.old) ++ drop (end + free + 1) digests.old) }
+{
+    digests.copy_within(place..end, place + free + 1);
+    digests[place + free] = digest;
+}
+
+// Merges digests into others, for which there is room: both are in order. Each finds its place by a binary search,
+// and those behind it move once. Takes no memory.
+pub(crate) fn merge(digests: &mut Vec<Digest>, arrivals: &[Digest])
+    requires olds { IsSorted digest_cmp digests.old.items }
+    requires news { IsSorted digest_cmp arrivals.now }
+    requires room { length digests.old.items + length arrivals.now ≤ vec_capacity digests.old }
+    ensures each { IsPermutation (digests.old.items ++ arrivals.now) digests.new.items }
+    ensures ordered { IsSorted digest_cmp digests.new.items }
+{
+    let mut end = digests.len();
+    let mut left = arrivals.len();
+    match digests.extend_from_slice(arrivals) {
         Ok(()) => {}
         Err(_) => unreachable!(),
     }
-}
-
-// Puts a digest at the end if it is there; there is room for it. Takes no memory.
-fn put_if(made: &mut Vec<Digest>, digest: &Digest, there: bool)
-    requires { length made.old.items < vec_capacity made.old }
-    ensures items { made.new.items ≡ made.old.items ++ if_there there digest.now }
-    ensures capacity { vec_capacity made.old ≤ vec_capacity made.new }
-{
-    if there {
-        match made.push(*digest) {
-            Ok(()) => {}
-            Err(_) => unreachable!(),
-        }
+    while left > 0 {
+        left -= 1;
+        let digest = arrivals[left];
+        let place = count_up_to(&digests[..end], &digest);
+        put_before(digests, place, end, left, digest);
+        end = place;
     }
-}
-
-// Puts those of some digests, which ascend, that are before another one, and that one if it is there; gives
-// those that are behind it. Takes no memory.
-fn put_up_to<'a>(
-    made: &mut Vec<Digest>,
-    digests: &'a [Digest],
-    digest: &Digest,
-    there: bool,
-) -> &'a [Digest]
-    requires order { IsStrictlySortedBy digest_cmp digests.now }
-    requires room { length made.old.items + length digests.now < vec_capacity made.old }
-    ensures items { made.new.items ≡ (made.old.items ++ before digest.now digests.now) ++ if_there there digest.now }
-    ensures capacity { vec_capacity made.old ≤ vec_capacity made.new }
-    ensures rest { result.now ≡ behind digest.now digests.now }
-    ensures bound { length made.new.items + length result.now ≤ length made.old.items + length digests.now + 1 }
-{
-    let (first, rest) = parted(digests, digest);
-    put_all(made, first);
-    put_if(made, digest, there);
-    rest
-}
-
-// Puts the present parents, brought up to the touched ones, at the end, for which there is room. Both lists
-// ascend. Takes no memory.
-pub(crate) fn merge(
-    made: &mut Vec<Digest>,
-    present: &[Digest],
-    touched: &[Digest],
-    indexed: &IndexedRows<StatusRow>,
-    date: Stamp,
-)
-    requires present { IsStrictlySortedBy digest_cmp present.now }
-    requires touched { IsStrictlySortedBy digest_cmp touched.now }
-    requires room { length made.old.items + length present.now + length touched.now ≤ vec_capacity made.old }
-    ensures { made.new.items ≡ made.old.items ++ updated indexed.now.rows date present.now touched.now }
-{
-    let mut rest = present;
-    for parent in touched {
-        rest = put_up_to(made, rest, parent, is_present(indexed, parent, date));
-    }
-    put_all(made, rest);
 }

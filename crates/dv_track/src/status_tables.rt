@@ -9,13 +9,13 @@ ghost use Rattle.dv_track.specs.Tracks.{are_up_to, keys_delta, present_parents, 
 ghost use Rattle.dv_track.specs.Tracks as spec;
 
 use crate::changes::changes_between;
-use crate::loads::{has_load, last_load};
-use crate::presences::{is_present, present_parents, put_parents, update};
+use crate::loads::has_load;
+use crate::tracked_rows::TrackedRows;
 use dv_catalog::{Catalog, record_source};
 use dv_digest::HashedExtract;
 use dv_index::IndexedRows;
 use dv_records::StatusRow;
-use dv_text::{Digest, Duplicate, List, Memory, Stamp, Text, sorted_distinct};
+use dv_text::{Digest, Duplicate, List, Memory, Stamp, Text, sorted_list};
 use std::alloc::Global;
 use std::marker::Model;
 
@@ -23,31 +23,20 @@ use std::marker::Model;
 /// how many more there is room. The rows ascend by load date, then by parent.
 #[derive(Drop)]
 pub struct StatusTable {
-    indexed: IndexedRows<StatusRow>,
-    // Those that are present after the last row, ascending: what the next extract is compared with.
-    present: Vec<Digest>,
-    // Empty between calls: room in which the parents of new rows are put in order.
-    touched: Vec<Digest>,
-    // Empty between calls: room in which the next list of present parents is made.
-    spare: Vec<Digest>,
+    tracked: TrackedRows<StatusRow>,
 }
 
 impl Model for StatusTable {
-    ghost use Rattle.std.specs.Prelude.{◌≡◌, ◌-◌, [], length, min, vec_capacity};
     ghost use Rattle.std.specs.List.Sorted.{IsStrictlySortedBy};
     ghost use Rattle.dv_index.specs.Places.{Indexed};
     ghost use Rattle.dv_records.specs.declared.raw_rows.StatusRow.{StatusRow};
-    ghost use Rattle.dv_track.specs.Presences.{ArePresent};
     ghost use Rattle.dv_track.specs.Tracks.{status_order};
 
     ghost Value = { Indexed StatusRow };
 
-    ghost view = { λ t. record {
-      rows = t.indexed.rows;
-      spare = min t.indexed.spare (min (vec_capacity t.touched) (vec_capacity t.spare - length t.present.items));
-    } };
+    ghost view = { λ table. table.tracked };
 
-    ghost invariant = { λ t. IsStrictlySortedBy status_order t.indexed.rows × ArePresent t.indexed.rows t.present.items × (t.touched.items ≡ []) × (t.spare.items ≡ []) };
+    ghost invariant = { λ table. IsStrictlySortedBy status_order table.tracked.rows };
 }
 
 impl StatusTable {
@@ -56,15 +45,17 @@ impl StatusTable {
         requires { IsStrictlySortedBy status_order rows }
         ensures { IfOk result (λ table. table.rows ≡ rows) }
     {
-        let last = last_load(rows.items());
-        let indexed = IndexedRows::from_rows(alloc, rows)?;
-        let present = present_parents(&indexed, last)?;
-        Ok(StatusTable {
-            indexed,
-            present,
-            touched: Vec::new(alloc),
-            spare: Vec::new(alloc),
-        })
+        let tracked = TrackedRows::from_rows(alloc, rows)?;
+        Ok(StatusTable { tracked })
+    }
+
+    /// The table of rows that have an index. Condition: they ascend strictly by load date, then by parent.
+    pub fn from_indexed(indexed: IndexedRows<StatusRow>) -> Result<StatusTable, Memory>
+        requires { IsStrictlySortedBy status_order indexed.rows }
+        ensures { IfOk result (λ table. table.rows ≡ indexed.rows) }
+    {
+        let tracked = TrackedRows::from_indexed(indexed)?;
+        Ok(StatusTable { tracked })
     }
 
     /// The rows, in their order. Takes no memory.
@@ -72,19 +63,19 @@ impl StatusTable {
         ensures value { result.now ≡ self.now.rows }
         ensures kept { IsStrictlySortedBy status_order self.now.rows }
     {
-        self.indexed.rows()
+        self.tracked.rows()
     }
 
     /// The allocator that the table keeps: there is one, so no clause says which.
     pub(crate) fn allocator(&self) -> Global {
-        self.indexed.allocator()
+        self.tracked.allocator()
     }
 
     /// Does nothing: a call tells a proof that the rows ascend.
     pub(crate) fn note_order(&self)
         ensures { IsStrictlySortedBy status_order self.now.rows }
     {
-        let _rows = self.indexed.rows();
+        let _rows = self.tracked.rows();
     }
 
     /// Makes room for so many more rows. The rows stay as they are, also for want of memory.
@@ -92,11 +83,7 @@ impl StatusTable {
         ensures rows { self.new.rows ≡ self.old.rows }
         ensures room { OnOk result (more ≤ self.new.spare) }
     {
-        self.indexed.reserve(more)?;
-        self.touched.reserve(more as usize)?;
-        let all = self.present.len().saturating_add(more as usize);
-        self.spare.reserve(all)?;
-        Ok(())
+        self.tracked.reserve(more)
     }
 
     /// Appends rows. Conditions: there is room for them, and all rows ascend strictly by load date, then by
@@ -106,41 +93,21 @@ impl StatusTable {
         requires order { IsStrictlySortedBy status_order (self.old.rows ++ rows) }
         ensures { self.new.rows ≡ self.old.rows ++ rows }
     {
-        if !rows.items().is_empty() {
-            self.append(rows);
-        }
-    }
-
-    fn append(&mut self, rows: List<StatusRow>)
-        requires some { 0 < length rows }
-        requires room { length rows ≤ self.old.spare }
-        requires order { IsStrictlySortedBy status_order (self.old.rows ++ rows) }
-        ensures { self.new.rows ≡ self.old.rows ++ rows }
-    {
-        put_parents(&mut self.touched, rows.items());
-        self.indexed.apply(rows);
-        let last = last_load(self.indexed.rows());
-        update(
-            &mut self.present,
-            &mut self.touched,
-            &mut self.spare,
-            &self.indexed,
-            last,
-        );
+        self.tracked.apply(rows);
     }
 
     /// Whether a parent is present at a date: its last row that is not later says so. Takes no memory.
     pub fn present(&self, parent: &Digest, date: Stamp) -> bool
         ensures { result ≡ present_at self.now.rows parent.now date }
     {
-        is_present(&self.indexed, parent, date)
+        self.tracked.is_there(parent, date)
     }
 
     /// The parents that are present at a date, ascending.
     pub fn parents(&self, date: Stamp) -> Result<List<Digest>, Memory>
         ensures { IfOk result (λ found. found ≡ present_parents self.now.rows date) }
     {
-        let found = present_parents(&self.indexed, date)?;
+        let found = self.tracked.parents_at(date)?;
         Ok(List::from_vec(found))
     }
 
@@ -149,7 +116,7 @@ impl StatusTable {
         ensures value { result ≡ spec.has_load self.now.rows load }
         ensures ascending { IsStrictlySortedBy status_order self.now.rows }
     {
-        has_load(self.indexed.rows(), load)
+        has_load(self.tracked.rows(), load)
     }
 
     // The rows of the digests that appeared or vanished, without a walk over the table.
@@ -163,8 +130,9 @@ impl StatusTable {
         ensures { IfOk result (λ made. made ≡ status_changes source.now self.now.rows load keys.now) }
     {
         let keys = keys.copy()?;
-        let now = sorted_distinct(keys.into_vec());
-        let made = changes_between(self.allocator(), load, source, &self.present, now.items())?;
+        let now = sorted_list(keys);
+        let was = self.tracked.present();
+        let made = changes_between(self.allocator(), load, source, was, now.items())?;
         Ok(made)
     }
 

@@ -1,5 +1,10 @@
-use Rattle.dv_track.proofs.Vocabulary.{sym, StatusRow, status_cmp, up_to_last_load}
+use Rattle.dv_track.proofs.Vocabulary.{sym, nat_le, all_pass, le-leb}
+use Rattle.dv_records.proofs.DatedRows.{up_to_last}
 use Rattle.dv_track.proofs.loads.last_load.Goals as goal
 
 pub returns-in-Some : goal.returns-in-Some
-returns-in-Some c = up_to_last_load (λ (row : StatusRow). row.load) status_cmp c.args.rows.now c.in-Some.row.now c.requires (sym c.in-Some.ensures.value)
+returns-in-Some g c =
+    let place = g.R.Placed.place in
+    let rows = c.args.rows.now in
+    let last = c.in-Some.row.now in
+    rw c.load.ensures (all_pass (λ row. nat_le (place row).load (place last).load) rows (λ row has. le-leb (place row).load (place last).load (up_to_last place rows last c.requires (sym c.in-Some.ensures.value) row has)))

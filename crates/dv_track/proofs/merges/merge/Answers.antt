@@ -1,35 +1,34 @@
-use Rattle.dv_track.proofs.Vocabulary.{◌≡◌, ◌+◌, ◌≤◌, [], ◌∷◌, ◌++◌, ◌∙◌, refl, sym, ap, arith, append_assoc, drop, length, is_lt, drop_all, drop_more, IsStrictlySortedBy-filter, digest_cmp, present_at, before, behind, if_there, updated}
-use Rattle.dv_track.proofs.Merged.{ascending-drop, none_touched, one_more}
+use Rattle.dv_track.proofs.Vocabulary.{◌≡◌, ◌-◌, ◌++◌, arith, ap, drop, length, take, ◌∙◌, length-take-le, take_at}
+use Rattle.dv_index.proofs.Merging.{begins, ends, goes_on}
+use Rattle.dv_track.proofs.PutIn.{digest_lt, digest_order}
 use Rattle.dv_track.proofs.merges.merge.Goals as goal
 
-pub loop-parent-preserved : goal.loop-parent-preserved
-loop-parent-preserved c =
-    let rows = c.args.indexed.now.rows in
-    let i = c.loop-parent.parent-index in
-    let parent = c.parent-item.result in
-    let rest = c.loop-parent.rest.now in
-    let more : drop i c.args.touched.now ≡ parent ∷ drop (i + 1) c.args.touched.now = drop_more c.args.touched.now i parent c.loop-parent-test.true ∙ rw (← c.parent-item.is) refl in
-    let ordered = rw more at (ascending-drop c.args.touched.now i c.requires.touched) in
-    let step = one_more (λ parent. present_at rows parent c.args.date) rest (drop (i + 1) c.args.touched.now) parent c.loop-parent.invariant.order ordered in
-    record {
-      made =
-          rw (c.put_up_to-rest.ensures.items, c.put_up_to-rest.ensures.rest, c.is_present.ensures)
-          (append_assoc (c.loop-parent.made.items ++ before parent rest) (if_there (present_at rows parent c.args.date) parent) (updated rows c.args.date (behind parent rest) (drop (i + 1) c.args.touched.now))
-          ∙ append_assoc c.loop-parent.made.items (before parent rest) (if_there (present_at rows parent c.args.date) parent ++ updated rows c.args.date (behind parent rest) (drop (i + 1) c.args.touched.now))
-          ∙ ap (λ l. c.loop-parent.made.items ++ l) (sym step)
-          ∙ ap (λ l. c.loop-parent.made.items ++ updated rows c.args.date rest l) (sym more)
-          ∙ c.loop-parent.invariant.made);
-      order = rw c.put_up_to-rest.ensures.rest (IsStrictlySortedBy-filter digest_cmp (λ other. is_lt (digest_cmp parent other)) rest c.loop-parent.invariant.order);
-      room = omega (arith, c.put_up_to-rest.ensures.bound, c.put_up_to-rest.ensures.capacity, c.loop-parent.invariant.room, c.loop-parent-test.true);
-    }
+pub loop-left-init : goal.loop-left-init
+loop-left-init c =
+    let end : c.len-end.result ≡ length c.args.digests.now.items = omega (arith, c.len-end.ensures, c.args.digests.now.ok) in
+    rw end (begins digest_lt digest_order c.args.digests.now.items c.args.arrivals.now c.extend_from_slice.new.self.items c.requires.olds c.requires.news (c.in-Ok.ensures {u = tt}).items)
 
-pub returns : goal.returns
-returns c =
-    let rows = c.args.indexed.now.rows in
-    let rest = c.loop-parent.rest.now in
-    let ended : length c.args.touched.now ≤ c.loop-parent.parent-index = omega arith in
-    let gone : drop c.loop-parent.parent-index c.args.touched.now ≡ [] = drop_all c.loop-parent.parent-index c.args.touched.now ended in
-    c.put_all.ensures.items
-    ∙ ap (λ l. c.loop-parent.made.items ++ l) (sym (none_touched (λ parent. present_at rows parent c.args.date) rest c.loop-parent.invariant.order))
-    ∙ ap (λ l. c.loop-parent.made.items ++ updated rows c.args.date rest l) (sym gone)
-    ∙ c.loop-parent.invariant.made
+pub loop-left-preserved : goal.loop-left-preserved
+loop-left-preserved c =
+    let value = c.deref_mut.ensures.value in
+    let read = c.deref.ensures.value in
+    let m = c.loop-left.invariant in
+    let next : take c.loop-left.digests.len (c.put_before.new.digests ++ drop (length c.put_before.new.digests) c.loop-left.digests.items) ≡ c.put_before.new.digests =
+    take_at c.put_before.new.digests (drop (length c.put_before.new.digests) c.loop-left.digests.items) c.loop-left.digests.len (omega (arith, c.put_before.ensures.len, ap length value, c.loop-left.digests.ok)) in
+    let counted : length (take c.loop-left.end c.loop-left.digests.items) ≡ c.loop-left.end = length-take-le c.loop-left.end c.loop-left.digests.items (omega (arith, m.long, m.end_in)) in
+    let within = rw read at c.count_up_to-place.ensures.within in
+    let point = rw read at c.count_up_to-place.ensures.point in
+    rw next
+    (goes_on digest_lt digest_order c.args.digests.now.items c.args.arrivals.now c.loop-left.digests.items c.put_before.new.digests c.loop-left.end c.loop-left.left (c.loop-left.left - 1) c.count_up_to-place.result
+    c.index-arrivals-left.result c.index-arrivals-left.result m (omega arith) c.index-arrivals-left.is (omega (arith, within, counted)) point
+    (c.put_before.ensures.len ∙ ap length value) (rw value at c.put_before.ensures.front) (rw value at c.put_before.ensures.back))
+
+pub returns-clause-each : goal.returns-clause-each
+returns-clause-each c =
+    let none : c.loop-left.left ≡ 0 = omega arith in
+    (ends digest_lt digest_order c.args.digests.now.items c.args.arrivals.now c.loop-left.digests.items c.loop-left.end (rw none at c.loop-left.invariant)).0
+
+pub returns-clause-ordered : goal.returns-clause-ordered
+returns-clause-ordered c =
+    let none : c.loop-left.left ≡ 0 = omega arith in
+    (ends digest_lt digest_order c.args.digests.now.items c.args.arrivals.now c.loop-left.digests.items c.loop-left.end (rw none at c.loop-left.invariant)).1

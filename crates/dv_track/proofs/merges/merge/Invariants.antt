@@ -1,10 +1,10 @@
-use Rattle.dv_track.proofs.Vocabulary.{◌≡◌, ◌+◌, ◌-◌, ◌≤◌, ◌++◌, drop, length, vec_capacity, IsStrictlySortedBy, digest_cmp, updated}
+use Rattle.dv_index.proofs.Merging.{IsMerging}
+use Rattle.dv_track.proofs.PutIn.{digest_lt, digest_order}
 use Rattle.dv_track.proofs.merges.merge.Given as goal
 
--- what is made so far, and what is left
-abbrev pub invariant-loop-parent : goal.invariant-loop-parent
-invariant-loop-parent l = record {
-  made : l.made.items ++ updated l.indexed.rows l.date l.rest (drop l.parent-index l.touched) ≡ l.initial.made.items ++ updated l.indexed.rows l.date l.present l.touched;
-  order : IsStrictlySortedBy digest_cmp l.rest;
-  room : length l.made.items + length l.rest + (length l.touched - l.parent-index) ≤ vec_capacity l.made;
-}
+-- what was moved so far
+abbrev pub invariant-loop-left : goal.invariant-loop-left
+invariant-loop-left l = IsMerging digest_lt digest_order l.fn.digests.items l.arrivals l.digests.items l.end l.left
+
+abbrev pub decreases-loop-left : goal.decreases-loop-left
+decreases-loop-left l = l.left

@@ -1,9 +1,10 @@
-use Rattle.dv_track.proofs.Vocabulary.{◌≡◌, ◌≤◌, ◌++◌, map, take, vec_capacity}
+use Rattle.dv_track.proofs.Vocabulary.{◌≡◌, ◌≤◌, ◌++◌, take, vec_capacity}
+use Rattle.dv_index.specs.Numbers.{parents_of}
 use Rattle.dv_track.proofs.presences.put_parents.Given as goal
 
 -- the parents of the rows so far
 abbrev pub invariant-loop-row : goal.invariant-loop-row
-invariant-loop-row l = record {
-  items : l.parents.items ≡ l.initial.parents.items ++ map (λ row. row.parent) (take l.row-index l.rows);
+invariant-loop-row g l = record {
+  items : l.parents.items ≡ l.initial.parents.items ++ parents_of g.R.Placed.place (take l.row-index l.rows);
   room : vec_capacity l.initial.parents ≤ vec_capacity l.parents;
 }

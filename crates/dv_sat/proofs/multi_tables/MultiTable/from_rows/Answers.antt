@@ -1,5 +1,5 @@
-use Rattle.dv_sat.proofs.Vocabulary.{multi_place, multi_cmp, in_load_order}
+use Rattle.dv_sat.proofs.Vocabulary.{arith, multi_place, multi_cmp, in_load_order}
 use Rattle.dv_sat.proofs.multi_tables.MultiTable.from_rows.Goals as goal
 
 pub from_rows-requires : goal.from_rows-requires
-from_rows-requires c = in_load_order multi_place multi_cmp c.args.rows c.requires
+from_rows-requires c = (omega arith, in_load_order multi_place multi_cmp c.args.rows c.requires)

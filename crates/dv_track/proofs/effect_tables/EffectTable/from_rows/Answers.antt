@@ -1,7 +1,7 @@
-use Rattle.dv_track.proofs.Vocabulary.{in_load_order}
+use Rattle.dv_track.proofs.Vocabulary.{arith, in_load_order}
 use Rattle.dv_records.specs.EffectPlaces.{effect_place}
 use Rattle.dv_records.specs.Effects.{effect_cmp}
 use Rattle.dv_track.proofs.effect_tables.EffectTable.from_rows.Goals as goal
 
 pub from_rows-requires : goal.from_rows-requires
-from_rows-requires c = in_load_order effect_place effect_cmp c.args.rows c.requires
+from_rows-requires c = (omega arith, in_load_order effect_place effect_cmp c.args.rows c.requires)

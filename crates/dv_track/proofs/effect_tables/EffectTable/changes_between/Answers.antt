@@ -1,0 +1,28 @@
+use Rattle.dv_track.proofs.Vocabulary.{◌≡◌, ◌++◌, ◌∙◌, Some, refl, sym, ap, append_assoc, option_to_list, is_among, least}
+use Rattle.dv_records.specs.EffectPeriods.{in_effect_since}
+use Rattle.dv_track.specs.EffectRows.{effect_turn, effect_turns}
+use Rattle.dv_track.proofs.Walked.{head_there, left, left_ascends, turn_first}
+use Rattle.dv_track.proofs.effect_tables.EffectTable.changes_between.Goals as goal
+
+pub loop-head-preserved : goal.loop-head-preserved
+loop-head-preserved c =
+    let source = c.args.source.now in
+    let rows = c.args.self.now.rows in
+    let load = c.args.load in
+    let was = c.loop-head.was.now in
+    let now = c.loop-head.now.now in
+    let head = c.in-Some.head in
+    let so_far = c.loop-head.invariant in
+    let found : least was now ≡ Some head = sym c.in-Some.ensures in
+    let there = head_there was now head so_far.was so_far.now found in
+    let turn = effect_turn source load head.parent (in_effect_since rows head.parent load) (is_among was head.parent) (is_among now head.parent) in
+    let row : c.in_ok-row.row ≡ turn = c.in_ok-row.ensures ∙ rw (there.0, there.1) refl in
+    record {
+      rows =
+          rw (c.in_ok-add.ensures, c.left-was.ensures, c.left-now.ensures, row)
+          (append_assoc c.loop-head.made (option_to_list turn) (effect_turns source rows load (left head.was was) (left head.now now))
+          ∙ ap (λ l. c.loop-head.made ++ l) (sym (turn_first was now head so_far.was so_far.now found source rows load))
+          ∙ so_far.rows);
+      was = rw c.left-was.ensures (left_ascends head.was was so_far.was);
+      now = rw c.left-now.ensures (left_ascends head.now now so_far.now);
+    }
