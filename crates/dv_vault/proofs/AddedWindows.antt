@@ -1,11 +1,12 @@
 -- What a vault is with what a window adds: the vault of the sealed windows and the new one.
-use Rattle.dv_vault.proofs.Vocabulary.{map-map, slice_get-map, List, None, Option, Some, [], ap, arith, length, map, refl, suc, sym, true, ℕ, ◌++◌, ◌+◌, ◌-◌, ◌∙◌, ◌∷◌, ◌≡◌, length-map, map-append, option_map, slice_get, sum_by}
+use Rattle.dv_vault.proofs.Vocabulary.{map-map, slice_get-map, List, None, Option, Some, [], ap, arith, length, map, refl, suc, sym, true, ℕ, ◌++◌, ◌+◌, ◌-◌, ◌∙◌, ◌∷◌, ◌≡◌, length-map, map-append, option_map, slice_get, sum_by, take}
 use Rattle.dv_vault.proofs.Vocabulary.{Hashes, is_window, head_of, last_load, row_count, rows_weight, tables_weight, vault_weight, vault, table_batch, tables, Rule, late_after, full_at, Rows, TableRows, Window, WindowHead, AreApart}
 use Rattle.dv_vault.proofs.Vocabulary.{raw_with, IsAddition, all_added, weight_with, HasSealed, IsBuilt, RawVault, entries_with, last_head, Addition, loaded, last_or}
 use Rattle.dv_vault.proofs.AddedBatches.{added_is_batch}
-use Rattle.dv_vault.proofs.Afterwards.{loaded_batches, vault_with, weight_with_batches, windows_still_valid}
+use Rattle.dv_vault.proofs.Afterwards.{loaded_batches, vault_reached, vault_with, weight_with_batches, windows_still_valid}
 use Rattle.dv_vault.proofs.VaultCollisions.{apart_is_free}
 use Rattle.dv_records.specs.Backwards.{backwards}
+use Rattle.dv_records.specs.Vault.{partial}
 
 -- the last load date of windows is that of their heads
 last_got : {X : Type 0} (o : Option X) (x : X) (xs : List X) → last_or o (x ∷ xs) ≡ slice_get (x ∷ xs) (length xs)
@@ -57,6 +58,17 @@ module _ (hashes : Hashes) (sealed : List Window) (raw : RawVault) (has : HasSea
 
     pub rows_loaded : addition.rows ≡ loaded raw.mapping hashes sealed window
     rows_loaded = adds.rows_are ∙ ap (sum_by row_count) batches_are ∙ loaded_batches raw.mapping hashes sealed window
+
+    -- the tables of which the first k have their batches
+    pub partly_after : (k : ℕ) → entries_with raw.tables (take k addition.batches) ≡ partial raw.mapping hashes sealed window k
+    partly_after k =
+        ap (λ (tables : List TableRows). entries_with tables (take k addition.batches)) has.tables_are
+        ∙ ap (λ (added : List Rows). entries_with (vault raw.mapping hashes sealed) (take k added)) batches_are
+        ∙ vault_reached raw.mapping hashes sealed window k
+
+    -- one batch for each table
+    pub batch_count : length addition.batches ≡ length (tables raw.mapping)
+    batch_count = ap length batches_are ∙ length-map (tables raw.mapping) (λ table. table_batch raw.mapping hashes table (backwards sealed) window)
 
     pub not_full : full_at addition.weight (length raw.heads) ≡ None → fullness ≡ None
     not_full room = sym full_with ∙ ap (λ weight. full_at weight (length raw.heads)) (sym adds.weight_is) ∙ room

@@ -1,9 +1,12 @@
 -- A vault with the batches of one more window, and the windows with it.
 use Rattle.dv_vault.proofs.Vocabulary.{Bool, List, None, Some, [], ap, arith, false, length, map, nat_le, refl, sym, true, ℕ, ◌++◌, ◌+◌, ◌∙◌, ◌∷◌, ◌≡◌, nat_lt, and_from, and_parts, list_all, last_or, nat_tests, ◌||◌, if◌then◌else◌, sum_by, Contains-cons_here, Hashes, ascends, is_window}
 use Rattle.dv_vault.proofs.Vocabulary.{are_windows_valid, last_load, length-append, map-append, row_count, rows_then, rows_weight, tables_weight, vault_weight, table_entry, vault, table_after, table_batch, Mapping, tables, Rule, TableId, late_after, full_at, TableRows, Window, entries_with}
-use Rattle.dv_vault.proofs.Vocabulary.{Contains-append_right, is_none, collision, passes_at, all_pass_both, vault-push, weight-push, loaded, fold-map}
+use Rattle.dv_vault.proofs.Vocabulary.{Contains-append_right, is_none, collision, passes_at, all_pass_both, vault-push, weight-push, loaded, fold-map, drop, suc, take, zero}
 use Rattle.dv_vault.proofs.VaultCollisions.{sealed_parts}
-use Rattle.dv_records.specs.Backwards.{backwards}
+use Rattle.dv_records.proofs.VaultSteps.{table_after-newest}
+use Rattle.dv_records.specs.Backwards.{Backwards, backwards, with_newest}
+use Rattle.dv_records.specs.Vault.{partial}
+use Rattle.dv_records.specs.declared.stores.Rows.{Rows}
 
 -- ---- the tables
 
@@ -19,6 +22,23 @@ grown mapping hashes sealed window (id ∷ ids) =
 pub vault_with : (mapping : Mapping) (hashes : Hashes) (sealed : List Window) (window : Window)
     → entries_with (vault mapping hashes sealed) (map (λ table. table_batch mapping hashes table (backwards sealed) window) (tables mapping)) ≡ vault mapping hashes (sealed ++ window ∷ [])
 vault_with mapping hashes sealed window = grown mapping hashes sealed window (tables mapping) ∙ sym (vault-push mapping hashes sealed window)
+
+-- the vault with the first k of these batches behind its rows
+reached_tables : (mapping : Mapping) (hashes : Hashes) (older : Backwards) (window : Window) (ids : List TableId) (k : ℕ)
+    → entries_with (map (table_entry mapping hashes older) ids) (take k (map (λ table. table_batch mapping hashes table older window) ids))
+    ≡ map (table_entry mapping hashes (with_newest window older)) (take k ids) ++ map (table_entry mapping hashes older) (drop k ids)
+reached_tables mapping hashes older window [] zero = refl
+reached_tables mapping hashes older window [] (suc k) = refl
+reached_tables mapping hashes older window (id ∷ ids) zero = refl
+reached_tables mapping hashes older window (id ∷ ids) (suc k) =
+    ap (λ (rows : Rows). record { table = id; rows = rows } ∷ entries_with (map (table_entry mapping hashes older) ids) (take k (map (λ table. table_batch mapping hashes table older window) ids)))
+    (sym (table_after-newest mapping hashes older window id))
+    ∙ ap (λ (rest : List TableRows). table_entry mapping hashes (with_newest window older) id ∷ rest) (reached_tables mapping hashes older window ids k)
+
+pub vault_reached : (mapping : Mapping) (hashes : Hashes) (sealed : List Window) (window : Window) (k : ℕ)
+    → entries_with (vault mapping hashes sealed) (take k (map (λ table. table_batch mapping hashes table (backwards sealed) window) (tables mapping)))
+    ≡ partial mapping hashes sealed window k
+vault_reached mapping hashes sealed window k = reached_tables mapping hashes (backwards sealed) window (tables mapping) k
 
 sum_seen : {X Y : Type 0} (f : X → Y) (weight : Y → ℕ) (xs : List X) → sum_by weight (map f xs) ≡ sum_by (λ x. weight (f x)) xs
 sum_seen f weight xs = fold-map (λ a y. a + weight y) f 0 xs

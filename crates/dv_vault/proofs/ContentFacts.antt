@@ -5,10 +5,11 @@ use Rattle.dv_vault.proofs.Vocabulary.{HubRow, LinkRow, SatRow, StatusRow, Table
 use Rattle.dv_vault.proofs.Vocabulary.{refs_read, row_read, sat_rows, sat_rows_in, status_rows_in, valid_at, HasSealed, RawVault, has_table, is_parent}
 use Rattle.dv_vault.proofs.Vocabulary.{flat_map, flat_map_more, is_valid, map, take_more}
 use Rattle.dv_text.specs.Orders.{row_cmp}
-use Rattle.dv_records.specs.ReadBack.{any_content_read, any_content_read_by, multi_content_read, multi_content_read_by, rows_read}
+use Rattle.dv_vault.proofs.Vocabulary.{get_or-map-range_with_len, length-map-range_with_len, map-range_with_len_more, range_with_len}
+use Rattle.dv_records.specs.ReadBack.{any_content_read, any_content_read_by, missing_key, multi_content_read, multi_content_read_by, rows_read}
 use Rattle.dv_records.specs.Reconstruction.{described_row}
 use Rattle.dv_records.proofs.MultiReadBack.{vault_tells}
-use Rattle.dv_vault.specs.Contents.{parents_read}
+use Rattle.dv_vault.specs.Contents.{missing_keys, parents_read}
 use Rattle.dv_catalog.specs.declared.tables.TableId.TheVariants as ids
 use Rattle.dv_vault.proofs.VaultFacts.{absent_rows, seen-twice}
 
@@ -119,3 +120,19 @@ pub mart_read : (hashes : Hashes) (sealed : List Window) (raw : RawVault) → Ha
     → any_content_read raw.mapping raw.tables feed date ≡ feed_mart sealed feed date
 mart_read hashes sealed raw has valid feed date =
     ap (λ (tables : List TableRows). any_content_read raw.mapping tables feed date) has.tables_are ∙ vault_tells raw.mapping hashes sealed valid has.valid feed date
+
+-- ---- the keys that stand for missing references
+
+-- the missing key of one hub more
+pub missing_more : (mapping : Mapping) (hub : ℕ) (keys more : List Key) (key : Key) → keys ≡ map (missing_key mapping) (range_with_len 0 hub) → key ≡ missing_key mapping hub
+    → more ≡ keys ++ key ∷ [] → more ≡ map (missing_key mapping) (range_with_len 0 (hub + 1))
+missing_more mapping hub keys more key keys_are key_is more_are =
+    more_are ∙ (λ i. keys_are i ++ key_is i ∷ []) ∙ sym (map-range_with_len_more (missing_key mapping) 0 hub hub (omega arith))
+
+-- the missing key at a hub's place
+pub missing_at : (mapping : Mapping) (hub : ℕ) (keys : List Key) (other : Key) → keys ≡ missing_keys mapping → hub < length mapping.hubs → get_or keys hub other ≡ missing_key mapping hub
+missing_at mapping hub keys other are under =
+    ap (λ keys. get_or keys hub other) are ∙ get_or-map-range_with_len (missing_key mapping) 0 (length mapping.hubs) hub hub other under (omega arith)
+
+pub missing_count : (mapping : Mapping) (keys : List Key) → keys ≡ missing_keys mapping → length keys ≡ length mapping.hubs
+missing_count mapping keys are = ap length are ∙ length-map-range_with_len (missing_key mapping) 0 (length mapping.hubs)

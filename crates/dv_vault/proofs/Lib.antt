@@ -3,7 +3,9 @@ pub mod AddedWindows
 pub mod Afterwards
 pub mod BatchesSoFar
 pub mod BatchSteps
+pub mod Broken
 pub mod ContentFacts
+pub mod ContentRows
 pub mod EmptyTables
 pub mod FeedLists
 pub mod FeedTables

@@ -5,7 +5,7 @@ use Rattle.dv_vault.proofs.Vocabulary.{slice_get-get_or, Key, NRow, Staged, Wind
 use Rattle.dv_vault.proofs.Vocabulary.{feed_hubs, is_fed_by, keys_at, is_declared, is_valid, valid_feed, Delivery, deliveries, first_offer, offered_refs, offers, offers_of, refs_from, table_of, all_refs, refs_total, deliveries_member}
 use Rattle.dv_vault.proofs.Vocabulary.{first_offer-refs, Offer, Offered, all_offered, delivery_to, kept, offer_cmp, offered_by, single_keys, stands_at, eq_by_cmp_equiv, refs-tie, none_behind, find_same, drop_got, first-sorted, sorted-first}
 use Rattle.dv_vault.proofs.Vocabulary.{sorted_by-map, map-map, map-id, subst, slice_get-map, Hashes, HashedDelivery, IsKeyOf, hashed_as, is_window, refs_fit, list_all-map, all_pass, All-map, AreHashed, IfOk, Ok, Err, Result}
-use Rattle.dv_vault.proofs.Vocabulary.{delivered}
+use Rattle.dv_vault.proofs.Vocabulary.{All-from_recursion, AllByRecursion, Keyed, delivered, keyed}
 use Rattle.dv_vault.proofs.WindowFacts as facts
 
 -- ---- lists that are kept
@@ -35,10 +35,10 @@ module _ (hashes : Hashes) (feed : ℕ) where
 -- ---- what is gathered
 
 module _ (hashes : Hashes) (mapping : Mapping) (parent : Parent) where
-  abbrev to_delivery : Offered → HashedDelivery
+  abbrev to_delivery : Offered → Keyed
   to_delivery = delivery_to (table_of parent)
 
-  abbrev hashed : Delivery → HashedDelivery
+  abbrev hashed : Delivery → Keyed
   hashed = hashed_as hashes
 
   kept_offers : (feed : ℕ) (lists : List (List Key))
@@ -62,7 +62,7 @@ module _ (hashes : Hashes) (mapping : Mapping) (parent : Parent) where
 abbrev by_refs : Delivery → Delivery → Ordering
 by_refs a b = refs_cmp a.refs b.refs
 
-abbrev by_hashed_refs : HashedDelivery → HashedDelivery → Ordering
+abbrev by_hashed_refs : Keyed → Keyed → Ordering
 by_hashed_refs a b = by_refs a.delivery b.delivery
 
 by_refs_total : IsTotalOrder by_refs
@@ -105,20 +105,27 @@ module _ (mapping : Mapping) (parent : Parent) (window : Window) where
   pub offers_fit : is_valid mapping ≡ true → is_window mapping window ≡ true → (hashes : Hashes) (gathered : List Offer) → map (offered_by hashes) gathered ≡ all_offered hashes mapping parent window.extracts
       → list_all (λ offer. refs_fit offer.refs.now) (sorted_by offer_cmp gathered) ≡ true
   offers_fit valid whole hashes gathered is =
-      sym (list_all-map (λ (item : HashedDelivery). refs_fit item.delivery.refs) (λ (offer : Offer). delivery_to (table_of parent) (offered_by hashes offer)) (sorted_by offer_cmp gathered))
-      ∙ ap (list_all (λ (item : HashedDelivery). refs_fit item.delivery.refs)) (sym (map-map (delivery_to (table_of parent)) (offered_by hashes) (sorted_by offer_cmp gathered)) ∙ sorted_offers hashes gathered is)
-      ∙ list_all-map (λ (item : HashedDelivery). refs_fit item.delivery.refs) (hashed_as hashes) (deliveries mapping parent window)
+      sym (list_all-map (λ (item : Keyed). refs_fit item.delivery.refs) (λ (offer : Offer). delivery_to (table_of parent) (offered_by hashes offer)) (sorted_by offer_cmp gathered))
+      ∙ ap (list_all (λ (item : Keyed). refs_fit item.delivery.refs)) (sym (map-map (delivery_to (table_of parent)) (offered_by hashes) (sorted_by offer_cmp gathered)) ∙ sorted_offers hashes gathered is)
+      ∙ list_all-map (λ (item : Keyed). refs_fit item.delivery.refs) (hashed_as hashes) (deliveries mapping parent window)
       ∙ all_pass (λ (item : Delivery). refs_fit item.refs) (deliveries mapping parent window) (λ item has. facts.parent_refs_fit mapping valid parent item.refs (facts.delivered mapping window whole parent item has).fits)
 
 module _ (hashes : Hashes) where
-  delivered_same : (items : List Delivery) → delivered (map (hashed_as hashes) items) ≡ items
-  delivered_same items = map-map (λ (item : HashedDelivery). item.delivery) (hashed_as hashes) items ∙ map-id items
-
   -- deliveries with their hash keys
-  pub all_hashed : {E : Type 0} (items : List Delivery) (made : Result (List HashedDelivery) E) → IfOk made (λ all. all ≡ map (hashed_as hashes) items)
+  pub all_hashed : {E : Type 0} (items : List Delivery) (made : Result (List HashedDelivery) E) → IfOk made (λ all. map keyed all ≡ map (hashed_as hashes) items)
       → IfOk made (λ all. delivered all ≡ items) × IfOk made (AreHashed hashes)
-  all_hashed items (Ok got) is =
-      (ap delivered is ∙ delivered_same items, subst (AreHashed hashes) (sym is) (All-map (λ (item : HashedDelivery). item.digest ≡ hashes.hash item.delivery.refs) (hashed_as hashes) items (λ k d under. refl)))
+  all_hashed items (Ok got) is = (
+    sym (map-map (λ (k : Keyed). k.delivery) keyed got) ∙ ap (map (λ (k : Keyed). k.delivery)) is ∙ map-map (λ (k : Keyed). k.delivery) (hashed_as hashes) items ∙ map-id items,
+    All-from_recursion (λ (item : HashedDelivery). item.digest ≡ hashes.hash item.refs.now) got (each got items is),
+  )
+    where
+      each : (got : List HashedDelivery) (items : List Delivery) → map keyed got ≡ map (hashed_as hashes) items → AllByRecursion (λ (item : HashedDelivery). item.digest ≡ hashes.hash item.refs.now) got
+      each [] items e = tt
+      each (first ∷ got) [] e = cc
+      each (first ∷ got) (item ∷ items) e =
+          let here : keyed first ≡ hashed_as hashes item = cc in
+          let rest : map keyed got ≡ map (hashed_as hashes) items = cc in
+          (ap (λ (k : Keyed). k.digest) here ∙ ap (λ (k : Keyed). hashes.hash k.delivery.refs) (sym here), each got items rest)
   all_hashed items (Err e) is = (tt, tt)
 
 -- a feed's link is in the mapping

@@ -1,8 +1,41 @@
 -- A store that takes batches, one table after the other.
-use Rattle.dv_vault.proofs.Vocabulary.{same_Some, ◌≡◌, ℕ, ◌+◌, ◌≤◌, ◌==◌, Bool, true, false, List, [], ◌∷◌, ◌++◌, Option, Some, None, refl, sym, ◌∙◌, ap, subst, arith, add-one, suc, take, Err, Result, if◌then◌else◌, eqb-true, Window}
-use Rattle.dv_vault.proofs.Vocabulary.{WindowHead, Told, TableId, KeeperError, Failed, Rows, Store, TableRows, KeeperCause, changed, HasTables, head_of, is_of_kind, row_count, rows_in, with_rows, with_seal, with_stage, IsStagedAt}
-use Rattle.dv_vault.proofs.Vocabulary.{entries_with, Became, IsOfKind, TakesRows, TakesWindow, TookRows, TookWindow, with_batch}
-use Rattle.dv_vault.proofs.BatchSteps.{AtPlace, no_more, nothing_then, rows_stay}
+use Rattle.dv_vault.proofs.Vocabulary.{same_Some, ◌≡◌, ◌⊎◌, inl, inr, ℕ, ◌+◌, ◌<◌, ◌≤◌, ◌==◌, Bool, true, false, List, [], ◌∷◌, ◌++◌, Option, Some, None, refl, sym, ◌∙◌, ap, subst, arith, add-one, suc, take, length, is_ok, Ok, Err, Result, if◌then◌else◌, eqb-true, Window}
+use Rattle.dv_vault.proofs.Vocabulary.{WindowHead, Told, TableId, KeeperError, Failed, Rows, Changes, Store, TableRows, KeeperCause, changed, HasTables, head_of, is_of_kind, row_count, rows_in, with_rows, with_seal, IsStagedAt}
+use Rattle.dv_vault.proofs.Vocabulary.{entries_with, Became, IsOfKind, IsOpen, IsReached, TookSome, reached, TakesRows, TakesWindow, TookRows, TookWindow, with_batch}
+use Rattle.dv_records.specs.declared.keepers.KeeperError.TheVariants.{Memory}
+use Rattle.dv_vault.proofs.BatchSteps.{AtPlace, nothing_then, rows_stay}
+
+-- ---- changing calls
+
+-- a changing call made its change or none
+pub made_or_not : {T : Type 0} (change : Store → Store) (old new : Option Store) (r : Result T KeeperError) → Changes change old new r → (new ≡ old) ⊎ (new ≡ changed change old)
+made_or_not change old new (Ok x) is = inr is
+made_or_not change old new (Err Memory) is = inl is
+made_or_not change old new (Err Failed) is = is
+
+-- one that is Ok made it
+pub changed_ok : {T : Type 0} (change : Store → Store) (old new : Option Store) (r : Result T KeeperError) → is_ok r ≡ true → Changes change old new r → new ≡ changed change old
+changed_ok change old new (Ok x) ok is = is
+changed_ok change old new (Err e) ok is = cc
+
+-- one that ran out of memory made none
+pub unchanged : {T : Type 0} (change : Store → Store) (old new : Option Store) (r : Result T KeeperError) → r ≡ Err Memory → Changes change old new r → new ≡ old
+unchanged change old new (Ok x) e is = cc
+unchanged change old new (Err Memory) e is = is
+unchanged change old new (Err Failed) e is = cc
+
+-- what is there of batches that went no further
+pub rows_exact : (entries : List TableRows) (batches : List Rows) (k : ℕ) (before mid after : Option Store) → TakesRows entries (take k batches) before mid → after ≡ mid
+    → Told after (λ s. HasTables s (reached entries batches k))
+rows_exact entries batches k before mid after took same now e =
+    let (was, at, has) = took now (sym same ∙ e) in
+    has.tables_are
+
+-- ---- batches
+
+-- the batches of some first tables
+abbrev pub TakesSome : List TableRows → List Rows → Option Store → Option Store → Type 0
+TakesSome entries batches before after = Became (TookSome entries batches) before after
 
 -- a change behind what a store became
 pub became_changed : (change : Store → Store) (R S : Store → Store → Type 0) → ((was now : Store) → R was now → S was (change now))
@@ -12,16 +45,9 @@ became_changed change R S step before (Some m) after is b next e =
     let (was, at, r) = b m refl in
     (was, at, subst (S was) (same_Some (change m) next (sym is ∙ e)) (step was m r))
 
--- what a store became, and then became
-pub became_then : (R S T : Store → Store → Type 0) → ((a b c : Store) → R a b → S b c → T a c) → (before mid after : Option Store) → Became R before mid → Became S mid after → Became T before after
-became_then R S T step before mid after r s next e =
-    let (m, m_is, s_holds) = s next e in
-    let (was, at, r_holds) = r m m_is in
-    (was, at, step was m next r_holds s_holds)
-
-pub took_none : (entries : List TableRows) (store : Option Store) → Told store (λ s. HasTables s entries) → TakesRows entries [] store store
-took_none entries store told s e =
-    (s, e, record { tables_are = subst (HasTables s) (sym (no_more entries)) (told s e); stage = refl; windows = refl; mapping = refl })
+-- a store that has the batches of some first tables
+pub took_first : (entries : List TableRows) (batches : List Rows) (k : ℕ) (store : Option Store) → Told store (λ s. HasTables s (reached entries batches k)) → TakesRows entries (take k batches) store store
+took_first entries batches k store told s e = (s, e, record { tables_are = told s e; stage = refl; windows = refl; mapping = refl; snapshots = refl })
 
 module _ (entries : List TableRows) (batches : List Rows) (i : ℕ) (entry : TableRows) (rows : Rows) (at : AtPlace entries batches i entry rows) (kind : IsOfKind entry rows) where
   took_step : (was now : Store) → TookRows (entries_with entries (take i batches)) was now → TookRows (entries_with entries (take (i + 1) batches)) was (with_batch entry.table rows now)
@@ -34,6 +60,7 @@ module _ (entries : List TableRows) (batches : List Rows) (i : ℕ) (entry : Tab
         stage = took.stage;
         windows = took.windows;
         mapping = took.mapping;
+        snapshots = took.snapshots;
       }
 
   pub took_more : (table : TableId) → table ≡ entry.table → (before mid after : Option Store) → after ≡ changed (with_batch table rows) mid
@@ -47,6 +74,16 @@ module _ (entries : List TableRows) (batches : List Rows) (i : ℕ) (entry : Tab
       let (was, at_was, has) = took s e in
       ap (λ t. is_of_kind t (rows_in t s.tables)) is ∙ ap (is_of_kind entry.table) (has.tables_are entry.table ∙ at.found) ∙ kind.rows
 
+  -- after a call that may have failed the batches of some first tables are there
+  pub took_some : (table : TableId) → table ≡ entry.table → i < length batches → (before mid after : Option Store) → (after ≡ mid) ⊎ (after ≡ changed (with_batch table rows) mid)
+      → TakesRows entries (take i batches) before mid → TakesSome entries batches before after
+  took_some table is within before mid after (inl same) took now e =
+      let (was, at_was, has) = took now (sym same ∙ e) in
+      (was, at_was, (i, omega (arith, within), has))
+  took_some table is within before mid after (inr made) took now e =
+      let (was, at_was, has) = took_more table is before mid after made took now e in
+      (was, at_was, (i + 1, omega (arith, within), has))
+
 -- ---- causes
 
 pub caused : {T U : Type 0} (before mid now : ℕ) (r : Result T KeeperError) (r' : Result U KeeperError) → before ≤ mid → KeeperCause mid now r → (r' ≡ Err Failed → r ≡ Err Failed) → KeeperCause before now r'
@@ -54,31 +91,16 @@ caused before mid now r r' le cause same = record { later = omega (arith, le, ca
 
 -- ---- a window
 
--- a store with a window open, and the rows of tables
-pub record IsOpen (window : Window) (entries : List TableRows) (was now : Store) : Type 0 where
-  pub tables_are : HasTables now entries
-  pub stage : now.stage ≡ Some window
-  pub windows : now.windows ≡ was.windows
-  pub mapping : now.mapping ≡ was.mapping
+-- the window is open in a store
+pub reached_open : (window : Window) (entries : List TableRows) (batches : List Rows) (k : ℕ) (store : Option Store) → Told store (IsReached window entries batches k) → Told store (λ s. s.stage ≡ Some window)
+reached_open window entries batches k store told s e = (told s e).0
 
-pub opened : (window : Window) (entries : List TableRows) (before after : Option Store) → Told before (λ s. (s.stage ≡ None) × HasTables s entries) → after ≡ changed (with_stage window) before
-    → Became (IsOpen window entries) before after
-opened window entries before after told is =
-    became_changed (with_stage window) (λ was now. (was ≡ now) × HasTables now entries) (IsOpen window entries)
-    (λ was now r. record { tables_are = r.1; stage = refl; windows = ap (λ (s : Store). s.windows) (sym r.0); mapping = ap (λ (s : Store). s.mapping) (sym r.0) })
-    before before after is (λ s e. (s, e, (refl, (told s e).1)))
-
-pub has_rows : (window : Window) (entries : List TableRows) (before after : Option Store) → Became (IsOpen window entries) before after → Told after (λ s. HasTables s entries)
-has_rows window entries before after begun s e =
-    let (was, at, is) = begun s e in
-    is.tables_are
-
-pub filled : (window : Window) (entries : List TableRows) (batches : List Rows) (before mid after : Option Store) → Became (IsOpen window entries) before mid → TakesRows entries batches mid after
+-- with all batches of the tables it is still open
+pub filled : (window : Window) (entries : List TableRows) (batches : List Rows) (before after : Option Store) → Told before (λ s. s.stage ≡ Some window) → TakesRows entries batches before after
     → Became (IsOpen window (entries_with entries batches)) before after
-filled window entries batches before mid after begun took =
-    became_then (IsOpen window entries) (TookRows (entries_with entries batches)) (IsOpen window (entries_with entries batches))
-    (λ a b c r s. record { tables_are = s.tables_are; stage = s.stage ∙ r.stage; windows = s.windows ∙ r.windows; mapping = s.mapping ∙ r.mapping })
-    before mid after begun took
+filled window entries batches before after is_open took now e =
+    let (was, at, has) = took now e in
+    (was, at, record { tables_are = has.tables_are; stage = has.stage ∙ is_open was at; windows = has.windows; mapping = has.mapping; snapshots = has.snapshots })
 
 pub staged_at : (window : Window) (entries : List TableRows) (load : ℕ) → window.load ≡ load → (before after : Option Store) → Became (IsOpen window entries) before after → Told after (λ s. IsStagedAt load s.stage)
 staged_at window entries load is before after begun s e =
@@ -89,5 +111,5 @@ pub sealed : (window : Window) (entries : List TableRows) (batches : List Rows) 
     → after ≡ changed (with_seal head) mid → TakesWindow window entries batches before after
 sealed window entries batches head is before mid after begun e =
     became_changed (with_seal head) (IsOpen window (entries_with entries batches)) (TookWindow window (entries_with entries batches))
-    (λ was now r. record { tables_are = r.tables_are; none_open = refl; windows = ap (λ l. l ++ head ∷ []) r.windows ∙ ap (λ h. was.windows ++ h ∷ []) is; mapping = r.mapping })
+    (λ was now r. record { tables_are = r.tables_are; none_open = refl; windows = ap (λ l. l ++ head ∷ []) r.windows ∙ ap (λ h. was.windows ++ h ∷ []) is; mapping = r.mapping; snapshots = r.snapshots })
     before mid after e begun

@@ -1,5 +1,5 @@
 -- What the proofs of this crate, and of those above it, take from elsewhere.
-pub use Rattle.dv_text.proofs.Vocabulary.{All-contains, All-contains_itself, AllByRecursion, Bool, Contains, Contains-append_cases, Contains-append_left, Contains-append_right, IsTotalOrder, List, None, Option, Some, [], and_from, and_parts, ap, append_assoc, arith, cond, cons_option, eq_by_cmp}
+pub use Rattle.dv_text.proofs.Vocabulary.{All-from_recursion, All-contains, All-contains_itself, AllByRecursion, Bool, Contains, Contains-append_cases, Contains-append_left, Contains-append_right, IsTotalOrder, List, None, Option, Some, [], and_from, and_parts, ap, append_assoc, arith, cond, cons_option, eq_by_cmp}
 pub use Rattle.dv_text.proofs.Vocabulary.{eq_by_cmp_equiv, eqb-true, false, false≢true, filter, filter_map, filter_map-append, flat_map, get_or, inl, inr, is_none, key_cmp, length, length-map, list_all, list_all-append, list_any, lists_ties, map, nat_cmp, nat_le, nat_tests, not, option_map}
 pub use Rattle.dv_text.proofs.Vocabulary.{option_or, option_to_list, range_with_len, refl, refs_cmp, refs_eq, replicate, reverse, same_Some, slice_get, slice_get-get_or, slice_get-map, slice_get_within, sorted_by, subst, suc, sym, take, take_more, text_cmp, texts_ties, true, zero, ℕ, ◌&&◌, ◌++◌}
 pub use Rattle.dv_text.proofs.Vocabulary.{◌+◌, ◌-◌, ◌<◌, ◌==◌, ◌∙◌, ◌∷◌, ◌≡◌, ◌≤◌, ◌⊎◌}
@@ -29,7 +29,7 @@ pub use Rattle.dv_catalog.specs.declared.tables.TableId.{TableId}
 pub use Rattle.dv_index.specs.Places.{Indexed}
 pub use Rattle.dv_keys.proofs.HubWindows.{hub_row_has, next_delta, next_least, next_none}
 pub use Rattle.dv_keys.specs.HubRows.{are_hub_rows}
-pub use Rattle.dv_keys.specs.declared.hashed_lists.HashedList.{HashedList}
+pub use Rattle.dv_keys.specs.HashedLists.{HashedList}
 pub use Rattle.dv_records.proofs.CollisionTies.{none_collide}
 pub use Rattle.dv_records.proofs.Delivered.{deliveries-apart}
 pub use Rattle.dv_records.proofs.FeedSteps.{appended-history}
@@ -43,7 +43,7 @@ pub use Rattle.dv_records.proofs.VaultRows.{has_hub, has_link, has_status, vault
 pub use Rattle.dv_records.proofs.VaultSteps.{rows_add_up, vault-push, weight-push}
 pub use Rattle.dv_records.proofs.WellFormedTables.{same_table}
 pub use Rattle.dv_records.proofs.WindowRows.{AreRows, HasForm, WindowParts, field_text, in_order, key_form, key_part, staged_rows, window_parts}
-pub use Rattle.dv_records.specs.Changes.{KeeperCause, changed}
+pub use Rattle.dv_records.specs.Changes.{Changes, KeeperCause, changed}
 pub use Rattle.dv_records.specs.HubNames.{is_named}
 pub use Rattle.dv_records.specs.Loads.{loaded}
 pub use Rattle.dv_records.specs.Marts.{feed_mart}
@@ -78,9 +78,9 @@ pub use Rattle.dv_text.specs.declared.rows.Staged.{Staged}
 pub use Rattle.dv_text.specs.declared.rows.Window.{Window}
 pub use Rattle.dv_text.specs.declared.rows.WindowHead.{WindowHead}
 pub use Rattle.dv_vault.specs.Additions.{AreApart, AreApartBy, ClashesAt, Fits, FollowAll, IsAddition, IsFirstClash, all_added, fault_at, raw_with, weight_with}
-pub use Rattle.dv_vault.specs.Keeping.{AreOfKinds, Became, HaveRoom, IsOfKind, TakesRows, TakesWindow, TookRows, TookWindow, with_batch}
+pub use Rattle.dv_vault.specs.Keeping.{AreOfKinds, Became, BreakCause, BreaksRows, BreaksWindow, BrokeOff, HaveRoom, IsBegun, IsLeftOpen, IsOfKind, IsOpen, IsReached, TakesRows, TakesWindow, TookRows, TookSome, TookWindow, break_of, reached, with_batch}
 pub use Rattle.dv_vault.specs.HashedWindows.{IsHashedWindow}
-pub use Rattle.dv_vault.specs.Offered.{IsKeyOf, Offered, all_offered, delivery_to, hashed_as, kept, key_told, offer_cmp, offered_by, single_keys, stands_at, told_by}
+pub use Rattle.dv_vault.specs.Offered.{IsKeyOf, Keyed, Offered, all_offered, delivery_to, hashed_as, kept, key_told, keyed, offer_cmp, offered_by, single_keys, stands_at, told_by}
 pub use Rattle.dv_vault.specs.declared.hashed_windows.HashedWindow.{HashedWindow}
 pub use Rattle.dv_digest.specs.declared.hashed_extracts.HashedExtract.{HashedExtract}
 pub use Rattle.dv_digest.specs.HashedExtracts.{HasKeys}
@@ -103,7 +103,7 @@ pub use Rattle.std.proofs.lemmas.Option.{slice_get_past}
 pub use Rattle.std.proofs.lemmas.Slice.Zip.{AllZip-long}
 pub use Rattle.std.specs.List.{AllZip, enumerate_from, last_or}
 unfoldable pub use Rattle.std.specs.List.Sorted.{IsStrictlySortedBy}
-pub use Rattle.std.specs.Prelude.{Err, IfNone, IfSome, Ok, OnOk, Vec}
+pub use Rattle.std.specs.Prelude.{Err, IfErr, IfNone, IfSome, Ok, OnOk, Vec}
 pub use Rattle.std.specs.Slice.{IsItemAt}
 pub use Rattle.std.specs.Vec.{with_items}
 pub use Rattle.std.specs.Vec.Iter.{into_iter_items, into_iter_len}
@@ -120,3 +120,8 @@ pub use Rattle.std.proofs.lemmas.List.FromFn.{get_or-map-range_with_len, length-
 pub use Rattle.dv_text.proofs.Members.{filter_map_more}
 pub use Rattle.dv_keys.proofs.Batches.{filter_map_same}
 pub use Rattle.dv_keys.proofs.KeyDeltas.{map_filter}
+pub use Rattle.dv_records.proofs.Vocabulary.{ordering_then}
+pub use Rattle.std.proofs.lemmas.List.FromFn.{get_or-map-range_with_len, length-map-range_with_len}
+pub use Rattle.std.specs.Cmp.Derive.Mapped.{lex_map}
+pub use Rattle.std.specs.declared.cmp.Ordering.{Ordering}
+pub use Rattle.std.specs.declared.cmp.Ordering.TheVariants.{Equal, Greater, Less}

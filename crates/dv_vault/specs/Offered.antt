@@ -15,6 +15,7 @@ use Rattle.dv_catalog.specs.Feeds.{keys_at}
 use Rattle.dv_records.specs.declared.deliveries.Delivery.{Delivery}
 use Rattle.dv_records.specs.declared.deliveries.HashedDelivery.{HashedDelivery}
 use Rattle.dv_records.specs.Deliveries.{refs_from}
+use Rattle.dv_records.specs.Deltas.{delivery_of}
 use Rattle.dv_vault.specs.declared.offers.Offer.{Offer}
 
 -- a reference list with its hash key, and the feed that brings it
@@ -59,9 +60,18 @@ single_keys hub hubs refs = map (λ key. key ∷ []) (keys_at hub hubs refs)
 abbrev pub all_offered : Hashes → Mapping → Parent → List Staged → List Offered
 all_offered hashes mapping parent extracts = flat_map (λ staged. kept hashes staged.feed (refs_from mapping parent staged)) extracts
 
-abbrev pub delivery_to : TableId → Offered → HashedDelivery
+-- a delivery with a hash key
+pub record Keyed : Type 0 where
+  pub delivery : Delivery
+  pub digest : List ℕ
+
+-- a delivery whose list is lent, and the hash key beside it
+abbrev pub keyed : HashedDelivery → Keyed
+keyed item = record { delivery = delivery_of item; digest = item.digest }
+
+abbrev pub delivery_to : TableId → Offered → Keyed
 delivery_to table offered = record { delivery = record { table = table; refs = offered.refs; feed = offered.feed }; digest = offered.digest }
 
 -- a delivery with the hash key of its reference list
-abbrev pub hashed_as : Hashes → Delivery → HashedDelivery
+abbrev pub hashed_as : Hashes → Delivery → Keyed
 hashed_as hashes item = record { delivery = item; digest = hashes.hash item.refs }

@@ -1,23 +1,25 @@
 // A window is kept: a keeper takes it, and then the tables.
-ghost use Rattle.std.specs.Prelude.{◌≡◌, ◌++◌, ◌∷◌, [], IfOk, IsTrue, List as list_of, None, OnErr, OnOk, length, map};
+ghost use Rattle.std.specs.Prelude.{◌≡◌, ◌+◌, ◌≤◌, ◌++◌, ◌∷◌, [], IfErr, IfNone, IfOk, IfSome, IsTrue, OnErr, OnOk, length, map};
 ghost use Rattle.std.specs.List.{AllZip};
-ghost use Rattle.dv_text.specs.declared.rows.WindowHead.{WindowHead};
+ghost use Rattle.dv_text.specs.Causes.{Rose};
 ghost use Rattle.dv_text.specs.Told.{Told};
-ghost use Rattle.dv_records.specs.Changes.{KeeperCause, changed};
+ghost use Rattle.dv_records.specs.Changes.{Changes, KeeperCause};
 ghost use Rattle.dv_records.specs.Standing.{HasTables};
 ghost use Rattle.dv_records.specs.States.{head_of};
 ghost use Rattle.dv_records.specs.Stores.{are_apart, is_of_kind, rows_in};
 ghost use Rattle.dv_vault.specs.Keeping as spec;
+ghost use Rattle.dv_vault.specs.Keeping.{BreakCause, break_of};
 ghost use Rattle.dv_vault.specs.Additions.{Fits, raw_with};
 ghost use Rattle.dv_vault.specs.Vaults.{Follow, entries_with, entry_of};
 
 use crate::additions::Addition;
 use crate::batches::count;
+use crate::breaks::{Break, Untaken};
 use crate::tables::Table;
 use crate::vaults::Vault;
 use dv_catalog::TableId;
 use dv_records::{Keeper, KeeperError, Rows};
-use dv_text::{List, Memory, Window, WindowHead};
+use dv_text::{Duplicate, List, Memory, Window, WindowHead};
 use std::alloc::Global;
 
 // The load date and the feeds of a window.
@@ -43,7 +45,7 @@ fn append_rows<K: Keeper>(
 ) -> Result<(), KeeperError>
     requires given { IsTrue (is_of_kind table rows.now) }
     requires stored { Told (K.store keeper.old) (λ s. IsTrue (is_of_kind table (rows_in table s.tables))) }
-    ensures change { OnOk result (K.store keeper.new ≡ changed (spec.with_batch table rows.now) (K.store keeper.old)) }
+    ensures change { Changes (spec.with_batch table rows.now) (K.store keeper.old) (K.store keeper.new) result }
     ensures cause { KeeperCause (K.faults keeper.old) (K.faults keeper.new) result }
 {
     if count(rows) == 0 {
@@ -52,52 +54,98 @@ fn append_rows<K: Keeper>(
     keeper.append(alloc, table, rows)
 }
 
-// Puts the rows of each batch that isn't empty behind those of its table, in table order.
+// Puts the rows of each batch from a place on that isn't empty behind those of its table, in table order.
 fn append_all<K: Keeper>(
     alloc: Global,
     keeper: &mut K,
     tables: &[Table],
+    from: usize,
     batches: &[Rows],
-) -> Result<(), KeeperError>
+) -> Result<(), Break>
     requires kinds { spec.AreOfKinds (map entry_of tables.now) batches.now }
     requires apart { IsTrue (are_apart (map entry_of tables.now)) }
-    requires told { Told (K.store keeper.old) (λ s. HasTables s (map entry_of tables.now)) }
+    requires within { from ≤ length tables.now }
+    requires told { Told (K.store keeper.old) (λ s. HasTables s (spec.reached (map entry_of tables.now) batches.now from)) }
     ensures told { OnOk result (spec.TakesRows (map entry_of tables.now) batches.now (K.store keeper.old) (K.store keeper.new)) }
-    ensures cause { KeeperCause (K.faults keeper.old) (K.faults keeper.new) result }
+    ensures broke { IfErr result (spec.BreaksRows (map entry_of tables.now) batches.now (K.store keeper.old) (K.store keeper.new)) }
+    ensures cause { BreakCause (K.faults keeper.old) (K.faults keeper.new) result }
 {
-    for (i, table) in tables.iter().enumerate() {
-        append_rows(alloc, keeper, table.id(), &batches[i])?;
+    for i in from..tables.len() {
+        if let Err(error) = append_rows(alloc, keeper, tables[i].id(), &batches[i]) {
+            return Err(Break {
+                error,
+                reached: Some(i),
+            });
+        }
     }
     Ok(())
 }
 
-// Gives a window to the keeper: opens it, appends its batches and seals it.
+// Completes the open window: appends the batches from a place on, and seals it.
+fn complete<K: Keeper>(
+    alloc: Global,
+    keeper: &mut K,
+    tables: &[Table],
+    from: usize,
+    addition: &Addition,
+    head: &WindowHead,
+) -> Result<(), Break>
+    requires kinds { spec.AreOfKinds (map entry_of tables.now) addition.now.batches }
+    requires apart { IsTrue (are_apart (map entry_of tables.now)) }
+    requires within { from ≤ length tables.now }
+    requires head { head.now ≡ head_of addition.now.window }
+    requires told { Told (K.store keeper.old) (spec.IsReached addition.now.window (map entry_of tables.now) addition.now.batches from) }
+    ensures told { OnOk result (spec.TakesWindow addition.now.window (map entry_of tables.now) addition.now.batches (K.store keeper.old) (K.store keeper.new)) }
+    ensures broke { IfErr result (spec.BreaksWindow addition.now.window (map entry_of tables.now) addition.now.batches (K.store keeper.old) (K.store keeper.new)) }
+    ensures cause { BreakCause (K.faults keeper.old) (K.faults keeper.new) result }
+{
+    append_all(alloc, keeper, tables, from, addition.batches.items())?;
+    match keeper.seal(alloc, head) {
+        Ok(()) => Ok(()),
+        Err(error) => Err(Break {
+            error,
+            reached: Some(tables.len()),
+        }),
+    }
+}
+
+// Gives a window to the keeper: opens it where it isn't open, appends the batches that aren't there, and seals it.
 fn keep<K: Keeper>(
     alloc: Global,
     keeper: &mut K,
     tables: &[Table],
+    begun: Option<usize>,
     addition: &Addition,
-) -> Result<(), KeeperError>
+    head: &WindowHead,
+) -> Result<(), Break>
     requires kinds { spec.AreOfKinds (map entry_of tables.now) addition.now.batches }
     requires apart { IsTrue (are_apart (map entry_of tables.now)) }
-    requires told { Told (K.store keeper.old) (λ s. (s.stage ≡ None) × HasTables s (map entry_of tables.now)) }
+    requires within { IfSome begun (λ from. from ≤ length tables.now) }
+    requires head { head.now ≡ head_of addition.now.window }
+    requires told { Told (K.store keeper.old) (spec.IsBegun addition.now.window (map entry_of tables.now) addition.now.batches begun) }
     ensures told { OnOk result (spec.TakesWindow addition.now.window (map entry_of tables.now) addition.now.batches (K.store keeper.old) (K.store keeper.new)) }
-    ensures cause { KeeperCause (K.faults keeper.old) (K.faults keeper.new) result }
+    ensures broke { IfErr result (spec.BreaksWindow addition.now.window (map entry_of tables.now) addition.now.batches (K.store keeper.old) (K.store keeper.new)) }
+    ensures cause { BreakCause (K.faults keeper.old) (K.faults keeper.new) result }
 {
-    let head = head(alloc, &addition.window)?;
-    keeper.put_stage(alloc, &addition.window)?;
-    append_all(alloc, keeper, tables, addition.batches.items())?;
-    keeper.seal(alloc, &head)
+    let Some(from) = begun else {
+        if let Err(error) = keeper.put_stage(alloc, &addition.window) {
+            return Err(Break {
+                error,
+                reached: None,
+            });
+        }
+        return complete(alloc, keeper, tables, 0, addition, head);
+    };
+    complete(alloc, keeper, tables, from, addition, head)
 }
 
-// Takes the last head away. Takes no memory.
-fn drop_last(heads: &mut List<WindowHead>)
-    ensures { (front : list_of WindowHead) (last : WindowHead) → heads.old ≡ front ++ last ∷ [] → heads.new ≡ front }
+// The heads with one behind them.
+fn heads_with(heads: &List<WindowHead>, head: WindowHead) -> Result<List<WindowHead>, Memory>
+    ensures { IfOk result (λ made. made ≡ heads.now ++ head ∷ []) }
 {
-    let none = List::new(heads.allocator());
-    let mut items = std::mem::replace(heads, none).into_vec();
-    items.pop();
-    *heads = List::from_vec(items);
+    let mut made = heads.copy()?;
+    made.push(head)?;
+    Ok(made)
 }
 
 // Makes room for the rows of batches behind those of their tables.
@@ -112,58 +160,94 @@ fn reserve_all(tables: &mut [Table], batches: &[Rows]) -> Result<(), Memory>
     Ok(())
 }
 
+// Takes the first batch away; none where there is none. Takes no memory.
+fn next_batch(batches: &mut List<Rows>) -> Option<Rows>
+    ensures some { IfSome result (λ rows. batches.old ≡ rows ∷ batches.new) }
+    ensures fewer { IfSome result (λ rows. length batches.new + 1 ≡ length batches.old) }
+    ensures none { IfNone result (length batches.old ≡ 0) }
+{
+    if batches.items().is_empty() {
+        return None;
+    }
+    Some(batches.remove(0))
+}
+
 // Puts the rows of batches behind those of their tables. Takes no memory.
 fn apply_all(tables: &mut [Table], batches: List<Rows>)
     requires room { spec.HaveRoom tables.old batches }
     requires follow { AllZip Follow (map (λ table. (entry_of table).rows) tables.old) batches }
     ensures { map entry_of tables.new ≡ entries_with (map entry_of tables.old) batches }
 {
-    let mut batches = batches.into_vec().into_iter();
+    let mut batches = batches;
     for table in tables.iter_mut() {
-        let Some(rows) = batches.next() else {
+        let Some(rows) = next_batch(&mut batches) else {
             return;
         };
         table.apply(rows);
     }
 }
 
-// Makes room for the rows of a plan, and records the head of its window.
+// Makes room for the rows of an addition behind those of their tables, and gives the head of its window, and the heads
+// with it.
 fn make_room(
     alloc: Global,
     tables: &mut [Table],
-    heads: &mut List<WindowHead>,
+    heads: &List<WindowHead>,
     addition: &Addition,
-) -> Result<(), Memory>
+) -> Result<(WindowHead, List<WindowHead>), Memory>
     requires { length addition.now.batches ≡ length tables.old }
     ensures rows { map entry_of tables.new ≡ map entry_of tables.old }
     ensures room { OnOk result (spec.HaveRoom tables.new addition.now.batches) }
-    ensures heads { OnOk result (heads.new ≡ heads.old ++ head_of addition.now.window ∷ []) }
-    ensures kept { OnErr result (heads.new ≡ heads.old) }
+    ensures head { IfOk result (λ made. made.0 ≡ head_of addition.now.window) }
+    ensures heads { IfOk result (λ made. made.1 ≡ heads.now ++ head_of addition.now.window ∷ []) }
 {
     reserve_all(tables, addition.batches.items())?;
     let head = head(alloc, &addition.window)?;
-    heads.push(head)
+    let heads = heads_with(heads, head.copy()?)?;
+    Ok((head, heads))
 }
 
 impl Vault {
     /// Gives an addition to the keeper, and puts it behind the rows of the tables. The keeper has then the
-    /// window's rows and its head. With an error the vault is as before; `Failed` comes only where the keeper's
-    /// count of faults rose. Condition: the keeper's store, where it is told, has the rows of the tables and no
-    /// window open.
-    pub fn take<K: Keeper>(&mut self, keeper: &mut K, addition: Addition) -> Result<(), KeeperError>
+    /// window's rows and its head. `begun` is none where no window is open; where the addition's is, it says how many
+    /// first tables, in table order, have their rows of it already. All memory that the vault needs is taken before
+    /// the keeper's store changes. With an error the vault is as before, and the keeper's store is as before, or has
+    /// the window open and the rows of some first tables, or has it sealed. After `Memory` `reached` says how far it
+    /// got; `Failed` comes only where the keeper's count of faults rose. Condition: the keeper's store, where it is
+    /// told, has the rows of the tables, and those of the window that `begun` says.
+    pub fn take<K: Keeper>(
+        &mut self,
+        keeper: &mut K,
+        begun: Option<usize>,
+        addition: Addition,
+    ) -> Result<(), Untaken>
         requires fits { Fits self.old addition }
-        requires told { Told (K.store keeper.old) (λ s. (s.stage ≡ None) × HasTables s self.old.tables) }
+        requires within { IfSome begun (λ from. from ≤ length self.old.tables) }
+        requires told { Told (K.store keeper.old) (spec.IsBegun addition.window self.old.tables addition.batches begun) }
         ensures taken { OnOk result (self.new ≡ raw_with addition self.old) }
         ensures kept { OnErr result (self.new ≡ self.old) }
         ensures told { OnOk result (spec.TakesWindow addition.window self.old.tables addition.batches (K.store keeper.old) (K.store keeper.new)) }
-        ensures cause { KeeperCause (K.faults keeper.old) (K.faults keeper.new) result }
+        ensures broke { IfErr result (λ untaken. (untaken.addition ≡ addition) × spec.BreaksWindow addition.window self.old.tables addition.batches (K.store keeper.old) (K.store keeper.new) (break_of untaken)) }
+        ensures later { K.faults keeper.old ≤ K.faults keeper.new }
+        ensures cause { IfErr result (λ untaken. untaken.error ≡ KeeperError.Failed → Rose (K.faults keeper.old) (K.faults keeper.new)) }
     {
         let alloc = self.heads.allocator();
-        make_room(alloc, &mut self.raw.tables, &mut self.heads, &addition)?;
-        if let Err(error) = keep(alloc, keeper, &self.raw.tables, &addition) {
-            drop_last(&mut self.heads);
-            return Err(error);
+        let Ok((head, heads)) = make_room(alloc, &mut self.raw.tables, &self.heads, &addition)
+        else {
+            return Err(Untaken {
+                addition,
+                error: KeeperError::Memory,
+                reached: begun,
+            });
+        };
+        if let Err(broken) = keep(alloc, keeper, &self.raw.tables, begun, &addition, &head) {
+            return Err(Untaken {
+                addition,
+                error: broken.error,
+                reached: broken.reached,
+            });
         }
+        self.heads = heads;
         self.weight = addition.weight;
         apply_all(&mut self.raw.tables, addition.batches);
         Ok(())

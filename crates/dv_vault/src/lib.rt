@@ -4,10 +4,13 @@
 
 mod additions;
 mod batches;
+mod breaks;
+mod content_rows;
 mod contents;
 mod hashed_windows;
 mod hub_keys;
 mod keeping;
+mod lenders;
 mod multi_contents;
 mod named_hubs;
 mod offers;
@@ -17,6 +20,8 @@ mod tables;
 mod vaults;
 
 pub use additions::{Addition, AdditionFault};
+pub use breaks::Untaken;
+pub use content_rows::ContentRow;
 pub use hashed_windows::{HashedWindow, gathered};
 pub use offers::deliveries;
 pub use vaults::Vault;

@@ -1,5 +1,5 @@
-// What a window delivers to a hub or a link. The reference lists that its rows bring are gathered as they
-// stand in the rows, and only those that are delivered are copied.
+// What a window delivers to a hub or a link. The reference lists that its rows bring are lent as they stand in
+// the rows, and none is copied.
 ghost use Rattle.std.specs.Prelude.{◌≡◌, ℕ, ◌∷◌, ◌++◌, [], IfOk, IsTrue, OnOk, Some, if◌then◌else◌, map, slice_get};
 ghost use Rattle.std.specs.List.{flat_map, list_all};
 ghost use Rattle.dv_text.specs.declared.rows.Key.{Key};
@@ -19,8 +19,8 @@ ghost use Rattle.dv_vault.specs.Offered as offered;
 use crate::hashed_windows::HashedWindow;
 use dv_catalog::{Catalog, Parent, TableId};
 use dv_digest::{HashedExtract, Room, hash_key, refs_fit};
-use dv_records::{Delivery, HashedDelivery};
-use dv_text::{Digest, Duplicate, Key, KeyDigest, List, Memory, are_missing};
+use dv_records::HashedDelivery;
+use dv_text::{Digest, Key, KeyDigest, List, Memory, are_missing};
 use std::alloc::Global;
 use std::slice::from_ref;
 
@@ -186,12 +186,12 @@ fn add_offers<'a, H: KeyDigest>(
 }
 
 // What the rows of a window bring to a hub or a link, feed by feed.
-fn all_offers<'a, H: KeyDigest>(
+fn all_offers<'b, 'a, H: KeyDigest>(
     alloc: Global,
     catalog: &Catalog,
-    window: &'a HashedWindow<'a>,
+    window: &'b HashedWindow<'a>,
     parent: Parent,
-) -> Result<Vec<Offer<'a>>, Memory>
+) -> Result<Vec<Offer<'b>>, Memory>
     requires { IsHashedWindow (hashes_of H.digest_of H.size) window.now }
     ensures { IfOk result (λ offers. map (offered.offered_by (hashes_of H.digest_of H.size)) offers.items ≡ offered.all_offered (hashes_of H.digest_of H.size) catalog.now parent window.now.window.now.extracts) }
 {
@@ -212,23 +212,8 @@ fn first_offers(offers: Vec<Offer>) -> Result<Vec<Offer>, Memory>
     Ok(offers)
 }
 
-fn copy_refs(alloc: Global, refs: &[Key]) -> Result<List<Key>, Memory>
-    ensures { IfOk result (λ made. made ≡ refs.now) }
-{
-    let mut made = List::with_room(alloc, refs.len())?;
-    for key in refs {
-        made.push(key.copy()?)?;
-    }
-    Ok(made)
-}
-
 // The hash key of a reference list: the one that is told, else it is worked out.
-fn key_of<H: KeyDigest>(
-    digest: &H,
-    told: Option<&Digest>,
-    refs: &List<Key>,
-    room: &mut Room,
-) -> Digest
+fn key_of<H: KeyDigest>(digest: &H, told: Option<&Digest>, refs: &[Key], room: &mut Room) -> Digest
     requires { IsTrue (fits.refs_fit refs.now) }
     ensures { result ≡ offered.key_told (hashes_of H.digest_of H.size) (offered.told_by told.entry) refs.now }
 {
@@ -240,26 +225,41 @@ fn key_of<H: KeyDigest>(
     hash_key(digest, refs, room)
 }
 
+// Puts an offer at the end, as a delivery to a table.
+fn add_delivery<'a, H: KeyDigest>(
+    items: &mut List<HashedDelivery<'a>>,
+    table: TableId,
+    offer: &Offer<'a>,
+    digest: &H,
+    room: &mut Room,
+) -> Result<(), Memory>
+    requires { IsTrue (fits.refs_fit offer.now.refs.now) }
+    ensures { OnOk result (map offered.keyed items.new ≡ map offered.keyed items.old ++ offered.delivery_to table (offered.offered_by (hashes_of H.digest_of H.size) offer.now) ∷ []) }
+{
+    let key = key_of(digest, offer.told, offer.refs, room);
+    let item = HashedDelivery {
+        table,
+        refs: offer.refs,
+        feed: offer.feed,
+        digest: key,
+    };
+    items.push(item)
+}
+
 // Offers as deliveries to a table.
-fn to_deliveries<H: KeyDigest>(
+fn to_deliveries<'a, H: KeyDigest>(
     alloc: Global,
     table: TableId,
-    offers: &[Offer],
+    offers: &[Offer<'a>],
     digest: &H,
-) -> Result<List<HashedDelivery>, Memory>
+) -> Result<List<HashedDelivery<'a>>, Memory>
     requires { IsTrue (list_all (λ offer. fits.refs_fit offer.refs.now) offers.now) }
-    ensures { IfOk result (λ items. items ≡ map (offered.delivery_to table) (map (offered.offered_by (hashes_of H.digest_of H.size)) offers.now)) }
+    ensures { IfOk result (λ items. map offered.keyed items ≡ map (λ offer. offered.delivery_to table (offered.offered_by (hashes_of H.digest_of H.size) offer)) offers.now) }
 {
     let mut room = Room::new(alloc)?;
     let mut items = List::with_room(alloc, offers.len())?;
     for offer in offers {
-        let refs = copy_refs(alloc, offer.refs)?;
-        let key = key_of(digest, offer.told, &refs, &mut room);
-        let feed = offer.feed;
-        items.push(HashedDelivery {
-            delivery: Delivery { table, refs, feed },
-            digest: key,
-        })?;
+        add_delivery(&mut items, table, offer, digest, &mut room)?;
     }
     Ok(items)
 }
@@ -275,14 +275,14 @@ fn table_of(parent: Parent) -> TableId
 
 /// What a window delivers to a hub or a link: each reference list that its rows bring once, in order, by the
 /// first feed that brings it, with its hash key; a list whose keys are all missing is left out. A link's feed
-/// brings to each of its hubs the hub's key. Conditions: it is a window of the mapping, and has its hash keys.
-pub fn deliveries<H: KeyDigest>(
+/// brings to each of its hubs the hub's key. The lists are lent from the window. Conditions: it is a window of the mapping, and has its hash keys.
+pub fn deliveries<'b, 'a, H: KeyDigest>(
     alloc: Global,
     catalog: &Catalog,
-    window: &HashedWindow<'_>,
+    window: &'b HashedWindow<'a>,
     parent: Parent,
     digest: &H,
-) -> Result<List<HashedDelivery>, Memory>
+) -> Result<List<HashedDelivery<'b>>, Memory>
     requires valid { IsTrue (is_valid catalog.now) }
     requires window { IsTrue (is_window catalog.now window.now.window.now) }
     requires gathered { IsHashedWindow (hashes_of H.digest_of H.size) window.now }

@@ -39,18 +39,18 @@ pub(crate) enum Table {
 }
 
 // The extract of a feed among extracts.
-fn extract_in<'a>(extracts: &'a [HashedExtract<'a>], feed: u32) -> Option<&'a HashedExtract<'a>>
+fn extract_in<'b, 'a>(extracts: &'b [HashedExtract<'a>], feed: u32) -> Option<&'b HashedExtract<'a>>
     ensures { option_map (λ extract. extract.now) result ≡ find (λ extract. extract.staged.now.feed == feed) extracts.now }
 {
     extracts.iter().find(|extract| extract.staged.feed == feed)
 }
 
 // The extract of a feed in a window, which has its hash keys, and whose rows ascend and fit what they are hashed in.
-fn extract_of<'a, H: KeyDigest>(
+fn extract_of<'b, 'a, H: KeyDigest>(
     catalog: &Catalog,
-    window: &'a HashedWindow<'a>,
+    window: &'b HashedWindow<'a>,
     feed: u32,
-) -> Option<&'a HashedExtract<'a>>
+) -> Option<&'b HashedExtract<'a>>
     requires valid { IsTrue (is_valid catalog.now) }
     requires window { IsTrue (is_window catalog.now window.now.window.now) }
     requires gathered { IsHashedWindow (hashes_of H.digest_of H.size) window.now }

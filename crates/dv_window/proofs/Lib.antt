@@ -4,4 +4,5 @@ pub mod OutcomeSteps
 pub mod PlanFacts
 pub mod SealedAgain
 pub mod StartFacts
+pub mod Stepped
 pub mod Vocabulary

@@ -5,7 +5,7 @@ pub use Rattle.dv_stage.proofs.Vocabulary.{Contains-cons_here, Ok, made_of, opti
 pub use Rattle.dv_records.proofs.Vocabulary.{Contains-cons_there, Hashes, append-nil, are_windows_valid, ascends, collision, is_window, no_rows, rows_in, vault, vault_weight, ◌&&◌}
 pub use Rattle.dv_records.specs.ReadBack.{any_content_read}
 pub use Rattle.dv_mapfile.proofs.Vocabulary.{IfSome, built_mapping, if◌then◌else◌}
-pub use Rattle.dv_vault.proofs.Vocabulary.{AreApart, HasSealed, IsAddition, IsBuilt, RawVault, TakesWindow, Told, are_heads_of, full_at, hashes_of, head_of, last_head, last_load, late_after, loaded}
+pub use Rattle.dv_vault.proofs.Vocabulary.{AreApart, HasSealed, IsAddition, IsBuilt, RawVault, TableRows, TakesWindow, Told, and_parts, are_heads_of, arith, full_at, hashes_of, head_of, last_head, last_load, late_after, loaded, map-append, ◌≤◌, ◌⊎◌}
 pub use Rattle.dv_judge.proofs.Vocabulary.{feed_twice, no_extracts, unknown_feed, window_of, window_rule}
 pub use Rattle.dv_catalog.specs.declared.rules.Rule.{Rule}
 pub use Rattle.dv_catalog.specs.declared.rules.Rule.TheVariants.{Collision}
@@ -13,23 +13,26 @@ pub use Rattle.dv_catalog.specs.declared.windows.WindowIn.{WindowIn}
 pub use Rattle.dv_judge.proofs.ReadWindows.{window_of-is_window}
 pub use Rattle.dv_mapfile.proofs.ReadMappings.{built_parts}
 pub use Rattle.dv_records.specs.Outcomes.{accepted, collides, differs, differs_from, if_new, late, open_other, outcome, refusal, too_long, vault_full, window_at}
-pub use Rattle.dv_records.specs.Standing.{IsMappedBy}
-pub use Rattle.dv_records.specs.States.{State, are_dates_valid, are_not_later, beginning, snapshots_weight}
-pub use Rattle.dv_records.specs.Steps.{sealed_with}
+pub use Rattle.dv_records.specs.Snapshots.{snapshot}
+pub use Rattle.dv_records.specs.Standing.{HasTables, IsMappedBy, Stands}
+pub use Rattle.dv_records.specs.States.{State, are_dates_valid, are_not_later, beginning, is_valid_state, snapshots_weight}
+pub use Rattle.dv_records.specs.Steps.{LoadBroke, opened, sealed_with}
 pub use Rattle.dv_records.specs.declared.answers.Outcome.{Outcome}
 pub use Rattle.dv_records.specs.declared.stores.Store.{Store}
 pub use Rattle.dv_text.specs.declared.rows.NRow.{NRow}
 pub use Rattle.dv_text.specs.declared.rows.Staged.{Staged}
 pub use Rattle.dv_text.specs.declared.rows.Window.{Window}
 pub use Rattle.dv_text.specs.declared.rows.WindowHead.{WindowHead}
-pub use Rattle.dv_vault.proofs.AddedWindows.{full_with, last_same, not_full, rows_loaded, sealed_after}
+pub use Rattle.dv_vault.proofs.AddedWindows.{batch_count, full_with, last_same, not_full, partly_after, rows_loaded, sealed_after}
 pub use Rattle.dv_vault.proofs.EmptyTables.{empty_rows}
 pub use Rattle.dv_records.proofs.NoWindows.{none_valid}
 pub use Rattle.dv_vault.proofs.NoWindows.{none_sealed}
+pub use Rattle.dv_vault.specs.Keeping.{Became, BrokeOff, IsLeftOpen, IsOpen, TookWindow}
+pub use Rattle.dv_vault.specs.Vaults.{entries_with}
 pub use Rattle.dv_vault.proofs.SealedContents.{sealed_rows}
 pub use Rattle.dv_vault.proofs.VaultCollisions.{apart_is_free, clash_collides}
 pub use Rattle.dv_vault.specs.declared.additions.Addition.{Addition}
-pub use Rattle.dv_window.specs.Offices.{Agrees, AnswerSays, Held, IsAtRest, IsNew, IsNewOf, StandsFor}
+pub use Rattle.dv_window.specs.Offices.{Agrees, AnswerSays, Held, IsAtRest, IsNew, IsNewOf, StandsFor, StepsTo}
 pub use Rattle.dv_window.specs.Plans.{Collides, IsAgain, IsNewWindow, IsPlan, IsTooMuch, Stops, early_rule, given_rules, head_at, held_with, late_by, window_read}
 pub use Rattle.dv_window.specs.Stopping.{answer_of}
 pub use Rattle.dv_window.specs.declared.stops.Stop.{Stop}

@@ -13,9 +13,9 @@ use Rattle.dv_records.specs.declared.answers.Outcome.TheVariants as outcomes
 use Rattle.dv_records.specs.declared.stores.Store.{Store}
 use Rattle.dv_records.specs.Loads.{loaded}
 use Rattle.dv_records.specs.Outcomes.{outcome}
-use Rattle.dv_records.specs.Standing.{HasTables, IsMappedBy}
+use Rattle.dv_records.specs.Standing.{HasTables, IsMappedBy, Stands}
 use Rattle.dv_records.specs.States.{State, is_valid_state}
-use Rattle.dv_records.specs.Steps.{sealed_with}
+use Rattle.dv_records.specs.Steps.{LoadStep, sealed_with}
 use Rattle.dv_vault.specs.Vaults.{HasSealed, RawVault}
 
 -- what an office holds: the vault of the sealed windows, the open window, the dates of the snapshots, and whether its
@@ -75,6 +75,10 @@ AnswerSays mapping hashes state given load.Memory = Unit {0}
 abbrev pub OfficeAfter : Hashes → State → WindowIn → Held → LoadAnswer → Held → Type 0
 OfficeAfter hashes state given held (load.Loaded rows) held' = StandsFor hashes (sealed_with (window_of held.vault.mapping given) state) held'
 OfficeAfter hashes state given held answer held' = held' ≡ held
+
+-- a store that is told stands for a state that the answer leaves
+abbrev pub StepsTo : Mapping → Hashes → State → WindowIn → LoadAnswer → Option Store → Type 0
+StepsTo mapping hashes state given answer after = Told after (λ store. (state' : State) × LoadStep mapping hashes state given answer state' × Stands mapping hashes state' store)
 
 -- what the keeper's store has after the answer: with `Loaded` it agrees again, and it is as before where nothing was loaded
 abbrev pub StoreAfter : Held → Option Store → LoadAnswer → Option Store → Type 0

@@ -9,7 +9,7 @@ use crate::mappings::{ACCOUNTS, ASSIGNMENTS, ORDERS, catalog, window};
 use dv_catalog::{Catalog, Parent, TableId, WindowIn};
 use dv_digest::{Md5Keys, Room, hash_key, refs_fit};
 use dv_judge::{given_rule, stage_window};
-use dv_records::{Delivery, HashedDelivery};
+use dv_records::HashedDelivery;
 use dv_text::{Memory, Window};
 use dv_vault::{deliveries, gathered};
 use std::alloc::{AllocError, Global};
@@ -17,7 +17,11 @@ use std::process::Abort;
 use std::test::Fail;
 
 // Puts a delivery as the letter and the place of its table, its feed and its keys.
-fn put_item(into: &mut Vec<u8>, rt: &impl AllocGlobal, item: &Delivery) -> Result<(), AllocError> {
+fn put_item(
+    into: &mut Vec<u8>,
+    rt: &impl AllocGlobal,
+    item: &HashedDelivery<'_>,
+) -> Result<(), AllocError> {
     let (letter, place) = match item.table {
         TableId::Hub(hub) => ('H', hub),
         TableId::Link(link) => ('L', link),
@@ -26,15 +30,14 @@ fn put_item(into: &mut Vec<u8>, rt: &impl AllocGlobal, item: &Delivery) -> Resul
     let feed = item.feed;
     let text = format!(in rt.alloc(); "{letter}{place} {feed}:")?;
     into.extend_from_slice(text.as_bytes())?;
-    put_keys(into, item.refs.items())?;
+    put_keys(into, item.refs)?;
     into.push(b' ')?;
     Ok(())
 }
 
 // Whether the hash key of a delivery is that of its references.
-fn is_hashed(item: &HashedDelivery, room: &mut Room) -> bool {
-    let refs = &item.delivery.refs;
-    refs_fit(refs) && item.digest == hash_key(&Md5Keys, refs, room)
+fn is_hashed(item: &HashedDelivery<'_>, room: &mut Room) -> bool {
+    refs_fit(item.refs) && item.digest == hash_key(&Md5Keys, item.refs, room)
 }
 
 // Whether the extracts break no rule as they are given.
@@ -76,7 +79,7 @@ fn delivered(
     let mut shown = Vec::new(rt.alloc());
     for item in deliveries(rt.alloc(), &catalog, &hashed, parent, &Md5Keys)?.items() {
         assert!(rt; is_hashed(item, &mut room));
-        put_item(&mut shown, rt, &item.delivery)?;
+        put_item(&mut shown, rt, item)?;
     }
     Ok(shown)
 }

@@ -4,5 +4,5 @@ use Rattle.dv_vault.proofs.contents.rows_read.Given as goal
 -- the rows of the parents so far
 abbrev pub invariant-loop-parent : goal.invariant-loop-parent
 invariant-loop-parent l =
-    (definition : FeedDef) → slice_get l.catalog.feeds l.feed ≡ Some definition
-    → l.rows ≡ filter_map (row_read l.catalog (entries_of l.raw) definition l.feed l.date) (take l.parent-index l.parents)
+    (definition : FeedDef) → slice_get l.lender.catalog.now.feeds l.feed ≡ Some definition
+    → l.rows.items ≡ filter_map (row_read l.lender.catalog.now (entries_of l.lender.raw.now) definition l.feed l.date) (take l.parent-index l.parents)

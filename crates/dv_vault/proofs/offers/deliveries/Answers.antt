@@ -1,4 +1,4 @@
-use Rattle.dv_vault.proofs.Vocabulary.{◌≡◌, List, subst, hashes_of, IfOk, deliveries, HashedDelivery}
+use Rattle.dv_vault.proofs.Vocabulary.{◌≡◌, ◌∙◌, List, sym, subst, map, map-map, hashes_of, IfOk, deliveries, delivery_to, offered_by, table_of, Keyed, keyed}
 use Rattle.dv_vault.proofs.SortedOffers.{all_hashed, offers_fit, sorted_offers}
 use Rattle.dv_vault.proofs.offers.deliveries.Goals as goal
 
@@ -12,7 +12,8 @@ returns g c =
     let hashes = hashes_of g.H.KeyDigest.digest_of g.H.KeyDigest.size in
     let window = c.args.window.now.window.now in
     let (items, hashed) = all_hashed hashes (deliveries c.args.catalog.now c.args.parent window) c.to_deliveries.result
-    (subst (λ (all : List HashedDelivery). IfOk c.to_deliveries.result (λ items. items ≡ all))
-    (rw (c.table_of.ensures, c.deref.ensures.value, c.in_ok-offers.ensures) (sorted_offers c.args.catalog.now c.args.parent window hashes c.in_ok-all_offers.field-0.items c.in_ok-all_offers.ensures))
+    (subst (λ (all : List Keyed). IfOk c.to_deliveries.result (λ items. map keyed items ≡ all))
+    (rw (c.table_of.ensures, c.deref.ensures.value, c.in_ok-offers.ensures)
+    (sym (map-map (delivery_to (table_of c.args.parent)) (offered_by hashes) _) ∙ sorted_offers c.args.catalog.now c.args.parent window hashes c.in_ok-all_offers.field-0.items c.in_ok-all_offers.ensures))
     c.to_deliveries.ensures) in
     record { items = items; hashed = hashed }

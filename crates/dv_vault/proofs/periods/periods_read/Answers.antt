@@ -5,5 +5,5 @@ use Rattle.dv_vault.proofs.periods.periods_read.Goals as goal
 
 pub loop-period-preserved : goal.loop-period-preserved
 loop-period-preserved c = λ definition got.
-    rows_more (period_read c.args.catalog.now (entries_of c.args.raw.now) definition) c.args.periods.now c.loop-period.period-index c.period-item.result
-    c.loop-period.rows c.add.new.rows c.in_ok-row.row c.loop-period-test.true c.period-item.is (c.loop-period.invariant definition got) (c.in_ok-row.ensures {u = tt} definition got) (c.in_ok-add.ensures {u = tt})
+    rows_more (period_read c.args.lender.now.catalog.now (entries_of c.args.lender.now.raw.now) definition) c.args.periods.now c.loop-period.period-index c.period-item.result
+    c.loop-period.rows.items c.add.new.rows.items c.in_ok-row.row c.loop-period-test.true c.period-item.is (c.loop-period.invariant definition got) (c.in_ok-row.ensures {u = tt} definition got) (c.in_ok-add.ensures {u = tt})

@@ -5,4 +5,4 @@ use Rattle.dv_vault.proofs.periods.periods_read.Given as goal
 -- the rows of the periods so far
 abbrev pub invariant-loop-period : goal.invariant-loop-period
 invariant-loop-period l =
-    (definition : FeedDef) → slice_get l.catalog.feeds l.feed ≡ Some definition → l.rows ≡ filter_map (period_read l.catalog (entries_of l.raw) definition) (take l.period-index l.periods)
+    (definition : FeedDef) → slice_get l.lender.catalog.now.feeds l.feed ≡ Some definition → l.rows.items ≡ filter_map (period_read l.lender.catalog.now (entries_of l.lender.raw.now) definition) (take l.period-index l.periods)

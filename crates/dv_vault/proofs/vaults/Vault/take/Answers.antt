@@ -1,4 +1,4 @@
-use Rattle.dv_vault.proofs.Vocabulary.{◌≡◌, ◌++◌, ◌∷◌, [], ◌∙◌, ap, map, subst, sym, with_items, TableRows, head_of, rows_in, tables_weight, Fits, RawVault, entries_with, entry_of}
+use Rattle.dv_vault.proofs.Vocabulary.{◌≡◌, ◌≤◌, ◌++◌, ◌∷◌, [], ◌∙◌, IfSome, List, ap, length, length-map, map, refl, subst, sym, with_items, BreaksWindow, TakesWindow, TableRows, head_of, tables_weight, Fits, RawVault, entries_with, entry_of}
 use Rattle.dv_vault.proofs.Taken.{entries_after, entries_now, follows, heads_still, kinds, rows_still, vault_still}
 use Rattle.dv_vault.proofs.TablesApart.{vault_apart}
 use Rattle.dv_vault.proofs.vaults.Vault.take.Goals as goal
@@ -14,11 +14,28 @@ keep-requires-clause-apart g c =
     let same : map entry_of c.self.inside.raw.tables.items ≡ map entry_of c.deref.result.now = entries_now c.self.inside.raw.tables c.deref_mut.result.now c.make_room.new.tables c.deref.result.now c.deref_mut.ensures.value c.make_room.auto.tables c.make_room.ensures.rows c.deref.ensures.value in
     vault_apart c.self.inside.catalog (map entry_of c.deref.result.now) (ap (map (λ (entry : TableRows). entry.table)) (sym same) ∙ c.self.invariant.0)
 
-pub keep-requires-clause-told : goal.keep-requires-clause-told
-keep-requires-clause-told g c =
+pub keep-requires-clause-within : goal.keep-requires-clause-within
+keep-requires-clause-within g c =
     let same : map entry_of c.self.inside.raw.tables.items ≡ map entry_of c.deref.result.now = entries_now c.self.inside.raw.tables c.deref_mut.result.now c.make_room.new.tables c.deref.result.now c.deref_mut.ensures.value c.make_room.auto.tables c.make_room.ensures.rows c.deref.ensures.value in
     let is : c.args.self.now.tables ≡ map entry_of c.deref.result.now = ap (λ (raw : RawVault). raw.tables) (sym c.self.view_is) ∙ same in
-    λ s e. ((c.requires.told s e).0, λ id. (c.requires.told s e).1 id ∙ ap (rows_in id) is)
+    let long : length c.args.self.now.tables ≡ length c.deref.result.now = ap length is ∙ length-map c.deref.result.now entry_of in
+    subst (λ n. IfSome c.args.begun (λ from. from ≤ n)) long c.requires.within
+
+pub returns-in-Err-clause-broke : goal.returns-in-Err-clause-broke
+returns-in-Err-clause-broke g c =
+    let same : map entry_of c.self.inside.raw.tables.items ≡ map entry_of c.deref.result.now = entries_now c.self.inside.raw.tables c.deref_mut.result.now c.make_room.new.tables c.deref.result.now c.deref_mut.ensures.value c.make_room.auto.tables c.make_room.ensures.rows c.deref.ensures.value in
+    let is : c.args.self.now.tables ≡ map entry_of c.deref.result.now = ap (λ (raw : RawVault). raw.tables) (sym c.self.view_is) ∙ same in (
+      refl,
+      subst (λ (entries : List TableRows). BreaksWindow c.args.addition.window entries c.args.addition.batches (g.K.Keeper.store c.args.keeper.now) (g.K.Keeper.store c.keep.new.keeper) c.in-Err.broken) (sym is)
+          c.in-Err.ensures.broke,
+    )
+
+pub returns-clause-told : goal.returns-clause-told
+returns-clause-told g c =
+    let same : map entry_of c.self.inside.raw.tables.items ≡ map entry_of c.deref.result.now = entries_now c.self.inside.raw.tables c.deref_mut.result.now c.make_room.new.tables c.deref.result.now c.deref_mut.ensures.value c.make_room.auto.tables c.make_room.ensures.rows c.deref.ensures.value in
+    let is : c.args.self.now.tables ≡ map entry_of c.deref.result.now = ap (λ (raw : RawVault). raw.tables) (sym c.self.view_is) ∙ same in
+    subst (λ (entries : List TableRows). TakesWindow c.args.addition.window entries c.args.addition.batches (g.K.Keeper.store c.args.keeper.now) (g.K.Keeper.store c.keep.new.keeper)) (sym is)
+    c.in_default-keep.ensures.told
 
 pub apply_all-requires-clause-follow : goal.apply_all-requires-clause-follow
 apply_all-requires-clause-follow g c =
@@ -34,13 +51,13 @@ invariant_of-self-2 g c =
     let grown : map entry_of c.apply_all.new.tables ≡ entries_with raw.tables c.args.addition.batches = c.apply_all.ensures ∙ ap (λ entries. entries_with entries c.args.addition.batches) (sym same) in
     let after : map entry_of (with_items (with_items c.self.inside.raw.tables c.make_room.new.tables) c.apply_all.new.tables).items ≡ entries_with raw.tables c.args.addition.batches =
     entries_after (with_items c.self.inside.raw.tables c.make_room.new.tables) c.deref_mut-2.result.now c.apply_all.new.tables _ c.deref_mut-2.ensures.value c.apply_all.auto.tables grown in
-    let pushed : c.make_room.new.heads ≡ raw.heads ++ head_of c.args.addition.window ∷ [] = (c.in_ok-make_room.ensures {u = tt}).heads in
+    let pushed : c.in-Ok.heads ≡ raw.heads ++ head_of c.args.addition.window ∷ [] = (c.in-Ok.ensures {u = tt}).heads in
     let fits : Fits raw c.args.addition = subst (λ (raw : RawVault). Fits raw c.args.addition) (sym c.self.view_is) c.requires.fits in
     let entries = map entry_of (with_items (with_items c.self.inside.raw.tables c.make_room.new.tables) c.apply_all.new.tables).items in (
-      vault_still raw c.args.addition fits entries c.make_room.new.heads after pushed c.self.invariant.0,
+      vault_still raw c.args.addition fits entries c.in-Ok.heads after pushed c.self.invariant.0,
       c.self.invariant.1,
-      rows_still raw c.args.addition fits entries c.make_room.new.heads after pushed c.self.invariant.2,
-      heads_still raw c.args.addition fits entries c.make_room.new.heads after pushed c.self.invariant.3,
+      rows_still raw c.args.addition fits entries c.in-Ok.heads after pushed c.self.invariant.2,
+      heads_still raw c.args.addition fits entries c.in-Ok.heads after pushed c.self.invariant.3,
       fits.weight ∙ ap tables_weight (sym after),
       c.self.invariant.5,
     )

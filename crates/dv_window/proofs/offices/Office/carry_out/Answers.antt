@@ -12,5 +12,5 @@ returns-clause-store g c =
     let held : Held = record { vault = c.self.inside.vault; begun = c.self.inside.begun; dates = c.self.inside.dates; stale = c.self.inside.stale } in
     let rest : IsAtRest held = record { none_open = c.self.invariant.0; no_dates = c.self.invariant.1; not_stale = c.self.invariant.2 } in
     let told : Told (g.K.Keeper.store c.args.keeper.now) (Agrees held) = subst (λ (held : Held). Told (g.K.Keeper.store c.args.keeper.now) (Agrees held)) (sym c.self.view_is) c.requires.agrees in
-    subst (λ (raw : RawVault). Told (g.K.Keeper.store c.take.new.keeper) (Agrees (record { vault = raw; begun = c.self.inside.begun; dates = c.self.inside.dates; stale = c.self.inside.stale }))) (sym c.in_ok-take.ensures.taken)
-    (agrees_again held c.args.addition rest (g.K.Keeper.store c.args.keeper.now) (g.K.Keeper.store c.take.new.keeper) told c.in_ok-take.ensures.told)
+    subst (λ (raw : RawVault). Told (g.K.Keeper.store c.take.new.keeper) (Agrees (record { vault = raw; begun = c.self.inside.begun; dates = c.self.inside.dates; stale = c.self.inside.stale }))) (sym c.in_default.ensures.taken)
+    (agrees_again held c.args.addition rest (g.K.Keeper.store c.args.keeper.now) (g.K.Keeper.store c.take.new.keeper) told c.in_default.ensures.told)

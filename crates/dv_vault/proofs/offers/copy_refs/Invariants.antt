@@ -1,6 +1,0 @@
-use Rattle.dv_vault.proofs.Vocabulary.{◌≡◌, take}
-use Rattle.dv_vault.proofs.offers.copy_refs.Given as goal
-
--- the copies so far are the first keys
-abbrev pub invariant-loop-key : goal.invariant-loop-key
-invariant-loop-key l = l.made ≡ take l.key-index l.refs
