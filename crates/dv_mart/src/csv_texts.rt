@@ -98,7 +98,7 @@ pub(crate) fn rows_text<R: Recorded>(
         put_row(&mut writer, &mut fields, row)?;
     }
     match writer.into_inner() {
-        Ok(bytes) => Ok(Text::from_vec(bytes)),
+        Ok(bytes) => Text::from_vec(bytes),
         Err(_) => Err(Memory),
     }
 }
@@ -119,7 +119,7 @@ pub(crate) fn rows_text_up_to<R: Loaded>(
         put_row_up_to(&mut writer, &mut fields, row, date)?;
     }
     match writer.into_inner() {
-        Ok(bytes) => Ok(Text::from_vec(bytes)),
+        Ok(bytes) => Text::from_vec(bytes),
         Err(_) => Err(Memory),
     }
 }

@@ -6,6 +6,7 @@ use crate::fields::Fields;
 use crate::recorded::Recorded;
 use dv_catalog::FeedDef;
 use dv_text::{Memory, NRow, Text};
+use dv_vault::ContentRow;
 use std::alloc::Global;
 
 impl Recorded for NRow {
@@ -15,6 +16,16 @@ impl Recorded for NRow {
         fields.push_parts(self.refs.items())?;
         fields.push_texts(self.sub.items())?;
         fields.push_texts(self.attrs.items())
+    }
+}
+
+impl<'a> Recorded for ContentRow<'a> {
+    ghost record_of = { spec.feed_record };
+
+    fn put(&self, fields: &mut Fields) -> Result<(), Memory> {
+        fields.push_lent_parts(self.refs())?;
+        fields.push_texts(self.sub())?;
+        fields.push_texts(self.attrs())
     }
 }
 
@@ -31,6 +42,17 @@ fn feed_header(alloc: Global, feed: &FeedDef) -> Result<Fields, Memory>
 
 /// The text of a feed's mart with these rows: a header of the feed's columns, and a record a row.
 pub fn feed_text(alloc: Global, feed: &FeedDef, rows: &[NRow]) -> Result<Text, Memory>
+    ensures { IfOk result (λ text. text ≡ spec.feed_text feed.now rows.now) }
+{
+    rows_text(alloc, feed_header(alloc, feed)?, rows)
+}
+
+/// The same text with rows that are lent.
+pub(crate) fn lent_feed_text(
+    alloc: Global,
+    feed: &FeedDef,
+    rows: &[ContentRow],
+) -> Result<Text, Memory>
     ensures { IfOk result (λ text. text ≡ spec.feed_text feed.now rows.now) }
 {
     rows_text(alloc, feed_header(alloc, feed)?, rows)

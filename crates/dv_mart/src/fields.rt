@@ -93,6 +93,16 @@ impl Fields {
         Ok(())
     }
 
+    /// Puts the parts of keys that are lent at the end.
+    pub(crate) fn push_lent_parts(&mut self, refs: &[&Key]) -> Result<(), Memory>
+        ensures { OnOk result (self.new ≡ self.old ++ all_parts (map (λ key. key.now) refs.now)) }
+    {
+        for key in refs {
+            self.push_texts(key.parts.items())?;
+        }
+        Ok(())
+    }
+
     /// Puts a digest at the end, in hexadecimal with the letters a to f in lower case.
     pub(crate) fn push_digest(&mut self, digest: &Digest) -> Result<(), Memory>
         ensures { OnOk result (self.new ≡ self.old ++ encode_lower digest.now ∷ []) }

@@ -10,7 +10,7 @@ ghost use Rattle.dv_mart.specs.MartTexts as spec;
 ghost use Rattle.dv_mart.specs.declared.query_rules.QueryRule.TheVariants as rules;
 ghost use Rattle.dv_mart.specs.OfferedMarts.{IsOffered};
 
-use crate::feed_texts::feed_text;
+use crate::feed_texts::lent_feed_text;
 use crate::mart_faults::MartFault;
 use crate::period_texts::period_text;
 use crate::vault_tables::table_text;
@@ -35,8 +35,9 @@ fn feed_mart_text(alloc: Global, vault: &Vault, feed: u32, date: Stamp) -> Resul
     requires { feed < length vault.now.mapping.feeds }
     ensures { IfOk result (λ text. (hashes : Hashes) (sealed : list_of Window) → HasSealed hashes sealed vault.now → text ≡ spec.feed_text_by sealed feed date (slice_get vault.now.mapping.feeds feed)) }
 {
-    let rows = feed_mart(vault, feed, date)?;
-    feed_text(alloc, vault.catalog().feed(feed), rows.items())
+    let missing = vault.missing_keys()?;
+    let rows = vault.lent_content(missing.items(), feed, date)?;
+    lent_feed_text(alloc, vault.catalog().feed(feed), rows.items())
 }
 
 /// From when to when each reference list of a feed was in force, by the sealed windows that are not later than the

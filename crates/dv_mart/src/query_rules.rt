@@ -34,7 +34,7 @@ fn named(alloc: Global, front: &[u8], value: &Text) -> Result<Text, Memory>
     let mut text = Vec::from_slice(alloc, front)?;
     let value = printed(alloc, value.bytes())?;
     text.extend_from_slice(value.bytes())?;
-    Ok(Text::from_vec(text))
+    Text::from_vec(text)
 }
 
 // A rule's code and name with bytes as they are.
@@ -43,7 +43,7 @@ fn with_bytes(alloc: Global, front: &[u8], value: &[u8]) -> Result<Text, Memory>
 {
     let mut text = Vec::from_slice(alloc, front)?;
     text.extend_from_slice(value)?;
-    Ok(Text::from_vec(text))
+    Text::from_vec(text)
 }
 
 fn future(alloc: Global, last: Option<Stamp>) -> Result<Text, Memory>
