@@ -1,30 +1,17 @@
--- How an office starts, and how what it takes is a step of the run.
-use Rattle.dv_app.proofs.Vocabulary.{Bool, List, Option, Some, ap, codes, false, refl, subst, sym, true, ℕ, ◌++◌, ◌||◌, ◌∙◌, ◌≡◌, Ok, built_mapping, Agrees, Held, IsAtRest, StandsFor, IsNewOf, outcome, Mapping, GotPrefix, after, Hashes, Told, decimal, given, Goes, HasRows, IsReady, ManifestCut}
-use Rattle.dv_app.proofs.Vocabulary.{Takes, TakesArrival, outcome_of, taken_text, own_store, Brings, StandsForWhole, arrival_of, Arrival, Broken, Brought, Progress, arrival, is_refused, outcome_text, step, step_by, window_line, with_outcome, with_refusal, Arrived, Loading, Taken, WindowIn}
-use Rattle.dv_app.proofs.Vocabulary.{NamedFile, empty_store, with_mapping, Outcome, Store}
+-- How what an office takes is a step of the run.
+use Rattle.dv_app.proofs.Vocabulary.{Bool, List, Option, ap, codes, false, refl, subst, sym, true, ℕ, ◌++◌, ◌||◌, ◌∙◌, ◌≡◌, Ok, IsAtRest, StandsFor, outcome, Mapping, GotPrefix, after, Hashes, decimal, given, Goes, HasRows, IsReady, ManifestCut}
+use Rattle.dv_app.proofs.Vocabulary.{Takes, TakesArrival, outcome_of, taken_text, Brings, StandsForWhole, arrival_of, Arrival, Broken, Brought, Progress, arrival, is_refused, outcome_text, step, step_by, window_line, with_outcome, with_refusal, Arrived, Loading, Taken, WindowIn}
+use Rattle.dv_app.proofs.Vocabulary.{NamedFile, Outcome}
 use Rattle.dv_records.specs.declared.answers.Outcome.TheVariants as outcomes
 use Rattle.dv_app.specs.declared.takings.Taken.TheVariants as taken
 use Rattle.dv_app.specs.Tried.{Absent}
 
--- ---- the start
-
--- a keeper that has the text of a mapping and nothing else agrees with the office of that mapping
-pub agrees_first : (text : List ℕ) (mapping : Mapping) → built_mapping text ≡ Ok mapping → (store : Store) → store ≡ with_mapping text empty_store → (held : Held) → ((store : Store) → IsNewOf mapping store → Agrees held store)
-    → Told (Some store) (Agrees held)
-agrees_first text mapping built store is held agrees = λ s told.
-    let same : store ≡ s = cc in
-    subst (Agrees held) (sym is ∙ same)
-    (agrees (with_mapping text empty_store) (record { text = text; stored_is = refl; built = built; none_open = refl; no_windows = refl; no_rows = λ table. refl }))
-
--- ---- what came of a manifest
-
 -- an office that is as before can go on
-pub ready_still : (hashes : Hashes) (old new : Loading) → IsReady hashes old → new.office ≡ old.office → Some (own_store new.keeper) ≡ Some (own_store old.keeper) → IsReady hashes new
-ready_still hashes old new ready same kept = record {
+pub ready_still : (hashes : Hashes) (old new : Loading) → IsReady hashes old → new.office ≡ old.office → IsReady hashes new
+ready_still hashes old new ready same = record {
   state = ready.state;
   stands = subst (StandsFor hashes ready.state) (sym same) ready.stands;
   rest = subst IsAtRest (sym same) ready.rest;
-  agrees = λ s told. subst (λ h. Agrees h s) (sym same) (ready.agrees s (sym kept ∙ told));
 }
 
 module _ (mapping : Mapping) (hashes : Hashes) (name : List ℕ) (p : Progress) (loading : Loading) (mapping_is : loading.office.vault.mapping ≡ mapping) (line : List ℕ) where

@@ -2,7 +2,7 @@
 pub use Rattle.dv_text.proofs.Vocabulary.{Bool, Contains, Contains-get_or, List, None, Option, Some, [], ap, append_assoc, arith, codes, cond, drop_more, false, get_or, inl, inr, le-ltb, length, length-map, lt-ltb, map, option_or, refl, slice_get-get_or, subst, sym, take, take_more, true, ℕ}
 pub use Rattle.dv_text.proofs.Vocabulary.{◌++◌, ◌+◌, ◌<◌, ◌==◌, ◌||◌, ◌∙◌, ◌∷◌, ◌≡◌, ◌≤◌, ◌⊎◌}
 pub use Rattle.dv_catalog.proofs.Vocabulary.{Mapping, first_of, nat_lt, printed}
-pub use Rattle.dv_window.proofs.Vocabulary.{Agrees, Held, IsAtRest, IsNewOf, Ok, StandsFor, State, accepted, beginning, collides, differs, feed_twice, if_new, late, no_extracts, open_other, outcome, refusal, unknown_feed, vault_full, window_of, window_rule}
+pub use Rattle.dv_window.proofs.Vocabulary.{IsAtRest, Ok, StandsFor, State, accepted, beginning, collides, differs, feed_twice, if_new, late, no_extracts, open_other, outcome, refusal, unknown_feed, vault_full, window_of, window_rule}
 pub use Rattle.dv_records.proofs.Vocabulary.{Hashes, find, min, option_map_or}
 pub use Rattle.dv_mapfile.proofs.Vocabulary.{IfOk, built_mapping, if◌then◌else◌, option_map, string_bytes}
 pub use Rattle.dv_outside.proofs.Vocabulary.{Ends, GotPrefix, Rose, after, append-nil, drop, err_from_is_err_and, file_at, take-append-drop, take_all}
@@ -12,7 +12,6 @@ pub use Rattle.dv_app.specs.Endings.{BringEnds, DateEnds, EndsOrMemory, ExtractE
 pub use Rattle.dv_app.specs.Given.{absent_line, given, query_line, read_fault_line, refused_mapping_line}
 pub use Rattle.dv_app.specs.Lines.{absent_front, mapping_file, mapping_front, memory_line, program_front, read_fault_front}
 pub use Rattle.dv_app.specs.Loadings.{Begins, Goes, HasEnd, HasLines, HasRefusal, HasRows, IsLoaded, IsReady, LoadEnds, LoadStops, LoadsAll, LoadsFirst, ManifestCut, ManifestStops, SoFar, Takes, TakesArrival, TryStops, WroteLine, WroteLines, outcome_of, taken_text, trial_of}
-pub use Rattle.dv_app.specs.OwnKeepers.{own_store}
 pub use Rattle.dv_app.specs.Readings.{Brings, Reading, StandsForWhole, allowed, arrival_of, no_reading, read_from, read_more, read_next, read_on, reading_of, with_extract}
 pub use Rattle.dv_app.specs.Run.{CommandCompletes, Faults, HasLast, IsCaused, NoFault, RunCompletes}
 pub use Rattle.dv_app.specs.Says.{CutShort, Gives, Heard, IsCutLines, IsEnded, IsMemory, Trial, TrySays, lines_before, lines_of, lines_with, tried_of}
@@ -47,15 +46,12 @@ pub use Rattle.dv_outside.specs.declared.folders.NamedFile.{NamedFile}
 pub use Rattle.dv_outside.specs.declared.statuses.Status.{Status}
 pub use Rattle.dv_outside.specs.declared.statuses.Status.TheVariants.{Done, ReadFault, Refused, WriteFault}
 pub use Rattle.dv_records.specs.Limits.{most_extract_bytes, most_window_bytes}
-pub use Rattle.dv_records.specs.MemoryKeepers.{empty_store}
 pub use Rattle.dv_records.specs.Outcomes.{is_feed, repeated_name, too_long_behind}
-pub use Rattle.dv_records.specs.Stores.{with_mapping}
 pub use Rattle.dv_records.specs.Vault.{vault}
 pub use Rattle.dv_records.specs.declared.answers.Outcome.{Outcome}
-pub use Rattle.dv_records.specs.declared.stores.Store.{Store}
 pub use Rattle.dv_text.specs.Stamps.{stamp_of}
 pub use Rattle.dv_text.specs.declared.rows.Window.{Window}
-pub use Rattle.dv_window.specs.Offices.{OfficeAfter, StoreAfter}
+pub use Rattle.dv_window.specs.Offices.{OfficeAfter}
 pub use Rattle.std.proofs.Common.{Err, Result, slice_get, ⊎_elim}
 pub use Rattle.std.proofs.lemmas.Bool.{ltb-false, ltb-true}
 pub use Rattle.std.proofs.lemmas.List.{length-take}

@@ -2,7 +2,7 @@ pub mod Endings
 pub mod Given
 pub mod Lines
 pub mod Loadings
-pub mod OwnKeepers
+pub mod NullKeepers
 pub mod Readings
 pub mod Run
 pub mod Says

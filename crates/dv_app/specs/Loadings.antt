@@ -1,8 +1,7 @@
 -- The parts of `try` between its mapping and its text: the taking of the manifests, one after another.
-use Rattle.std.specs.Prelude.{◌≡◌, ℕ, Bool, true, ◌||◌, List, ◌++◌, Option, Some, Ok, Err, codes, take}
+use Rattle.std.specs.Prelude.{◌≡◌, ℕ, Bool, true, ◌||◌, List, ◌++◌, Option, Ok, Err, codes, take}
 use Rattle.std.specs.Fmt.{decimal}
 use Rattle.dv_text.specs.Keys.{Hashes}
-use Rattle.dv_text.specs.Told.{Told}
 use Rattle.dv_catalog.specs.Entries.{Mapping}
 use Rattle.dv_catalog.specs.Windows.{window_of}
 use Rattle.dv_catalog.specs.declared.rules.Rule.{Rule}
@@ -15,7 +14,7 @@ use Rattle.dv_records.specs.Outcomes.{outcome}
 use Rattle.dv_records.specs.States.{State}
 use Rattle.dv_records.specs.declared.answers.Outcome.{Outcome}
 use Rattle.dv_records.specs.declared.answers.Outcome.TheVariants as outcomes
-use Rattle.dv_window.specs.Offices.{Agrees, Held, IsAtRest, StandsFor}
+use Rattle.dv_window.specs.Offices.{Held, IsAtRest, StandsFor}
 use Rattle.dv_app.specs.declared.endings.Ending.{Ending}
 use Rattle.dv_app.specs.declared.endings.Ending.TheVariants as endings
 use Rattle.dv_app.specs.declared.endings.Stop.{Stop}
@@ -27,7 +26,6 @@ use Rattle.dv_app.specs.declared.words.Asked.{Asked}
 use Rattle.dv_app.specs.Endings.{BringEnds, line_of_ending, status_of}
 use Rattle.dv_app.specs.Given.{absent_line}
 use Rattle.dv_app.specs.Lines.{memory_line}
-use Rattle.dv_app.specs.OwnKeepers.{own_store}
 use Rattle.dv_app.specs.Says.{CutShort, Heard, IsCutLines, IsEnded, IsMemory, IsReadNext, Trial, lines_before, lines_of, tried_of}
 use Rattle.dv_app.specs.Tried.{Absent, Arrival, Broken, Brought, Progress, arrival, at_end, is_refused, refusal_text, start, state_after, step, step_by, steps, window_line}
 
@@ -38,12 +36,11 @@ trial_of hashes files a =
 
 -- ---- a window
 
--- a window can be given to the office: it stands for some state with no window open, and its keeper agrees with it
+-- a window can be given to the office: it stands for some state with no window open
 pub record IsReady (hashes : Hashes) (loading : Loading) : Type 0 where
   pub state : State
   pub stands : StandsFor hashes state loading.office
   pub rest : IsAtRest loading.office
-  pub agrees : Told (Some (own_store loading.keeper)) (Agrees loading.office)
 
 -- what the code has loaded is what the run has
 pub record IsLoaded (mapping : Mapping) (hashes : Hashes) (loading : Loading) (p : Progress) : Type 0 where

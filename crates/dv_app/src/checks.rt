@@ -3,7 +3,6 @@ ghost use Rattle.std.specs.Prelude.{◌≡◌, ◌≤◌, ℕ, Some, Ok, IfOk, I
 ghost use Rattle.dv_text.specs.Keys.{Hashes};
 ghost use Rattle.dv_text.specs.Stamps.{stamp_of};
 ghost use Rattle.dv_text.specs.Told.{Told};
-ghost use Rattle.dv_catalog.specs.Built.{built_mapping};
 ghost use Rattle.dv_mart.specs.Whats.{offered_what};
 ghost use Rattle.dv_vault.specs.Vaults.{IsBuilt};
 ghost use Rattle.dv_app.specs.Endings.{DateEnds, IsMappingEnd, IsReadCause, MappingEnds, WhatEnds};
@@ -18,7 +17,7 @@ use dv_catalog::{Catalog, MapError};
 use dv_mapfile::read_built_catalog;
 use dv_mart::{QueryRule, What};
 use dv_outside::Folder;
-use dv_text::{Duplicate, Memory, Stamp, Text};
+use dv_text::{Duplicate, List, Memory, Stamp, Text};
 use std::alloc::Global;
 
 /// The most bytes of a mapping's file.
@@ -35,18 +34,10 @@ fn end_mapping(e: MapError) -> Ending
     Ending::BadMapping(e)
 }
 
-/// The mapping's file: the mapping that it is read as, and its text.
-#[derive(Drop)]
-struct MappingFile {
-    catalog: Catalog,
-    text: Text,
-}
-
-// The mapping's file, read.
-fn read_mapping<F: Folder>(alloc: Global, folder: &mut F) -> Result<MappingFile, Ending>
-    ensures ok { IfOk result (λ file. Told (F.files folder.old) (λ files. mapping_at files ≡ Some (Ok file.catalog))) }
-    ensures built { IfOk result (λ file. IsBuilt file.catalog) }
-    ensures text { IfOk result (λ file. built_mapping file.text ≡ Ok file.catalog) }
+// The mapping that the mapping's file is read as.
+fn read_mapping<F: Folder>(alloc: Global, folder: &mut F) -> Result<Catalog, Ending>
+    ensures ok { IfOk result (λ catalog. Told (F.files folder.old) (λ files. mapping_at files ≡ Some (Ok catalog))) }
+    ensures built { IfOk result IsBuilt }
     ensures ends { IfErr result (λ ending. Told (F.files folder.old) (λ files. MappingEnds files ending)) }
     ensures cause { IfErr result (IsReadCause (F.faults folder.old) (F.faults folder.new)) }
     ensures kept { F.files folder.new ≡ F.files folder.old }
@@ -57,15 +48,12 @@ fn read_mapping<F: Folder>(alloc: Global, folder: &mut F) -> Result<MappingFile,
     };
     let bytes = read_named(alloc, folder, &name, MOST_MAPPING_BYTES + 1)?;
     match read_built_catalog(alloc, bytes.items()) {
-        Ok(catalog) => Ok(MappingFile {
-            catalog,
-            text: Text::from_vec(bytes.into_vec()),
-        }),
+        Ok(catalog) => Ok(catalog),
         Err(e) => Err(end_mapping(e)),
     }
 }
 
-/// The mapping's file is read, and an office begun over a keeper of its own.
+/// The mapping's file is read, and an office of its mapping begun.
 pub(crate) fn open_loading<F: Folder>(alloc: Global, folder: &mut F) -> Result<Loading, Ending>
     ensures ok { IfOk result (λ loading. Told (F.files folder.old) (λ files. mapping_at files ≡ Some (Ok loading.office.vault.mapping))) }
     ensures ready { (hashes : Hashes) → IfOk result (IsReady hashes) }
@@ -75,8 +63,8 @@ pub(crate) fn open_loading<F: Folder>(alloc: Global, folder: &mut F) -> Result<L
     ensures kept { F.files folder.new ≡ F.files folder.old }
     ensures later { F.faults folder.old ≤ F.faults folder.new }
 {
-    let file = read_mapping(alloc, folder)?;
-    match begin_loading(alloc, file.catalog, file.text) {
+    let catalog = read_mapping(alloc, folder)?;
+    match begin_loading(alloc, catalog) {
         Ok(loading) => Ok(loading),
         Err(Memory) => Err(Ending::Memory),
     }

@@ -5,7 +5,7 @@ mod arrivals;
 mod checks;
 mod endings;
 mod lines;
-mod own_keepers;
+mod null_keepers;
 mod reads;
 mod takings;
 mod top;

@@ -1,7 +1,6 @@
 // One manifest is taken: its window is loaded, repeated or refused, and its line is made.
-ghost use Rattle.std.specs.Prelude.{◌≡◌, ◌++◌, IfOk, OnOk, Ok};
+ghost use Rattle.std.specs.Prelude.{◌≡◌, ◌++◌, IfOk, OnOk};
 ghost use Rattle.dv_text.specs.Keys.{Hashes, hashes_of};
-ghost use Rattle.dv_catalog.specs.Built.{built_mapping};
 ghost use Rattle.dv_catalog.specs.Entries.{Mapping};
 ghost use Rattle.dv_vault.specs.Vaults.{IsBuilt};
 ghost use Rattle.dv_app.specs.Loadings.{outcome_of, taken_text, IsLine, IsLoaded, IsReady, Takes, TakesArrival, TakesWindow};
@@ -9,7 +8,7 @@ ghost use Rattle.dv_app.specs.Readings.{arrival_of};
 ghost use Rattle.dv_app.specs.Tried.{is_refused, start, window_line as line_of_window, Progress};
 
 use crate::arrivals::Arrived;
-use crate::own_keepers::OwnKeeper;
+use crate::null_keepers::NullKeeper;
 use dv_catalog::{Catalog, Rule, WindowIn, printed, rule_text};
 use dv_outside::Gate;
 use dv_records::LoadAnswer;
@@ -17,10 +16,9 @@ use dv_text::{KeyDigest, Memory, Text};
 use dv_window::{Office, Order};
 use std::alloc::Global;
 
-/// What is loaded: the office over a keeper of its own, and whether a window was refused.
+/// What is loaded: the office, and whether a window was refused.
 #[derive(Drop)]
 pub(crate) struct Loading {
-    pub keeper: OwnKeeper,
     pub office: Office,
     pub refused: bool,
 }
@@ -33,23 +31,21 @@ pub(crate) enum Taken {
     Refused(Rule),
 }
 
-/// An office over a keeper of its own, which has the text of the mapping and nothing else.
-pub(crate) fn begin_loading(alloc: Global, catalog: Catalog, text: Text) -> Result<Loading, Memory>
-    requires built { IsBuilt catalog }
-    requires text { built_mapping text ≡ Ok catalog }
+/// An office of no windows, of a mapping in which every form is built.
+pub(crate) fn begin_loading(alloc: Global, catalog: Catalog) -> Result<Loading, Memory>
+    requires { IsBuilt catalog }
     ensures ready { (hashes : Hashes) → IfOk result (IsReady hashes) }
     ensures mapping { IfOk result (λ loading. loading.office.vault.mapping ≡ catalog) }
     ensures loaded { (hashes : Hashes) → IfOk result (λ loading. IsLoaded loading.office.vault.mapping hashes loading start) }
 {
     let office = Office::begin(alloc, catalog)?;
     Ok(Loading {
-        keeper: OwnKeeper::new(alloc, text),
         office,
         refused: false,
     })
 }
 
-// Gives a window to the office, whose keeper doesn't fail.
+// Gives a window to the office, over a keeper that doesn't fail.
 fn load_window<H: KeyDigest, G: Gate>(
     loading: &mut Loading,
     given: &WindowIn,
@@ -63,7 +59,10 @@ fn load_window<H: KeyDigest, G: Gate>(
     ensures mapping { loading.new.office.vault.mapping ≡ loading.old.office.vault.mapping }
     ensures refused { loading.new.refused ≡ loading.old.refused }
 {
-    let answer = loading.office.load(&mut loading.keeper, given, 1, Order::Declared, digest, gate);
+    let mut keeper = NullKeeper;
+    let answer = loading
+        .office
+        .load(&mut keeper, given, 1, Order::Declared, digest, gate);
     match answer {
         LoadAnswer::Loaded { rows } => Ok(Taken::Loaded { rows }),
         LoadAnswer::Repeated => Ok(Taken::Repeated),
@@ -121,7 +120,7 @@ fn window_line(alloc: Global, name: &Text, taken: &Taken) -> Result<Text, Memory
     let mut line = Vec::from_slice(alloc, shown.bytes())?;
     push_taken(alloc, &mut line, taken)?;
     line.push(b'\n')?;
-    Ok(Text::from_vec(line))
+    Text::from_vec(line)
 }
 
 // Whether a window was refused.

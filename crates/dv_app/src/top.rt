@@ -12,7 +12,7 @@ use std::alloc::Global;
 
 /// The top call: all that the program does. It takes the words of the command line without the program's
 /// name, writes texts to `out` and lines to `err`, and answers the program's exit status. The command of
-/// this stage is `try WHAT DATE MANIFEST...`; it uses a keeper of its own, and leaves the one that is handed in.
+/// this stage is `try WHAT DATE MANIFEST...`; it keeps nothing, and leaves the keeper that is handed in.
 pub fn run<F: Folder, K: Keeper, O: Sink, E: Sink, H: KeyDigest, G: Gate>(
     alloc: Global,
     words: &[String],

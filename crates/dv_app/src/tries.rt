@@ -1,4 +1,4 @@
-// `try`: the windows of manifests are loaded into a keeper of its own, and a mart's text is written.
+// `try`: the windows of manifests are loaded, and a mart's text is written.
 ghost use Rattle.std.specs.Prelude.{◌≡◌, ◌≤◌, ◌⊎◌, ℕ, List, IfOk, OnOk, IfErr, Ok};
 ghost use Rattle.dv_text.specs.Causes.{Rose};
 ghost use Rattle.dv_text.specs.Keys.{Hashes, hashes_of};
