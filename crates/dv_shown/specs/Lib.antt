@@ -5,6 +5,8 @@ pub mod CheckExamples
 pub mod Collided
 pub mod Contents
 pub mod Counts
+pub mod Damaged
+pub mod DamagedStores
 pub mod Declared
 pub mod Digested
 pub mod Kept

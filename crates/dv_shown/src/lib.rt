@@ -6,6 +6,8 @@ ghost use Rattle.dv_shown.specs.Brought.{BroughtHold};
 ghost use Rattle.dv_shown.specs.Collided.{CollisionsHold};
 ghost use Rattle.dv_shown.specs.Contents.{ContentsHold};
 ghost use Rattle.dv_shown.specs.Counts.{CountsHold, WeightsHold};
+ghost use Rattle.dv_shown.specs.Damaged.{EffectsDamaged, HeadsDamaged, HubsDamaged, LeastRuleNamed, LinksDamaged, MultisDamaged, OpenDamaged, OrderOfDamage, RowsSound, SatellitesDamaged, StatusesDamaged};
+ghost use Rattle.dv_shown.specs.DamagedStores.{DamageByWeight, DamagePastLimits, HeavyRows, OrderOfStores, StoresSound};
 ghost use Rattle.dv_shown.specs.Declared.{FaultsDeclared, FilesDeclared, MappingsDeclared, PlacesUnbuilt, TablesDeclared};
 ghost use Rattle.dv_shown.specs.Digested.{HashesDigested, LinkDigested, PitDigested, SatelliteDigested, StatusDigested};
 ghost use Rattle.dv_shown.specs.Kept.{ChangesMade, SnapshotsKept, SnapshotsRead, StoresChanged, TablesKept};
@@ -383,4 +385,84 @@ pub fn places_unbuilt()
 /// What extracts read as, and the room that they take.
 pub fn extracts_read()
     ensures { ExtractsRead }
+{}
+
+/// Sealed windows and open ones that break a rule of form, and such that break none.
+pub fn heads_damaged()
+    ensures { HeadsDamaged }
+{}
+
+/// Stores whose rows break no rule of form.
+pub fn rows_sound()
+    ensures { RowsSound }
+{}
+
+/// Rows of hubs that break one.
+pub fn hubs_damaged()
+    ensures { HubsDamaged }
+{}
+
+/// Rows of links that break one.
+pub fn links_damaged()
+    ensures { LinksDamaged }
+{}
+
+/// Rows of satellites that break one.
+pub fn satellites_damaged()
+    ensures { SatellitesDamaged }
+{}
+
+/// Rows of multi-active satellites that break one.
+pub fn multis_damaged()
+    ensures { MultisDamaged }
+{}
+
+/// Rows of status tables that break one.
+pub fn statuses_damaged()
+    ensures { StatusesDamaged }
+{}
+
+/// Rows of effectivity tables that break one.
+pub fn effects_damaged()
+    ensures { EffectsDamaged }
+{}
+
+/// The least of several rules that a row breaks.
+pub fn least_rule_named()
+    ensures { LeastRuleNamed }
+{}
+
+/// Which of several rows and tables is named.
+pub fn order_of_damage()
+    ensures { OrderOfDamage }
+{}
+
+/// Rows while a window is open.
+pub fn open_damaged()
+    ensures { OpenDamaged }
+{}
+
+/// Stores that stand for states have no damage.
+pub fn stores_sound()
+    ensures { StoresSound }
+{}
+
+/// What of a store is looked at first.
+pub fn order_of_stores()
+    ensures { OrderOfStores }
+{}
+
+/// What is past a limit is damage, whatever else it is.
+pub fn damage_past_limits()
+    ensures { DamagePastLimits }
+{}
+
+/// Rows with which the tables weigh as much as they may, and more.
+pub fn heavy_rows()
+    ensures { HeavyRows }
+{}
+
+/// A row with which the limit of a vault's weight is passed breaks a rule of form.
+pub fn damage_by_weight()
+    ensures { DamageByWeight }
 {}

@@ -1,0 +1,12 @@
+-- A store that stands for a state of the warehouse has no damage.
+use Rattle.dv_form.proofs.Vocabulary.{List, Mapping, None, hashes_of, length, ℕ, ◌≡◌, Store}
+use Rattle.dv_form.specs.Damages.{form_damage}
+use Rattle.dv_mapfile.proofs.ReadMappings.{read_valid}
+use Rattle.dv_records.specs.Standing.{Stands}
+use Rattle.dv_records.specs.States.{State}
+use Rattle.dv_form.proofs.Undamaged.{undamaged_if_valid}
+
+-- its mapping is valid, since it is read from the stored text
+pub undamaged : (mapping : Mapping) (digest : List ℕ → List ℕ) (size : ℕ) → ((text : List ℕ) → length (digest text) ≡ size) → (state : State) (store : Store) → Stands mapping (hashes_of digest size) state store
+    → form_damage mapping (hashes_of digest size) size store ≡ None
+undamaged mapping digest size is state store stands = undamaged_if_valid mapping digest size is (read_valid stands.mapped.text mapping stands.mapped.reads) state store stands

@@ -1,0 +1,6 @@
+use Rattle.dv_form.proofs.Vocabulary.{◌∙◌}
+use Rattle.dv_form.proofs.LastRows.{later_than}
+use Rattle.dv_form.proofs.heads.is_later.Goals as goal
+
+pub returns-in-Some : goal.returns-in-Some
+returns-in-Some c = c.lt.ensures ∙ later_than c.args.heads.now c.in-Some.last.now c.args.load c.in-Some.ensures.value

@@ -1,0 +1,9 @@
+pub mod Damages
+pub mod Flaws
+pub mod FormRules
+pub mod KnownTables
+pub mod OwnRules
+pub mod Pages
+pub mod RowWalks
+pub mod StoredHeads
+pub mod StoredRows
