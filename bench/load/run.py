@@ -7,8 +7,8 @@ Usage: python3 bench/load/run.py [--shared FOLDER] [--program FILE] [--customers
 FOLDER (`shared/bench` beside the repository, where it isn't said) has gen.py, which writes mappings and windows, and
 rust_peer/, whose two programs are built with cargo into a folder of this run. With --phones, phones.py and phones_peer.rs
 beside this file stand for them. FILE is a built vaultdesk; where it isn't said, the script vaultdesk builds the
-repository's. Loads four windows of each size, REPEAT times in turn, compares what all write, and prints the best rates,
-the growth and the peaks of memory.
+repository's. Loads four windows of each size, REPEAT times in turn, ours also with settings of the allocator, compares
+what all write, and prints the best rates, the growth and the peaks of memory.
 """
 import argparse
 import os
@@ -24,6 +24,12 @@ HERE = pathlib.Path(__file__).resolve().parent
 TOP = HERE.parent.parent
 WINDOWS = 4
 MANIFESTS = [f"w{number}.toml" for number in range(1, WINDOWS + 1)]
+
+# Huge pages, no bins of small blocks, and no memory given back before the end.
+TUNED = ["hugetlb=1", "mxfast=0", "trim_threshold=4000000000", "mmap_threshold=4000000000"]
+
+# Our runs, by what each adds to the environment.
+OURS = {"ours": {}, "ours_tuned": {"GLIBC_TUNABLES": ":".join(f"glibc.malloc.{setting}" for setting in TUNED)}}
 
 
 def built_program():
@@ -98,11 +104,12 @@ def watch(pid, peak):
         time.sleep(0.004)
 
 
-def run(command, folder, out):
+def run(command, folder, out, settings=None):
     """Seconds, processor seconds, kB at the peak, and the lines of standard error."""
     start, peak = time.perf_counter(), [0]
     with open(out, "wb") as text, tempfile.TemporaryFile("w+") as lines:
-        process = subprocess.Popen(command, cwd=folder, stdin=subprocess.DEVNULL, stdout=text, stderr=lines)
+        env = os.environ | (settings or {})
+        process = subprocess.Popen(command, cwd=folder, env=env, stdin=subprocess.DEVNULL, stdout=text, stderr=lines)
         watcher = threading.Thread(target=watch, args=(process.pid, peak))
         watcher.start()
         _, status, used = os.wait4(process.pid, 0)
@@ -116,10 +123,10 @@ def run(command, folder, out):
     return taken, used.ru_utime + used.ru_stime, peak[0], said.splitlines()
 
 
-def run_ours(program, feed, data, out):
+def run_ours(program, settings, feed, data, mart):
     """Our time is that of the process, and what it says of each window is compared with what the peer added."""
     command = [program, "try", f"feed:{feed}", last_date(data), *MANIFESTS]
-    taken, used, peak, said = run(command, data, out / "ours.csv")
+    taken, used, peak, said = run(command, data, mart, settings)
     return taken, used, peak, [int(line.rpartition(" ")[2]) for line in said]
 
 
@@ -132,8 +139,10 @@ def run_peer(program, data, out):
 
 
 def compare_marts(out, name):
-    if (out / "ours.csv").read_bytes() != (out / "mart_last.csv").read_bytes():
-        raise SystemExit(f"our mart differs from that of {name}: see {out}")
+    """Whether the mart of each of our runs is that of a peer, byte for byte."""
+    for ours in OURS:
+        if (out / f"{ours}.csv").read_bytes() != (out / "mart_last.csv").read_bytes():
+            raise SystemExit(f"the mart of {ours} differs from that of {name}: see {out}")
 
 
 def compare_tables(program, peer, data, out):
@@ -151,15 +160,17 @@ def compare_tables(program, peer, data, out):
 
 def measure(program, peers, feed, data, out, repeat):
     """What each took at best, where they run in turn."""
-    runs = {"ours": []} | {name: [] for name in peers}
+    runs = {name: [] for name in [*OURS, *peers]}
     for _ in range(repeat):
-        runs["ours"].append(run_ours(program, feed, data, out))
+        for name, settings in OURS.items():
+            runs[name].append(run_ours(program, settings, feed, data, out / f"{name}.csv"))
         for name, peer in peers.items():
             runs[name].append(run_peer(peer, data, out))
             compare_marts(out, name)
     added = {name: all_runs[0][3] for name, all_runs in runs.items()}
-    if added["ours"] != added["rust_peer"]:
-        raise SystemExit(f"the windows add other numbers of rows: {added['ours']} and {added['rust_peer']}")
+    for name in OURS:
+        if added[name] != added["rust_peer"]:
+            raise SystemExit(f"the windows add other numbers of rows: {added[name]} and {added['rust_peer']}")
     return {name: best(all_runs) for name, all_runs in runs.items()}
 
 
