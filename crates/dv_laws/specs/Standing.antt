@@ -1,6 +1,7 @@
--- What the storing of a mapping, and of a snapshot, makes of what a store stands for.
-use Rattle.std.specs.Prelude.{◌≡◌, ◌≢◌, ◌⊎◌, ℕ, true, List, None, Ok}
-use Rattle.dv_text.specs.Keys.{Hashes}
+-- What the storing of a mapping, and of a snapshot, makes of what a store stands for; and that a store that stands for a
+-- state has no damage.
+use Rattle.std.specs.Prelude.{◌≡◌, ◌≢◌, ◌⊎◌, ℕ, true, List, None, Ok, length}
+use Rattle.dv_text.specs.Keys.{Hashes, hashes_of}
 use Rattle.dv_catalog.specs.Entries.{Mapping}
 use Rattle.dv_catalog.specs.MappingFiles.{read_mapping}
 use Rattle.dv_records.specs.declared.answers.InitAnswer.{InitAnswer}
@@ -11,6 +12,7 @@ use Rattle.dv_records.specs.Standing.{IsFresh, Stands}
 use Rattle.dv_records.specs.States.{State, beginning}
 use Rattle.dv_records.specs.Steps.{InitBroke, InitStep, snapshot_refusal, with_date}
 use Rattle.dv_records.specs.Stores.{is_new_snapshot, is_well_formed, with_snapshot}
+use Rattle.dv_form.specs.Damages.{form_damage}
 use Rattle.dv_records.specs.declared.answers.InitAnswer.TheVariants as init
 
 -- ---- a mapping
@@ -54,3 +56,12 @@ SnapshotIsNew =
 -- a new snapshot leaves a store well formed
 abbrev pub SnapshotKeepsForm : Type 0
 SnapshotKeepsForm = (snap : Snap) (store : Store) → is_well_formed store ≡ true → is_new_snapshot snap store.snapshots ≡ true → is_well_formed (with_snapshot snap store) ≡ true
+
+-- ---- damage
+
+-- a store that stands for a state has no damage of its sealed windows, its open window and its raw tables, under each
+-- function whose digests have one width
+abbrev pub StandingSound : Type 0
+StandingSound =
+    (mapping : Mapping) (digest : List ℕ → List ℕ) (size : ℕ) → ((text : List ℕ) → length (digest text) ≡ size)
+    → (state : State) (store : Store) → Stands mapping (hashes_of digest size) state store → form_damage mapping (hashes_of digest size) size store ≡ None

@@ -1,4 +1,4 @@
-ghost use Rattle.dv_laws.specs.Standing.{BrokenStands, InitLeaves, SnapshotIsNew, SnapshotKeepsForm, SnapshotStands, StoredStands};
+ghost use Rattle.dv_laws.specs.Standing.{BrokenStands, InitLeaves, SnapshotIsNew, SnapshotKeepsForm, SnapshotStands, StandingSound, StoredStands};
 
 /// A fresh store in which a mapping is stored stands for the mapping that its file is read as, and the
 /// beginning, whatever the hashes; where the storing broke off it does so, or is fresh. A store that stands for
@@ -15,4 +15,10 @@ pub fn snapshots_stored()
     ensures stands { SnapshotStands }
     ensures new { SnapshotIsNew }
     ensures form { SnapshotKeepsForm }
+{}
+
+/// A store that stands for a state of the warehouse has no damage: its sealed windows, its open window and the rows
+/// of its raw tables break none of the rules of form F2 to F13, also while a window is open.
+pub fn standing_stores_are_sound()
+    ensures { StandingSound }
 {}
