@@ -11,4 +11,8 @@ mod hubs;
 #[cfg(test)]
 mod links;
 #[cfg(test)]
+mod pages;
+#[cfg(test)]
 mod samples;
+#[cfg(test)]
+mod stages;
