@@ -8,6 +8,7 @@ ghost use Rattle.dv_records.specs.Stores.{rows_in};
 ghost use Rattle.dv_records.specs.Weights.{rows_weight};
 ghost use Rattle.dv_form.specs.Pages.{AreFirst, IsGrown, IsOfTable, TellsPage, TellsRows};
 
+use crate::row_walks::MOST_WEIGHT;
 use dv_catalog::TableId;
 use dv_records::{Keeper, KeeperError, Rows, weight};
 use dv_text::{List, Memory};
@@ -15,9 +16,6 @@ use std::alloc::Global;
 
 // How many rows a page has, but for the last one.
 const PAGE: u32 = 1000;
-
-// What the raw tables may weigh together.
-const MOST_WEIGHT: u128 = 1_073_741_824;
 
 /// What reading a table came to: its rows, or so many of its first ones that they weigh too much with what was read
 /// before; or that a row, which is counted from 1, is of another kind than the table's.
@@ -65,8 +63,8 @@ fn is_of_kind(table: TableId, rows: &Rows) -> bool
     }
 }
 
-// How many rows there are.
-fn count(rows: &Rows) -> u64
+/// How many rows there are. Takes no memory.
+pub(crate) fn count(rows: &Rows) -> u64
     ensures value { result ≡ stores.row_count rows.now }
     ensures bound { result < 2 ^ 63 }
 {

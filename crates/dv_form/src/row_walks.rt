@@ -16,8 +16,8 @@ use std::cmp::Ordering;
 // The number of the rule of hashes.
 const HASH: u8 = 7;
 
-// What the raw tables may weigh together.
-const MOST_WEIGHT: u128 = 1_073_741_824;
+/// What the raw tables may weigh together.
+pub(crate) const MOST_WEIGHT: u128 = 1_073_741_824;
 
 /// The rules of one kind of rows, each for a row by itself.
 pub(crate) trait RowRules<R: Placed + Weighed> {
