@@ -72,6 +72,13 @@ impl<R: Placed> IndexedRows<R> {
         self.rows.as_slice()
     }
 
+    /// The rows themselves, without their index. Takes no memory.
+    pub fn into_rows(self) -> List<R>
+        ensures { result ≡ self.rows }
+    {
+        List::from_vec(self.rows)
+    }
+
     /// The parent's last row that is not later than the date; none where there is no such row. Takes no
     /// memory, and compares a number of rows that is logarithmic in their number.
     pub fn latest(&self, parent: &Digest, date: Stamp) -> Option<&R>

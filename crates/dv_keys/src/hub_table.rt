@@ -66,6 +66,14 @@ impl HubTable {
         self.held.rows()
     }
 
+    /// The rows themselves. Takes no memory.
+    pub fn into_rows(self) -> List<HubRow>
+        ensures value { result ≡ self.rows }
+        ensures kept { IsTrue (are_hub_rows self.rows) }
+    {
+        self.held.into_rows()
+    }
+
     /// Whether a row has this digest. Takes no memory.
     pub fn has(&self, d: &Digest) -> bool
         ensures { result ≡ spec.has_digest d.now self.now.rows }

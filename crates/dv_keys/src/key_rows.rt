@@ -59,6 +59,14 @@ impl<R: Placed> KeyRows<R> {
         self.indexed.rows()
     }
 
+    /// The rows themselves. Takes no memory.
+    pub(crate) fn into_rows(self) -> List<R>
+        ensures value { result ≡ self.rows }
+        ensures kept { IsTrue (are_placed_rows R.place self.rows) }
+    {
+        self.indexed.into_rows()
+    }
+
     /// Does nothing: a call tells a proof what the rows keep to.
     pub(crate) fn note_rows(&self)
         ensures { IsTrue (are_placed_rows R.place self.now.rows) }

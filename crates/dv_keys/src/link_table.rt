@@ -83,6 +83,14 @@ impl LinkTable {
         self.held.rows()
     }
 
+    /// The rows themselves. Takes no memory.
+    pub fn into_rows(self) -> List<LinkRow>
+        ensures value { result ≡ self.rows }
+        ensures kept { IsTrue (are_link_rows self.rows) }
+    {
+        self.held.into_rows()
+    }
+
     /// Whether a row has this digest. Takes no memory.
     pub fn has(&self, d: &Digest) -> bool
         ensures { result ≡ spec.has_digest d.now self.now.rows }

@@ -71,6 +71,14 @@ impl MultiTable {
         self.indexed.rows()
     }
 
+    /// The rows themselves. Takes no memory.
+    pub fn into_rows(self) -> List<MultiRow>
+        ensures value { result ≡ self.rows }
+        ensures kept { IsStrictlySortedBy multi_order self.rows }
+    {
+        self.indexed.into_rows()
+    }
+
     /// The allocator that the table keeps: there is one, so no clause says which.
     pub(crate) fn allocator(&self) -> Global {
         self.indexed.allocator()

@@ -66,6 +66,14 @@ impl StatusTable {
         self.tracked.rows()
     }
 
+    /// The rows themselves. Takes no memory.
+    pub fn into_rows(self) -> List<StatusRow>
+        ensures value { result ≡ self.rows }
+        ensures kept { IsStrictlySortedBy status_order self.rows }
+    {
+        self.tracked.into_rows()
+    }
+
     /// The allocator that the table keeps: there is one, so no clause says which.
     pub(crate) fn allocator(&self) -> Global {
         self.tracked.allocator()

@@ -72,6 +72,13 @@ impl<R: Telling> TrackedRows<R> {
         self.indexed.rows()
     }
 
+    /// The rows themselves. Takes no memory.
+    pub(crate) fn into_rows(self) -> List<R>
+        ensures { result ≡ self.rows }
+    {
+        self.indexed.into_rows()
+    }
+
     /// The parents that are there after the last row, ascending. Takes no memory.
     pub(crate) fn present(&self) -> &[Digest]
         ensures { AreThere R.place R.says self.now.rows result.now }
