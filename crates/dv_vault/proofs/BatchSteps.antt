@@ -2,7 +2,7 @@
 use Rattle.dv_vault.proofs.Vocabulary.{get_or-map, length-map, AllZip-long, AreOfKinds, IsOfKind, ◌≡◌, ℕ, ◌+◌, ◌<◌, ◌≤◌, Bool, true, false, List, [], ◌∷◌, ◌++◌, refl, sym, ◌∙◌, ap, subst, arith, add-one, append-nil, drop, drop-cons, get_or}
 use Rattle.dv_vault.proofs.Vocabulary.{length, map, not, slice_set, suc, take, zero, if◌then◌else◌, AllZip, list_any, and_parts, none_passes, same_answer, not-true, false≢true, table_eq-itself, Contains, Contains-get_or, drop_all, take_all}
 use Rattle.dv_vault.proofs.Vocabulary.{nil_from_length, map-append, append_assoc, drop-set-lt, take_more, take_more_set, TableId, Rows, TableRows, appended_to, are_apart, is_of_kind, no_rows, row_count, rows_in, rows_then, table_eq, Table}
-use Rattle.dv_vault.proofs.Vocabulary.{HaveRoom, Follow, entry_of, spare_of, entries_with, same_table}
+use Rattle.dv_vault.proofs.Vocabulary.{HaveRoom, Follow, entry_of, spare_of, entries_with, has_table, same_table}
 use Rattle.dv_catalog.specs.declared.tables.TableId.TheVariants as ids
 use Rattle.dv_records.specs.declared.stores.Rows.TheVariants as of
 
@@ -149,13 +149,17 @@ rows_appended id table rows kind (entry ∷ entries) =
     by false false true h i s later = later
     by false false false h i s later = later
 
-pub rows_stay : (id table : TableId) (rows : Rows) → is_of_kind table rows ≡ true → (a b : List TableRows) → ((table : TableId) → rows_in table a ≡ rows_in table b)
+pub rows_stay : (id table : TableId) (rows : Rows) → is_of_kind table rows ≡ true → (a b : List TableRows) → rows_in table a ≡ rows_in table b → rows_in id a ≡ rows_in id b
     → rows_in id (appended_to table rows a) ≡ rows_in id (appended_to table rows b)
-rows_stay id table rows kind a b same =
+rows_stay id table rows kind a b there same =
     rows_appended id table rows kind a
-    ∙ ap (λ l. if table_eq table id then rows_then l rows else rows_in id a) (same table)
-    ∙ ap (λ l. if table_eq table id then rows_then (rows_in table b) rows else l) (same id)
+    ∙ ap (λ l. if table_eq table id then rows_then l rows else rows_in id a) there
+    ∙ ap (λ l. if table_eq table id then rows_then (rows_in table b) rows else l) same
     ∙ sym (rows_appended id table rows kind b)
+
+-- the rows of the other tables stay
+pub others_stay : (id table : TableId) (rows : Rows) → is_of_kind table rows ≡ true → table_eq table id ≡ false → (a : List TableRows) → rows_in id (appended_to table rows a) ≡ rows_in id a
+others_stay id table rows kind other a = rows_appended id table rows kind a ∙ ap (λ b. if b then rows_then (rows_in table a) rows else rows_in id a) other
 
 pub no_more : (entries : List TableRows) → entries_with entries [] ≡ entries
 no_more [] = refl
@@ -168,6 +172,7 @@ another table entries i entry none h at = none_passes (λ (other : TableRows). t
 
 -- the tables are apart, so the first with a name is at its place
 pub record AtPlace (entries : List TableRows) (batches : List Rows) (i : ℕ) (entry : TableRows) (rows : Rows) : Type 0 where
+  pub among : has_table entry.table entries ≡ true
   pub found : rows_in entry.table (entries_with entries (take i batches)) ≡ entry.rows
   pub appended : appended_to entry.table rows (entries_with entries (take i batches)) ≡ entries_with entries (take (suc i) batches)
   pub passed : rows_then entry.rows rows ≡ entry.rows → entries_with entries (take (suc i) batches) ≡ entries_with entries (take i batches)
@@ -179,6 +184,7 @@ at_place (first ∷ entries) [] i entry rows apart h at k is = absurd (omega (ar
 at_place (first ∷ entries) (batch ∷ batches) zero entry rows apart h at k is =
     rw (← at, ← is)
     (record {
+      among = rw (table_eq-itself first.table) refl;
       found = rw (table_eq-itself first.table) refl;
       appended = rw (table_eq-itself first.table) (ap (λ l. record { table = first.table; rows = rows_then first.rows batch } ∷ l) (sym (no_more entries)));
       passed = λ same. ap (λ rows. record { table = first.table; rows = rows } ∷ entries_with entries []) same ∙ ap (λ l. first ∷ l) (no_more entries);
@@ -191,6 +197,7 @@ at_place (first ∷ entries) (batch ∷ batches) (suc i) entry rows apart h at k
     (λ no. absurd (false≢true no)) in
     let behind = at_place entries batches i entry rows rest under at (omega (arith, k)) is in
     record {
+      among = rw other behind.among;
       found = rw other behind.found;
       appended = rw other (ap (λ l. record { table = first.table; rows = rows_then first.rows batch } ∷ l) behind.appended);
       passed = λ same. ap (λ l. record { table = first.table; rows = rows_then first.rows batch } ∷ l) (behind.passed same);

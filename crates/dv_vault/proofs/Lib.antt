@@ -12,6 +12,7 @@ pub mod FeedTables
 pub mod HubLists
 pub mod NamedHubs
 pub mod NoWindows
+pub mod OtherTables
 pub mod PeriodFacts
 pub mod SealedContents
 pub mod SortedOffers

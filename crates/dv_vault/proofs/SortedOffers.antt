@@ -4,7 +4,7 @@ use Rattle.dv_vault.proofs.Vocabulary.{if◌then◌else◌, slice_get, option_ma
 use Rattle.dv_vault.proofs.Vocabulary.{slice_get-get_or, Key, NRow, Staged, Window, is_missing, refs_eq, refs_cmp, sorted_by, IsStrictlySortedBy-filter_map, ascending-sorted_by, same_ascending, FeedDef, Parent, Hub, Link, Mapping}
 use Rattle.dv_vault.proofs.Vocabulary.{feed_hubs, is_fed_by, keys_at, is_declared, is_valid, valid_feed, Delivery, deliveries, first_offer, offered_refs, offers, offers_of, refs_from, table_of, all_refs, refs_total, deliveries_member}
 use Rattle.dv_vault.proofs.Vocabulary.{first_offer-refs, Offer, Offered, all_offered, delivery_to, kept, offer_cmp, offered_by, single_keys, stands_at, eq_by_cmp_equiv, refs-tie, none_behind, find_same, drop_got, first-sorted, sorted-first}
-use Rattle.dv_vault.proofs.Vocabulary.{sorted_by-map, map-map, map-id, subst, slice_get-map, Hashes, HashedDelivery, IsKeyOf, hashed_as, is_window, refs_fit, list_all-map, all_pass, All-map, AreHashed, IfOk, Ok, Err, Result}
+use Rattle.dv_vault.proofs.Vocabulary.{sorted_by-map, map-map, map-id, subst, slice_get-map, Hashes, HashedDelivery, IsKeyOf, hashed_as, is_window, refs_fit, list_all-map, all_pass, AreHashed, IfOk, Ok, Err, Result}
 use Rattle.dv_vault.proofs.Vocabulary.{All-from_recursion, AllByRecursion, Keyed, delivered, keyed}
 use Rattle.dv_vault.proofs.WindowFacts as facts
 

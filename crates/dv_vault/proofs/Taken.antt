@@ -7,6 +7,7 @@ use Rattle.dv_vault.proofs.Vocabulary.{AreOfLoad, are_up_to, is_up_to}
 use Rattle.dv_records.specs.declared.stores.Rows.TheVariants as of
 use Rattle.dv_vault.specs.declared.tables.Table.TheVariants as table
 use Rattle.dv_vault.proofs.Afterwards.{later_than_last}
+use Rattle.dv_vault.proofs.OtherTables.{same_tables}
 
 -- ---- batches that follow the rows of tables are of their kinds
 
@@ -72,11 +73,6 @@ feeds_there mapping extracts all =
     lt-ltb staged.feed (length mapping.feeds) (slice_get_within mapping.feeds staged.feed definition at)) extracts all
 
 -- ---- what an office keeps to
-
-same_tables : (entries : List TableRows) (batches : List Rows) → map (λ (entry : TableRows). entry.table) (entries_with entries batches) ≡ map (λ (entry : TableRows). entry.table) entries
-same_tables [] batches = refl
-same_tables (entry ∷ entries) [] = refl
-same_tables (entry ∷ entries) (rows ∷ batches) = ap (λ rest. entry.table ∷ rest) (same_tables entries batches)
 
 module _ (raw : RawVault) (addition : Addition) (fits : Fits raw addition) (entries : List TableRows) (heads : List WindowHead)
     (tables_are : entries ≡ entries_with raw.tables addition.batches) (heads_are : heads ≡ raw.heads ++ head_of addition.window ∷ []) where

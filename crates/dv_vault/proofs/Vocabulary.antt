@@ -78,7 +78,7 @@ pub use Rattle.dv_text.specs.declared.rows.Staged.{Staged}
 pub use Rattle.dv_text.specs.declared.rows.Window.{Window}
 pub use Rattle.dv_text.specs.declared.rows.WindowHead.{WindowHead}
 pub use Rattle.dv_vault.specs.Additions.{AreApart, AreApartBy, ClashesAt, Fits, FollowAll, IsAddition, IsFirstClash, all_added, fault_at, raw_with, weight_with}
-pub use Rattle.dv_vault.specs.Keeping.{AreOfKinds, Became, BreakCause, BreaksRows, BreaksWindow, BrokeOff, HaveRoom, IsBegun, IsLeftOpen, IsOfKind, IsOpen, IsReached, TakesRows, TakesWindow, TookRows, TookSome, TookWindow, break_of, reached, with_batch}
+pub use Rattle.dv_vault.specs.Keeping.{AreOfKinds, Became, BreakCause, BreaksRows, BreaksWindow, BrokeOff, HasRows, HaveRoom, IsAsFar, IsBegun, IsLeftOpen, IsOfKind, IsOpen, IsReached, KeepsOthers, TakesRows, TakesWindow, TookRows, TookSome, TookWindow, break_of, reached, with_batch}
 pub use Rattle.dv_vault.specs.HashedWindows.{IsHashedWindow}
 pub use Rattle.dv_vault.specs.Offered.{IsKeyOf, Keyed, Offered, all_offered, delivery_to, hashed_as, kept, key_told, keyed, offer_cmp, offered_by, single_keys, stands_at, told_by}
 pub use Rattle.dv_vault.specs.declared.hashed_windows.HashedWindow.{HashedWindow}

@@ -1,10 +1,9 @@
 // A window is kept: a keeper takes it, and then the tables.
-ghost use Rattle.std.specs.Prelude.{◌≡◌, ◌+◌, ◌≤◌, ◌++◌, ◌∷◌, [], IfErr, IfNone, IfOk, IfSome, IsTrue, OnErr, OnOk, length, map};
+ghost use Rattle.std.specs.Prelude.{◌≡◌, ◌+◌, ◌≤◌, ◌++◌, ◌∷◌, [], IfErr, IfNone, IfOk, IfSome, IsTrue, None, OnErr, OnOk, length, map};
 ghost use Rattle.std.specs.List.{AllZip};
 ghost use Rattle.dv_text.specs.Causes.{Rose};
 ghost use Rattle.dv_text.specs.Told.{Told};
 ghost use Rattle.dv_records.specs.Changes.{Changes, KeeperCause};
-ghost use Rattle.dv_records.specs.Standing.{HasTables};
 ghost use Rattle.dv_records.specs.States.{head_of};
 ghost use Rattle.dv_records.specs.Stores.{are_apart, is_of_kind, rows_in};
 ghost use Rattle.dv_vault.specs.Keeping as spec;
@@ -22,8 +21,8 @@ use dv_records::{Keeper, KeeperError, Rows};
 use dv_text::{Duplicate, List, Memory, Window, WindowHead};
 use std::alloc::Global;
 
-// The load date and the feeds of a window.
-fn head(alloc: Global, window: &Window) -> Result<WindowHead, Memory>
+/// The head of a window: its load date and its feeds.
+pub fn head(alloc: Global, window: &Window) -> Result<WindowHead, Memory>
     ensures { IfOk result (λ head. head ≡ head_of window.now) }
 {
     let mut feeds = List::new(alloc);
@@ -65,9 +64,10 @@ fn append_all<K: Keeper>(
     requires kinds { spec.AreOfKinds (map entry_of tables.now) batches.now }
     requires apart { IsTrue (are_apart (map entry_of tables.now)) }
     requires within { from ≤ length tables.now }
-    requires told { Told (K.store keeper.old) (λ s. HasTables s (spec.reached (map entry_of tables.now) batches.now from)) }
+    requires told { Told (K.store keeper.old) (λ s. spec.HasRows s (spec.reached (map entry_of tables.now) batches.now from)) }
     ensures told { OnOk result (spec.TakesRows (map entry_of tables.now) batches.now (K.store keeper.old) (K.store keeper.new)) }
     ensures broke { IfErr result (spec.BreaksRows (map entry_of tables.now) batches.now (K.store keeper.old) (K.store keeper.new)) }
+    ensures opened { IfErr result (λ broken. broken.reached ≡ None → ⊥) }
     ensures cause { BreakCause (K.faults keeper.old) (K.faults keeper.new) result }
 {
     for i in from..tables.len() {
@@ -97,6 +97,7 @@ fn complete<K: Keeper>(
     requires told { Told (K.store keeper.old) (spec.IsReached addition.now.window (map entry_of tables.now) addition.now.batches from) }
     ensures told { OnOk result (spec.TakesWindow addition.now.window (map entry_of tables.now) addition.now.batches (K.store keeper.old) (K.store keeper.new)) }
     ensures broke { IfErr result (spec.BreaksWindow addition.now.window (map entry_of tables.now) addition.now.batches (K.store keeper.old) (K.store keeper.new)) }
+    ensures opened { IfErr result (λ broken. broken.reached ≡ None → ⊥) }
     ensures cause { BreakCause (K.faults keeper.old) (K.faults keeper.new) result }
 {
     append_all(alloc, keeper, tables, from, addition.batches.items())?;
@@ -125,6 +126,7 @@ fn keep<K: Keeper>(
     requires told { Told (K.store keeper.old) (spec.IsBegun addition.now.window (map entry_of tables.now) addition.now.batches begun) }
     ensures told { OnOk result (spec.TakesWindow addition.now.window (map entry_of tables.now) addition.now.batches (K.store keeper.old) (K.store keeper.new)) }
     ensures broke { IfErr result (spec.BreaksWindow addition.now.window (map entry_of tables.now) addition.now.batches (K.store keeper.old) (K.store keeper.new)) }
+    ensures still { IfErr result (λ broken. broken.reached ≡ None → begun ≡ None) }
     ensures cause { BreakCause (K.faults keeper.old) (K.faults keeper.new) result }
 {
     let Some(from) = begun else {
@@ -209,7 +211,7 @@ fn make_room(
 
 impl Vault {
     /// Gives an addition to the keeper, and puts it behind the rows of the tables. The keeper has then the
-    /// window's rows and its head. `begun` is none where no window is open; where the addition's is, it says how many
+    /// window's rows and its head, and its other tables have the rows that they had. `begun` is none where no window is open; where the addition's is, it says how many
     /// first tables, in table order, have their rows of it already. All memory that the vault needs is taken before
     /// the keeper's store changes. With an error the vault is as before, and the keeper's store is as before, or has
     /// the window open and the rows of some first tables, or has it sealed. After `Memory` `reached` says how far it
@@ -228,6 +230,7 @@ impl Vault {
         ensures kept { OnErr result (self.new ≡ self.old) }
         ensures told { OnOk result (spec.TakesWindow addition.window self.old.tables addition.batches (K.store keeper.old) (K.store keeper.new)) }
         ensures broke { IfErr result (λ untaken. (untaken.addition ≡ addition) × spec.BreaksWindow addition.window self.old.tables addition.batches (K.store keeper.old) (K.store keeper.new) (break_of untaken)) }
+        ensures still { IfErr result (λ untaken. untaken.reached ≡ None → begun ≡ None) }
         ensures later { K.faults keeper.old ≤ K.faults keeper.new }
         ensures cause { IfErr result (λ untaken. untaken.error ≡ KeeperError.Failed → Rose (K.faults keeper.old) (K.faults keeper.new)) }
     {

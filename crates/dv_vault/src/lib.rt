@@ -23,5 +23,7 @@ pub use additions::{Addition, AdditionFault};
 pub use breaks::Untaken;
 pub use content_rows::ContentRow;
 pub use hashed_windows::{HashedWindow, gathered};
+pub use keeping::head;
 pub use offers::deliveries;
+pub use tables::Table;
 pub use vaults::Vault;

@@ -27,9 +27,9 @@ use dv_text::{KeyDigest, List, Memory, Stamp};
 use dv_track::{EffectTable, StatusTable};
 use std::alloc::Global;
 
-/// A raw table.
+/// A raw table of any kind, by the place of its hub, link or feed in declared order.
 #[derive(Drop)]
-pub(crate) enum Table {
+pub enum Table {
     Hub { hub: u32, rows: HubTable },
     Link { link: u32, rows: LinkTable },
     Sat { feed: u32, rows: SatTable },
@@ -147,7 +147,8 @@ impl Table {
         }
     }
 
-    pub(crate) fn id(&self) -> TableId
+    /// Which table it is. Takes no memory.
+    pub fn id(&self) -> TableId
         ensures { result ≡ (entry_of self.now).table }
     {
         match self {

@@ -9,13 +9,14 @@ ghost use Rattle.dv_records.specs.Stores.{no_rows};
 ghost use Rattle.dv_records.specs.Weights.{tables_weight};
 ghost use Rattle.dv_vault.specs.Additions as spec;
 ghost use Rattle.dv_vault.specs.Additions.{Fits, IsAddition};
-ghost use Rattle.dv_vault.specs.Vaults.{IsBuilt, are_heads_of, last_head};
+ghost use Rattle.dv_vault.specs.Vaults.{IsBuilt, IsVaultOf, are_heads_of, are_rows_kept, entry_of, last_head};
 
 use crate::additions::{Addition, AdditionFault};
 use crate::batches::{all_deltas, count_all, weight_with};
 use crate::hashed_windows::gathered;
 use crate::hub_keys::hub_keys;
 use crate::raw_tables::RawTables;
+use crate::tables::Table;
 use dv_catalog::{Catalog, TableId};
 use dv_keys::{HubTable, LinkTable};
 use dv_records::Rows;
@@ -65,6 +66,34 @@ impl Vault {
             heads: List::new(alloc),
             weight: 0,
         })
+    }
+
+    /// The vault of sealed windows with these heads, whose rows stand in these tables, which weigh so much. Conditions:
+    /// they are the tables of the mapping, in table order; no row is later than the last head; the feeds of the heads
+    /// are in the mapping; every form in the mapping is built. Takes no memory.
+    pub fn from_tables(
+        catalog: Catalog,
+        tables: Vec<Table>,
+        heads: List<WindowHead>,
+        weight: u64,
+    ) -> Vault
+        requires built { unbuilt catalog ≡ None }
+        requires tables { IsVaultOf catalog (map entry_of tables.items) }
+        requires rows { IsTrue (are_rows_kept heads (map entry_of tables.items)) }
+        requires heads { IsTrue (are_heads_of catalog heads) }
+        requires weight { weight ≡ tables_weight (map entry_of tables.items) }
+        ensures mapping { result.mapping ≡ catalog }
+        ensures tables { result.tables ≡ map entry_of tables.items }
+        ensures heads { result.heads ≡ heads }
+    {
+        catalog.note_valid();
+        let raw = RawTables { tables };
+        Vault {
+            catalog,
+            raw,
+            heads,
+            weight,
+        }
     }
 
     /// The mapping, in which every form is built. Takes no memory.

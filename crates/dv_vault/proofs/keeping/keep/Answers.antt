@@ -33,7 +33,7 @@ returns-in_default-clause-broke g c =
     let batches = c.args.addition.now.batches in
     let before = g.K.Keeper.store c.args.keeper.now in
     completing_breaks window entries batches before (g.K.Keeper.store c.put_stage.new.self) (g.K.Keeper.store c.complete.new.keeper)
-    (subst (λ begun. Told before (IsBegun window entries batches begun)) c.in_default.is c.requires.told) c.in_default-put_stage.ensures.change c.complete.result c.complete.ensures.broke
+    (subst (λ begun. Told before (IsBegun window entries batches begun)) c.in_default.is c.requires.told) c.in_default-put_stage.ensures.change c.complete.result c.complete.ensures.opened c.complete.ensures.broke
 
 pub complete-requires-2-clause-told : goal.complete-requires-2-clause-told
 complete-requires-2-clause-told g c =

@@ -1,5 +1,7 @@
-use Rattle.dv_vault.proofs.Vocabulary.{◌≡◌, ◌≤◌, ◌++◌, ◌∷◌, [], ◌∙◌, IfSome, List, ap, length, length-map, map, refl, subst, sym, with_items, BreaksWindow, TakesWindow, TableRows, head_of, tables_weight, Fits, RawVault, entries_with, entry_of}
+use Rattle.dv_vault.proofs.Vocabulary.{AllZip-long, Follow, ◌≡◌, ◌≤◌, ◌++◌, ◌∷◌, [], ◌∙◌, IfSome, List, ap, length, length-map, map, refl, subst, sym, with_items, BreaksWindow, TakesWindow, TableRows, head_of, tables_weight, Fits, RawVault, entries_with, entry_of}
 use Rattle.dv_vault.proofs.Taken.{entries_after, entries_now, follows, heads_still, kinds, rows_still, vault_still}
+use Rattle.dv_records.specs.declared.keepers.KeeperError.TheVariants.{Memory}
+use Rattle.dv_vault.proofs.Broken.{nothing_breaks}
 use Rattle.dv_vault.proofs.TablesApart.{vault_apart}
 use Rattle.dv_vault.proofs.vaults.Vault.take.Goals as goal
 
@@ -61,3 +63,11 @@ invariant_of-self-2 g c =
       fits.weight ∙ ap tables_weight (sym after),
       c.self.invariant.5,
     )
+
+pub returns-in_default-clause-broke : goal.returns-in_default-clause-broke
+returns-in_default-clause-broke g c =
+    let tables = c.args.self.now.tables in
+    let batches = c.args.addition.batches in
+    let long : length tables ≡ length batches = sym (length-map tables (λ entry. entry.rows)) ∙ sym (AllZip-long Follow (map (λ entry. entry.rows) tables) batches c.requires.fits.follow.follow) in
+    let within : IfSome c.args.begun (λ from. from ≤ length batches) = subst (λ n. IfSome c.args.begun (λ from. from ≤ n)) long c.requires.within in
+    (refl, nothing_breaks c.args.addition.window tables batches (g.K.Keeper.store c.args.keeper.now) Memory c.args.begun within c.requires.told)
