@@ -1,0 +1,10 @@
+use Rattle.dv_start.proofs.TableReads.{damage_told, rows_told}
+use Rattle.dv_start.proofs.table_reads.read_table.Goals as goal
+
+pub returns-clause-told : goal.returns-clause-told
+returns-clause-told g c before is =
+    rows_told before c.args.id c.args.known.now.weight is.weight (g.K.Keeper.store c.args.keeper.now) c.in_ok-read.read c.in_ok-read.ensures.told c.table_of.result c.table_of.ensures.told (c.table_of.ensures.clear before is)
+
+pub returns-clause-damaged : goal.returns-clause-damaged
+returns-clause-damaged g c before is damage e =
+    damage_told before c.args.id c.args.known.now.weight is.weight (g.K.Keeper.store c.args.keeper.now) c.in_ok-read.read c.in_ok-read.ensures.told c.args.known.now.catalog.now damage (c.table_of.ensures.damaged before is damage e)

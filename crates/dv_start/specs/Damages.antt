@@ -1,0 +1,58 @@
+-- The first damage of a whole store: the first place where it breaks a rule of form.
+use Rattle.std.specs.Prelude.{◌≡◌, ◌⊎◌, ℕ, List, Some, None, Ok, codes}
+use Rattle.dv_text.specs.Keys.{Hashes}
+use Rattle.dv_catalog.specs.Built.{built_mapping}
+use Rattle.dv_catalog.specs.Entries.{Mapping}
+use Rattle.dv_catalog.specs.Tables.{tables}
+use Rattle.dv_records.specs.declared.answers.Damage.{Damage}
+use Rattle.dv_records.specs.declared.stores.Store.{Store}
+use Rattle.dv_form.specs.Damages.{damage_at, form_damage, stored_entries}
+use Rattle.dv_start.specs.Begins.{broken_window}
+use Rattle.dv_start.specs.Completions.{MayGoOn}
+use Rattle.dv_start.specs.Sealed.{sealed_of}
+
+-- the stored text is read as a mapping in which every form is built
+pub record IsReadAs (mapping : Mapping) (store : Store) : Type 0 where
+  pub text : List ℕ
+  pub stored_is : store.mapping ≡ Some text
+  pub reads : built_mapping text ≡ Ok mapping
+
+-- the open window of a store, if there is one, may be completed
+abbrev pub KeepsF15 : Hashes → Mapping → Store → Type 0
+KeepsF15 hashes mapping store = MayGoOn hashes (sealed_of mapping store) (stored_entries store (tables mapping)) store.stage
+
+-- a store breaks no rule of form behind that of the mapping
+pub record IsInForm (hashes : Hashes) (width : ℕ) (mapping : Mapping) (store : Store) : Type 0 where
+  pub undamaged : form_damage mapping hashes width store ≡ None
+  pub goes_on : KeepsF15 hashes mapping store
+
+-- the damage of a stored text that is not read as a mapping
+abbrev pub mapping_damage : Damage
+mapping_damage = damage_at (codes "mapping") (record { row = 1; rule = 1 })
+
+-- F1: a text is stored, and not read as a mapping in which every form is built
+pub record IsNotRead (store : Store) (damage : Damage) : Type 0 where
+  pub text : List ℕ
+  pub stored_is : store.mapping ≡ Some text
+  pub refused : (mapping : Mapping) → built_mapping text ≡ Ok mapping → ⊥
+  pub is : damage ≡ mapping_damage
+
+-- the first of the rules of the sealed windows, the open one and the raw tables that a store breaks
+abbrev pub BreaksForm : Hashes → ℕ → Mapping → Store → Damage → Type 0
+BreaksForm hashes width mapping store damage = form_damage mapping hashes width store ≡ Some damage
+
+-- F15, which is asked last: none of these is broken, and the open window may not be completed
+pub record BreaksOpen (hashes : Hashes) (width : ℕ) (mapping : Mapping) (store : Store) (damage : Damage) : Type 0 where
+  pub undamaged : form_damage mapping hashes width store ≡ None
+  pub stops : KeepsF15 hashes mapping store → ⊥
+  pub is : damage ≡ broken_window
+
+-- the first rule behind that of the mapping that a store breaks. The stored snapshots (F14), which no rule asks yet, come
+-- before F15.
+abbrev pub BreaksRule : Hashes → ℕ → Mapping → Store → Damage → Type 0
+BreaksRule hashes width mapping store damage = BreaksForm hashes width mapping store damage ⊎ BreaksOpen hashes width mapping store damage
+
+-- the first damage of a store; one without a mapping has none
+abbrev pub IsFirstDamage : Hashes → ℕ → Store → Damage → Type 0
+IsFirstDamage hashes width store damage =
+    IsNotRead store damage ⊎ ((mapping : Mapping) × IsReadAs mapping store × BreaksRule hashes width mapping store damage)

@@ -1,0 +1,17 @@
+-- Rows in two by their load date: those of other load dates than one, and those of it.
+use Rattle.std.specs.Prelude.{◌≡◌, ℕ, ◌==◌, ◌++◌, not, Bool, List, filter}
+use Rattle.dv_index.specs.Places.{Place}
+
+-- a row has a load date
+abbrev pub is_of_load : {R : Type 0} → (R → Place) → ℕ → R → Bool
+is_of_load place load row = (place row).load == load
+
+-- it has another one
+abbrev pub is_of_other : {R : Type 0} → (R → Place) → ℕ → R → Bool
+is_of_other place load row = not ((place row).load == load)
+
+-- rows in two: those of other load dates, and behind them those of one
+pub record AreHalves {R : Type 0} (place : R → Place) (load : ℕ) (rows sealed opened : List R) : Type 0 where
+  pub sealed_are : sealed ≡ filter (is_of_other place load) rows
+  pub opened_are : opened ≡ filter (is_of_load place load) rows
+  pub whole : rows ≡ sealed ++ opened

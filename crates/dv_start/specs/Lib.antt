@@ -1,0 +1,9 @@
+pub mod Begins
+pub mod Completions
+pub mod Damages
+pub mod Faults
+pub mod Halves
+pub mod Parts
+pub mod Readings
+pub mod Restored
+pub mod Sealed

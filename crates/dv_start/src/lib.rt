@@ -1,0 +1,20 @@
+//! The start of an office: the whole store of a keeper is read, held to the rules of form, and made the vault of the
+//! sealed windows, with the open one beside it.
+#![tactic(auto)]
+
+mod checked_tables;
+mod completions;
+mod faults;
+mod gathered;
+mod halves;
+mod mappings;
+mod parts;
+mod readings;
+mod restored;
+mod stores;
+mod table_reads;
+
+pub use faults::StartFault;
+pub use mappings::{mapping_damage, stored_mapping};
+pub use restored::{Begun, Restored};
+pub use stores::read_store;

@@ -1,0 +1,16 @@
+use dv_vault::{Addition, Vault};
+
+/// A window that is begun: what it adds to the vault of the sealed windows, and how many first tables, in table order,
+/// have their rows of it.
+#[derive(Drop)]
+pub struct Begun {
+    pub addition: Addition,
+    pub there: usize,
+}
+
+/// What is read of a keeper: the vault of the sealed windows, and the open window, if there is one.
+#[derive(Drop)]
+pub struct Restored {
+    pub vault: Vault,
+    pub begun: Option<Begun>,
+}
