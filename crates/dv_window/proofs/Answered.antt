@@ -1,88 +1,117 @@
--- What the answers to a window say of the state that an office stands for, told from what was decided of it.
-use Rattle.dv_window.proofs.Vocabulary.{List, None, Option, Some, [], ap, inl, inr, length, map, nat_le, refl, sym, true, ℕ, ◌++◌, ◌∙◌, ◌∷◌, ◌≡◌, append-nil, and_from, Mapping, Hashes, are_windows_valid, ascends, is_window, head_of, State, are_dates_valid, are_not_later, last_load}
-use Rattle.dv_window.proofs.Vocabulary.{snapshots_weight, collision, ◌&&◌, AreApart, IsBuilt, RawVault, last_head, late_after, differs, outcome, option_map_or, window_of, Rule, WindowIn, loaded, sealed_with, Window, full_with, not_full, rows_loaded, sealed_after, apart_is_free, clash_collides}
-use Rattle.dv_window.proofs.Vocabulary.{Addition, AnswerSays, Held, IsAtRest, StandsFor, Collides, IsAgain, IsPlan, IsTooMuch, Stops, held_with, answer_of, Stop}
-use Rattle.dv_window.proofs.OutcomeSteps.{again_says, early_refused, new_collides, new_full, new_loads}
-use Rattle.dv_window.proofs.PlanFacts.{not_late, read_whole}
+-- What comes of a window in the state that an office stands for, told from what was decided of it.
+use Rattle.dv_window.proofs.Vocabulary.{Bool, List, None, Option, Some, [], ap, false, is_window, last_head, late_after, inl, inr, refl, subst, sym, true, ◌++◌, ◌∙◌, ◌∷◌, ◌≡◌, option_map_or, Decides, Decides-and, slice_eq-Decides, row_eq-Decides, row_eq, pointwise, rules, eqb-true, NRow}
+use Rattle.dv_window.proofs.Vocabulary.{Hashes, Mapping, Rule, Staged, Window, WindowIn, collision, AreApart, IsBuilt, RawVault, State, outcome, differs_from, has_same_extracts, staged_eq, open_other, window_of, loaded, not_full, full_with, rows_loaded, apart_is_free, clash_collides}
+use Rattle.dv_window.proofs.Vocabulary.{Addition, Begun, Held, IsBegunAs, MayBeTaken, StandsFor, Collides, IsAgain, IsOpenAgain, IsPlan, IsTooMuch, Stop, Stops, if◌then◌else◌, ◌==◌}
+use Rattle.dv_window.proofs.Growths.{CanAdd}
+use Rattle.dv_window.proofs.OutcomeSteps.{again_says, early_refused, new_collides, new_full, new_loads, open_says}
+use Rattle.dv_window.proofs.PlanFacts.{early_parts, not_late, read_whole}
 use Rattle.dv_window.proofs.SealedAgain.{read_again}
 use Rattle.dv_records.specs.declared.answers.Outcome.TheVariants as outcomes
 use Rattle.dv_window.specs.declared.stops.Stop.TheVariants as stop
 
--- no snapshots are in order
-no_dates_valid : (mapping : Mapping) (hashes : Hashes) (state : State) → state.dates ≡ [] → are_dates_valid mapping hashes state ≡ true
-no_dates_valid mapping hashes state e =
-    ap (λ (dates : List ℕ). ascends dates && are_not_later (last_load state.sealed) dates && nat_le (length dates) 1000 && nat_le (snapshots_weight mapping hashes state.sealed dates) 268435456) e
-    ∙ by (last_load state.sealed)
-  where
-    by : (last : Option ℕ) → (ascends [] && are_not_later last [] && true && nat_le (snapshots_weight mapping hashes state.sealed []) 268435456) ≡ true
-    by None = refl
-    by (Some last) = refl
+-- what a stop says of the outcome
+abbrev pub StopSays : Mapping → Hashes → State → WindowIn → Stop → Type 0
+StopSays mapping hashes state given stop.Repeated = outcome mapping hashes state given ≡ outcomes.Repeated
+StopSays mapping hashes state given (stop.Refused rule) = outcome mapping hashes state given ≡ outcomes.Refused rule
+StopSays mapping hashes state given stop.Memory = Unit {0}
 
-module _ (hashes : Hashes) (state : State) (held : Held) (stands : StandsFor hashes state held) (rest : IsAtRest held) (built : IsBuilt held.vault.mapping) (given : WindowIn) where
+-- ---- windows of one load date and the same extracts are one
+
+rows_same : (a b : List NRow) → Decides (pointwise row_eq a b) (a ≡ b)
+rows_same a b = slice_eq-Decides row_eq-Decides a b _ refl
+
+staged_same : (a b : Staged) → Decides (staged_eq a b) (a ≡ b)
+staged_same a b = search (rules, Decides-and, rows_same)
+
+same_window : (some other : Window) → some.load ≡ other.load → differs_from (Some some) other ≡ None → some ≡ other
+same_window some other loads same = by (has_same_extracts some other) refl same
+  where
+    by : (b : Bool) → has_same_extracts some other ≡ b → (if b then None else Some (Rule.Differs some.load)) ≡ None → some ≡ other
+    by true e n = λ i. record { load = loads i; extracts = (slice_eq-Decides staged_same some.extracts other.extracts _ refl).0 e i }
+    by false e n = cc
+
+module _ (hashes : Hashes) (state : State) (held : Held) (stands : StandsFor hashes state held) (built : IsBuilt held.vault.mapping) (given : WindowIn) where
   abbrev raw : RawVault
   raw = held.vault
 
   abbrev window : Window
   window = window_of raw.mapping given
 
-  none_open : state.begun ≡ None
-  none_open = sym stands.begun_is ∙ rest.none_open
-
-  heads_are : raw.heads ≡ map head_of state.sealed
-  heads_are = stands.sealed_are.heads_are
-
   free : AreApart hashes raw window → collision raw.mapping hashes (state.sealed ++ window ∷ []) ≡ None
   free apart = apart_is_free hashes state.sealed raw stands.sealed_are built.valid window apart
 
   -- ---- a window that is not loaded
 
-  again : (differs : Option Rule) → IsAgain raw given differs → outcome raw.mapping hashes state given ≡ option_map_or (λ rule. outcomes.Refused rule) differs outcomes.Repeated
+  again : (differs : Option Rule) → IsAgain raw state.begun given differs → outcome raw.mapping hashes state given ≡ option_map_or (λ rule. outcomes.Refused rule) differs outcomes.Repeated
   again differs is =
-      again_says hashes state raw heads_are none_open given differs is (λ sealed at same. read_again hashes state.sealed raw stands.sealed_are built.valid given.load is.head sealed at same)
+      again_says hashes state raw stands.sealed_are.heads_are given differs is (λ sealed at same. read_again hashes state.sealed raw stands.sealed_are built.valid given.load is.head sealed at same)
 
-  collides : (rule : Rule) → Collides hashes raw given rule → outcome raw.mapping hashes state given ≡ outcomes.Refused rule
+  collides : (rule : Rule) → Collides hashes raw state.begun given rule → outcome raw.mapping hashes state given ≡ outcomes.Refused rule
   collides rule is =
-      new_collides hashes state raw heads_are none_open given is.passes (record { table = is.names.table; pair = is.names.pair })
+      new_collides hashes state raw stands.sealed_are.heads_are given is.passes is.none_open (record { table = is.names.table; pair = is.names.pair })
       (clash_collides hashes state.sealed raw stands.sealed_are built.valid window is.names.table is.names.pair is.names.first)
       ∙ ap (λ (rule : Rule). outcomes.Refused rule) (sym is.names.rule_is)
 
-  too_much : (rule : Rule) → IsTooMuch hashes raw given rule → outcome raw.mapping hashes state given ≡ outcomes.Refused rule
+  too_much : (rule : Rule) → IsTooMuch hashes raw state.begun given rule → outcome raw.mapping hashes state given ≡ outcomes.Refused rule
   too_much rule is =
-      new_full hashes state raw heads_are none_open given is.passes (free is.apart) rule
-      (sym (full_with hashes state.sealed raw stands.sealed_are built window (read_whole raw given built.valid is.passes.early) (not_late raw given is.passes) is.apart) ∙ is.rule_is)
+      new_full hashes state raw stands.sealed_are.heads_are given is.passes is.none_open (free is.apart) rule
+      (sym (full_with hashes state.sealed raw stands.sealed_are built window (read_whole raw state.begun given built.valid is.passes.early) (not_late raw state.begun given is.passes) is.apart) ∙ is.rule_is)
 
-  pub stopped : (why : Stop) → Stops hashes raw given why → AnswerSays raw.mapping hashes state given (answer_of why)
+  pub stopped : (why : Stop) → Stops hashes raw state.begun given why → StopSays raw.mapping hashes state given why
   stopped stop.Repeated is = again None is
-  stopped (stop.Refused rule) (inl early) = early_refused hashes state raw heads_are none_open given rule early
+  stopped (stop.Refused rule) (inl early) = early_refused hashes state raw stands.sealed_are.heads_are given rule early
   stopped (stop.Refused rule) (inr (inl is)) = again (Some rule) is
-  stopped (stop.Refused rule) (inr (inr (inl is))) = collides rule is
-  stopped (stop.Refused rule) (inr (inr (inr is))) = too_much rule is
+  stopped (stop.Refused rule) (inr (inr (inl is))) = open_says hashes state raw stands.sealed_are.heads_are given (Some rule) is
+  stopped (stop.Refused rule) (inr (inr (inr (inl is)))) = collides rule is
+  stopped (stop.Refused rule) (inr (inr (inr (inr is)))) = too_much rule is
   stopped stop.Memory is = tt
 
-  -- ---- a window that is loaded
+  -- ---- a new window that is to be loaded
 
-  module _ (addition : Addition) (is : IsPlan hashes raw given addition) where
-    whole : is_window raw.mapping window ≡ true
-    whole = read_whole raw given built.valid is.passes.early
-
-    late : late_after (last_head raw.heads) given.load ≡ None
-    late = not_late raw given is.passes
+  module _ (addition : Addition) (is : IsPlan hashes raw state.begun given addition) where
+    pub can_add : CanAdd hashes raw window addition
+    can_add = record {
+      whole = read_whole raw state.begun given built.valid is.passes.early;
+      late = not_late raw state.begun given is.passes;
+      adds = is.adds;
+      room = is.not_full;
+    }
 
     pub loads : outcome raw.mapping hashes state given ≡ outcomes.Load
     loads =
-        new_loads hashes state raw heads_are none_open given is.passes (free is.adds.apart)
-        (not_full hashes state.sealed raw stands.sealed_are built window whole late is.adds.apart addition is.adds is.not_full)
+        new_loads hashes state raw stands.sealed_are.heads_are given is.passes is.none_open (free is.adds.apart)
+        (not_full hashes state.sealed raw stands.sealed_are built window can_add.whole can_add.late is.adds.apart addition is.adds is.not_full)
 
     pub rows : addition.rows ≡ loaded raw.mapping hashes state.sealed window
-    rows = rows_loaded hashes state.sealed raw stands.sealed_are built window whole late is.adds.apart addition is.adds
+    rows = rows_loaded hashes state.sealed raw stands.sealed_are built window can_add.whole can_add.late is.adds.apart addition is.adds
 
-    pub after : StandsFor hashes (sealed_with window state) (held_with addition held)
-    after =
-        let sealed = sealed_after hashes state.sealed raw stands.sealed_are built window whole late is.adds.apart addition is.adds is.not_full in
-        record {
-          valid = and_from _ _ (ap (are_windows_valid raw.mapping hashes) (append-nil (state.sealed ++ window ∷ [])) ∙ sealed.valid)
-              (no_dates_valid raw.mapping hashes (sealed_with window state) (sym stands.dates_are ∙ rest.no_dates));
-          sealed_are = sealed;
-          begun_is = rest.none_open;
-          dates_are = stands.dates_are;
-        }
+  -- ---- the open window again
+
+  module _ (is : IsOpenAgain raw state.begun given None) where
+    pub completes : outcome raw.mapping hashes state given ≡ outcomes.Load
+    completes = open_says hashes state raw stands.sealed_are.heads_are given None is
+
+    -- it is the window that is given
+    pub is_given : is.window ≡ window
+    is_given =
+        let no_other = subst (λ begun. open_other begun given ≡ None) is.is_open (early_parts raw state.begun given is.passes.early).no_other in
+        same_window is.window window (by (is.window.load == given.load) refl no_other) is.differs_is
+      where
+        by : (b : Bool) → (is.window.load == given.load) ≡ b → (if b then None else Some (Rule.OpenOther is.window.load)) ≡ None → is.window.load ≡ given.load
+        by true e n = eqb-true _ _ e
+        by false e n = cc
+
+-- what an office has begun may be added to its vault
+pub begun_adds : (hashes : Hashes) (raw : RawVault) (open_window : Option Window) (begun : Begun) → IsBegunAs hashes raw open_window (Some begun) → MayBeTaken raw begun
+    → (window : Window) × (open_window ≡ Some window) × CanAdd hashes raw window begun.addition
+begun_adds hashes vault None begun is taken = absurd is
+begun_adds hashes vault (Some window) begun is taken = (
+  window,
+  refl,
+  record {
+    whole = subst (λ (w : Window). is_window vault.mapping w ≡ true) is.adds.window_is taken.fits.whole;
+    late = subst (λ (w : Window). late_after (last_head vault.heads) w.load ≡ None) is.adds.window_is taken.fits.later;
+    adds = is.adds;
+    room = is.room;
+  },
+)

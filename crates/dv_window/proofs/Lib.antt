@@ -1,7 +1,10 @@
 pub mod Agreed
 pub mod Answered
+pub mod BrokenOff
+pub mod Growths
 pub mod OutcomeSteps
 pub mod PlanFacts
+pub mod Refreshed
 pub mod SealedAgain
 pub mod StartFacts
 pub mod Stepped

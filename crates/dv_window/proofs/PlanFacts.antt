@@ -1,41 +1,43 @@
 -- What a vault's own facts say of a window that breaks no rule before the vault is looked at.
 use Rattle.dv_window.proofs.Vocabulary.{List, None, Option, Some, [], ap, length, sym, true, ℕ, ◌==◌, ◌∙◌, ◌∷◌, ◌≡◌, nat_lt, list_all, option_map, option_or, Mapping, found_member, passes_at, is_valid, or_none, is_window, IfSome, if◌then◌else◌, is_some, RawVault, are_heads_of, last_head}
-use Rattle.dv_window.proofs.Vocabulary.{late_after, feed_twice, no_extracts, unknown_feed, too_long, first_of, window_of, window_rule, Rule, WindowIn, window_of-is_window, WindowHead, IsNewWindow, early_rule, given_rules, head_at, late_by}
+use Rattle.dv_window.proofs.Vocabulary.{late_after, feed_twice, no_extracts, open_other, unknown_feed, too_long, first_of, window_of, window_rule, Rule, Window, WindowIn, window_of-is_window, WindowHead, IsNewWindow, early_rule, given_rules, head_at, late_by}
 
 -- ---- the early rules, one by one
 
-pub record PassesEarly (raw : RawVault) (given : WindowIn) : Type 0 where
+pub record PassesEarly (raw : RawVault) (begun : Option Window) (given : WindowIn) : Type 0 where
   pub some : no_extracts given ≡ None
   pub known : unknown_feed raw.mapping given ≡ None
   pub in_time : late_by raw.heads given.load ≡ None
+  pub no_other : open_other begun given ≡ None
   pub reads : window_rule raw.mapping given ≡ None
 
-pub early_parts : (raw : RawVault) (given : WindowIn) → early_rule raw given ≡ None → PassesEarly raw given
-early_parts raw given e =
-    let (as_given, e1) = or_none (given_rules raw given) (first_of (window_rule raw.mapping given ∷ [])) e in
+pub early_parts : (raw : RawVault) (begun : Option Window) (given : WindowIn) → early_rule raw begun given ≡ None → PassesEarly raw begun given
+early_parts raw begun given e =
+    let (as_given, e1) = or_none (given_rules raw begun given) (first_of (window_rule raw.mapping given ∷ [])) e in
     let (reads, e2) = or_none (window_rule raw.mapping given) None e1 in
-    let (some, e3) = or_none (no_extracts given) (first_of (unknown_feed raw.mapping given ∷ feed_twice given ∷ late_by raw.heads given.load ∷ too_long given ∷ [])) as_given in
-    let (known, e4) = or_none (unknown_feed raw.mapping given) (first_of (feed_twice given ∷ late_by raw.heads given.load ∷ too_long given ∷ [])) e3 in
-    let (once, e5) = or_none (feed_twice given) (first_of (late_by raw.heads given.load ∷ too_long given ∷ [])) e4 in
-    let (in_time, e6) = or_none (late_by raw.heads given.load) (first_of (too_long given ∷ [])) e5 in
-    record { some = some; known = known; in_time = in_time; reads = reads }
+    let (some, e3) = or_none (no_extracts given) (first_of (unknown_feed raw.mapping given ∷ feed_twice given ∷ late_by raw.heads given.load ∷ open_other begun given ∷ too_long given ∷ [])) as_given in
+    let (known, e4) = or_none (unknown_feed raw.mapping given) (first_of (feed_twice given ∷ late_by raw.heads given.load ∷ open_other begun given ∷ too_long given ∷ [])) e3 in
+    let (once, e5) = or_none (feed_twice given) (first_of (late_by raw.heads given.load ∷ open_other begun given ∷ too_long given ∷ [])) e4 in
+    let (in_time, e6) = or_none (late_by raw.heads given.load) (first_of (open_other begun given ∷ too_long given ∷ [])) e5 in
+    let (no_other, e7) = or_none (open_other begun given) (first_of (too_long given ∷ [])) e6 in
+    record { some = some; known = known; in_time = in_time; no_other = no_other; reads = reads }
 
-pub early_none : (raw : RawVault) (given : WindowIn) → given_rules raw given ≡ None → window_rule raw.mapping given ≡ None → early_rule raw given ≡ None
-early_none raw given as_given reads =
+pub early_none : (raw : RawVault) (begun : Option Window) (given : WindowIn) → given_rules raw begun given ≡ None → window_rule raw.mapping given ≡ None → early_rule raw begun given ≡ None
+early_none raw begun given as_given reads =
     ap (λ (first : Option Rule). option_or first (option_or (window_rule raw.mapping given) None)) as_given
     ∙ ap (λ (read : Option Rule). option_or read None) reads
 
 -- the window that is read is one of the mapping
-pub read_whole : (raw : RawVault) (given : WindowIn) → is_valid raw.mapping ≡ true → early_rule raw given ≡ None → is_window raw.mapping (window_of raw.mapping given) ≡ true
-read_whole raw given valid e =
-    let parts = early_parts raw given e in
+pub read_whole : (raw : RawVault) (begun : Option Window) (given : WindowIn) → is_valid raw.mapping ≡ true → early_rule raw begun given ≡ None → is_window raw.mapping (window_of raw.mapping given) ≡ true
+read_whole raw begun given valid e =
+    let parts = early_parts raw begun given e in
     window_of-is_window raw.mapping valid given parts.some parts.known parts.reads
 
 -- a new load date is later than all sealed ones
-pub not_late : (raw : RawVault) (given : WindowIn) → IsNewWindow raw given → late_after (last_head raw.heads) given.load ≡ None
-not_late raw given passes =
+pub not_late : (raw : RawVault) (begun : Option Window) (given : WindowIn) → IsNewWindow raw begun given → late_after (last_head raw.heads) given.load ≡ None
+not_late raw begun given passes =
     ap (λ (found : Option WindowHead). if is_some found then None else late_after (last_head raw.heads) given.load) (sym passes.is_new)
-    ∙ (early_parts raw given passes.early).in_time
+    ∙ (early_parts raw begun given passes.early).in_time
 
 -- ---- the heads
 

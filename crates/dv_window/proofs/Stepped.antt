@@ -1,95 +1,155 @@
--- A store that stands for an office's state steps as the answer to a window says, also where its keeper broke off.
-use Rattle.dv_window.proofs.Vocabulary.{List, Option, Some, [], and_from, and_parts, ap, inl, inr, length, map, map-append, refl, subst, sym, take, true, ℕ, ◌++◌, ◌∙◌, ◌∷◌, ◌≡◌, ◌≤◌, ◌⊎◌, append-nil, Mapping, Hashes, are_windows_valid, head_of, State, arith}
-use Rattle.dv_window.proofs.Vocabulary.{is_valid_state, opened, sealed_with, loaded, Window, WindowHead, WindowIn, Told, Store, HasTables, IsMappedBy, Stands, LoadBroke, Became, BrokeOff, IsLeftOpen, IsOpen, TakesWindow, TookWindow, entries_with, snapshot, IsBuilt, RawVault}
-use Rattle.dv_window.proofs.Vocabulary.{batch_count, partly_after, sealed_after, Addition, Held, IsAtRest, IsPlan, StandsFor, StepsTo, Stop, answer_of, AnswerSays, window_of}
+-- The answer to a window, or to the completion of the open one, is a step of the machine.
+use Rattle.dv_window.proofs.Vocabulary.{None, Option, Some, ap, false, inl, inr, option_map, refl, subst, sym, ℕ, ◌∙◌, ◌≡◌, ◌⊎◌, Result, Ok, Err}
+use Rattle.dv_window.proofs.Vocabulary.{Hashes, Window, WindowIn, IsBuilt, State, Store, opened, sealed_with, loaded, outcome, window_of, rows_loaded, Addition, Begun, CompletesAs, CompletesTo, Held, IsBegunAs, IsIn, IsLeftIn, IsOpenAgain, IsPlan}
+use Rattle.dv_window.proofs.Vocabulary.{StandsFor, StepsTo, Stop, Stops, TookOrBroke, answer_of, load_answer, resume_answer, staged, KeeperError, LoadBroke, same_Some}
+use Rattle.dv_records.specs.declared.answers.Outcome.TheVariants as outcomes
+use Rattle.dv_records.specs.declared.answers.ResumeAnswer.TheVariants.{NothingOpen}
+use Rattle.dv_records.specs.declared.keepers.KeeperError.TheVariants.{Failed, Memory}
+use Rattle.dv_start.proofs.StoreReads.{staged_is}
+use Rattle.dv_window.proofs.Agreed.{none_staged}
+use Rattle.dv_window.proofs.Answered.{StopSays, begun_adds, can_add, completes, is_given, loads, rows, stopped}
+use Rattle.dv_window.proofs.BrokenOff.{LeftState, broken, taken}
+use Rattle.dv_window.proofs.Growths.{CanAdd}
 use Rattle.dv_window.specs.declared.stops.Stop.TheVariants as stop
-use Rattle.dv_window.proofs.Answered.{after, loads}
-use Rattle.dv_window.proofs.PlanFacts.{not_late, read_whole}
 
-module _ (hashes : Hashes) (state : State) (held : Held) (stands : StandsFor hashes state held) (rest : IsAtRest held) (built : IsBuilt held.vault.mapping) (given : WindowIn)
-    (addition : Addition) (is : IsPlan hashes held.vault given addition) where
-  abbrev raw : RawVault
-  raw = held.vault
+module _ (hashes : Hashes) (state : State) (held : Held) (built : IsBuilt held.vault.mapping) (before : Option Store) (fresh : held.stale ≡ false) (is_in : IsIn hashes state held before) where
+  stands : StandsFor hashes state held
+  stands = is_in.stands fresh
 
-  abbrev window : Window
-  window = window_of raw.mapping given
+  still_in : IsLeftIn hashes state held before
+  still_in = record { stands = is_in.stands; store_stands = is_in.store_stands }
 
-  sealed_valid : is_valid_state raw.mapping hashes (sealed_with window state) ≡ true
-  sealed_valid = (after hashes state held stands rest built given addition is).valid
+  begun_same : staged held ≡ state.begun
+  begun_same = staged_is hashes held.vault state.begun held.begun stands.begun_is
 
-  windows_valid : are_windows_valid raw.mapping hashes (state.sealed ++ window ∷ []) ≡ true
-  windows_valid =
-      ap (are_windows_valid raw.mapping hashes) (sym (append-nil (state.sealed ++ window ∷ [])))
-      ∙ (and_parts _ _ sealed_valid).0
+  -- ---- a window that is not loaded
 
-  opened_valid : is_valid_state raw.mapping hashes (opened window state) ≡ true
-  opened_valid = and_from _ _ windows_valid (and_parts _ _ stands.valid).1
+  module _ (given : WindowIn) (why : Stop) (stops : Stops hashes held.vault (staged held) given why) where
+    said : StopSays held.vault.mapping hashes state given why
+    said = stopped hashes state held stands built given why (subst (λ begun. Stops hashes held.vault begun given why) begun_same stops)
 
-  none_stored : (dates : List ℕ) → dates ≡ [] → (sealed sealed' : List Window) → map (snapshot raw.mapping hashes sealed) dates ≡ map (snapshot raw.mapping hashes sealed') dates
-  none_stored dates e sealed sealed' = ap (map (snapshot raw.mapping hashes sealed)) e ∙ ap (map (snapshot raw.mapping hashes sealed')) (sym e)
+    pub stopped_step : (after : Option Store) → after ≡ before → StepsTo held.vault.mapping hashes state given (answer_of why) held after
+    stopped_step after same = by why said
+      where
+        left : IsLeftIn hashes state held after
+        left = subst (IsLeftIn hashes state held) (sym same) still_in
 
-  no_dates : state.dates ≡ []
-  no_dates = sym stands.dates_are ∙ rest.no_dates
+        by : (why : Stop) → StopSays held.vault.mapping hashes state given why → StepsTo held.vault.mapping hashes state given (answer_of why) held after
+        by stop.Repeated is = (state, (is, refl), left)
+        by (stop.Refused rule) is = (state, (is, refl), left)
+        by stop.Memory is = (state, inl refl, left)
 
-  module _ (was : Store) (before : Stands raw.mapping hashes state was) where
-    pub sealed_stands : (now : Store) → TookWindow addition.window (entries_with raw.tables addition.batches) was now → Stands raw.mapping hashes (sealed_with window state) now
-    sealed_stands now took = record {
-      valid = sealed_valid;
-      mapped = subst (IsMappedBy raw.mapping) (sym took.mapping) before.mapped;
-      windows = took.windows
-          ∙ ap (λ (heads : List WindowHead). heads ++ head_of addition.window ∷ []) before.windows
-          ∙ ap (λ (w : Window). map head_of state.sealed ++ head_of w ∷ []) is.adds.window_is
-          ∙ sym (map-append head_of state.sealed (window ∷ []));
-      stage = took.none_open;
-      tables_stand = subst (HasTables now)
-          (sealed_after hashes state.sealed raw stands.sealed_are built window (read_whole raw given built.valid is.passes.early) (not_late raw given is.passes) is.adds.apart addition is.adds is.not_full).tables_are
-          took.tables_are;
-      snapshots = took.snapshots ∙ before.snapshots ∙ none_stored state.dates no_dates state.sealed (state.sealed ++ window ∷ []);
-    }
+  -- ---- a new window
 
-    pub open_stands : (now : Store) (k : ℕ) → k ≤ length addition.batches → IsOpen addition.window (entries_with raw.tables (take k addition.batches)) was now
-        → Stands raw.mapping hashes (opened window state) now
-    open_stands now k within is_open = record {
-      valid = opened_valid;
-      mapped = subst (IsMappedBy raw.mapping) (sym is_open.mapping) before.mapped;
-      windows = is_open.windows ∙ before.windows;
-      stage = is_open.stage ∙ ap Some is.adds.window_is;
-      tables_stand = (
-        k,
-        omega (arith, within, batch_count hashes state.sealed raw stands.sealed_are built window (read_whole raw given built.valid is.passes.early) (not_late raw given is.passes) is.adds.apart addition is.adds),
-        subst (HasTables now)
-            (partly_after hashes state.sealed raw stands.sealed_are built window (read_whole raw given built.valid is.passes.early) (not_late raw given is.passes) is.adds.apart addition is.adds k)
-            is_open.tables_are,
-      );
-      snapshots = is_open.snapshots ∙ before.snapshots;
-    }
+  module _ (given : WindowIn) (addition : Addition) (plan : IsPlan hashes held.vault (staged held) given addition) where
+    abbrev window : Window
+    window = window_of held.vault.mapping given
 
-  -- a window that was taken
-  pub taken_steps : (before after : Option Store) → Told before (Stands raw.mapping hashes state) → TakesWindow addition.window raw.tables addition.batches before after
-      → Told after (Stands raw.mapping hashes (sealed_with window state))
-  taken_steps before after told takes now e =
-      let (was, at, took) = takes now e in
-      sealed_stands was (told was at) now took
+    plan_here : IsPlan hashes held.vault state.begun given addition
+    plan_here = subst (λ begun. IsPlan hashes held.vault begun given addition) begun_same plan
 
-  -- a window that a keeper broke off to take
-  pub broken_steps : (before after : Option Store) → Told before (Stands raw.mapping hashes state) → Became (BrokeOff addition.window raw.tables addition.batches) before after
-      → Told after (λ store. (state' : State) × LoadBroke raw.mapping hashes state given state' × Stands raw.mapping hashes state' store)
-  broken_steps before after told breaks now e =
-      let (was, at, broke) = breaks now e in
-      by was (told was at) broke
-    where
-      by : (was : Store) → Stands raw.mapping hashes state was
-          → (now ≡ was) ⊎ (IsLeftOpen addition.window raw.tables addition.batches was now ⊎ TookWindow addition.window (entries_with raw.tables addition.batches) was now)
-          → (state' : State) × LoadBroke raw.mapping hashes state given state' × Stands raw.mapping hashes state' now
-      by was before (inl same) = (state, inl refl, subst (Stands raw.mapping hashes state) (sym same) before)
-      by was before (inr (inl (k, within, is_open))) =
-          (opened window state, inr (loads hashes state held stands rest built given addition is, inl refl), open_stands was before now k within is_open)
-      by was before (inr (inr took)) =
-          (sealed_with window state, inr (loads hashes state held stands rest built given addition is, inr refl), sealed_stands was before now took)
+    can : CanAdd hashes held.vault window addition
+    can = can_add hashes state held stands built given addition plan_here
 
--- a window that is not loaded leaves the store
-pub stopped_steps : (mapping : Mapping) (hashes : Hashes) (state : State) (given : WindowIn) (why : Stop) → AnswerSays mapping hashes state given (answer_of why)
-    → (before after : Option Store) → after ≡ before → Told before (Stands mapping hashes state) → StepsTo mapping hashes state given (answer_of why) after
-stopped_steps mapping hashes state given stop.Repeated says before after same told = λ store e. (state, (says, refl), told store (sym same ∙ e))
-stopped_steps mapping hashes state given (stop.Refused rule) says before after same told = λ store e. (state, (says, refl), told store (sym same ∙ e))
-stopped_steps mapping hashes state given stop.Memory says before after same told = λ store e. (state, inl refl, told store (sym same ∙ e))
+    to_load : outcome held.vault.mapping hashes state given ≡ outcomes.Load
+    to_load = loads hashes state held stands built given addition plan_here
+
+    none_begun : held.begun ≡ None
+    none_begun = none_staged held plan.none_open
+
+    broke_load : (state' : State) → LeftState state window state' → LoadBroke held.vault.mapping hashes state given state'
+    broke_load state' (inl same) = inl same
+    broke_load state' (inr left) = inr (to_load, left)
+
+    pub new_step : (held' : Held) (after : Option Store) (result : Result ℕ KeeperError) → TookOrBroke None addition held held' before after result → StepsTo held.vault.mapping hashes state given (load_answer result) held' after
+    new_step held' after (Ok count) (rows_are, is, took) = (
+      sealed_with window state,
+      (to_load, refl, rows_are ∙ rows hashes state held stands built given addition plan_here),
+      taken hashes state held stands is_in.no_dates built window addition can before is_in.store_stands held' after is took,
+    )
+    new_step held' after (Err Failed) broke =
+        let (state', left, is_left) = broken hashes state held stands is_in.no_dates built window addition can before is_in.store_stands None Failed held' after fresh broke (λ e. none_begun) in
+        (state', broke_load state' left, is_left)
+    new_step held' after (Err Memory) broke =
+        let (state', left, is_left) = broken hashes state held stands is_in.no_dates built window addition can before is_in.store_stands None Memory held' after fresh broke (λ e. none_begun) in
+        (state', broke_load state' left, is_left)
+
+  -- ---- the open window
+
+  module _ (held' : Held) (after : Option Store) (result : Result ℕ KeeperError) (came : CompletesAs held held' before after result) where
+    abbrev begun : Begun
+    begun = came.begun
+
+    adds : (window : Window) × (state.begun ≡ Some window) × CanAdd hashes held.vault window begun.addition
+    adds = begun_adds hashes held.vault state.begun begun (subst (IsBegunAs hashes held.vault state.begun) came.begun_is stands.begun_is) came.may_be
+
+    abbrev open_window : Window
+    open_window = adds.0
+
+    reopened : opened open_window state ≡ state
+    reopened = λ i. record state { begun = sym adds.1 i }
+
+    open_rows : begun.addition.rows ≡ loaded held.vault.mapping hashes state.sealed open_window
+    open_rows =
+        let can = adds.2 in
+        rows_loaded hashes state.sealed held.vault stands.sealed_are built open_window can.whole can.late can.adds.apart begun.addition can.adds
+
+    -- where it was broken off, the state is as before, or has it sealed
+    abbrev Resumed : Result ℕ KeeperError → State → Type 0
+    Resumed (Ok count) state' = (state' ≡ sealed_with open_window state) × (count ≡ loaded held.vault.mapping hashes state.sealed open_window)
+    Resumed (Err error) state' = (state' ≡ state) ⊎ (state' ≡ sealed_with open_window state)
+
+    left_so : (state' : State) → (state' ≡ state) ⊎ ((state' ≡ opened open_window state) ⊎ (state' ≡ sealed_with open_window state)) → (state' ≡ state) ⊎ (state' ≡ sealed_with open_window state)
+    left_so state' (inl same) = inl same
+    left_so state' (inr (inl opened)) = inl (opened ∙ reopened)
+    left_so state' (inr (inr sealed)) = inr sealed
+
+    resumed : (result : Result ℕ KeeperError) → TookOrBroke (Some begun.there) begun.addition held held' before after result → (state' : State) × Resumed result state' × IsLeftIn hashes state' held' after
+    resumed (Ok count) (rows_are, is, took) =
+        (sealed_with open_window state, (refl, rows_are ∙ open_rows), taken hashes state held stands is_in.no_dates built open_window begun.addition adds.2 before is_in.store_stands held' after is took)
+    resumed (Err error) broke =
+        let (state', left, is_left) = broken hashes state held stands is_in.no_dates built open_window begun.addition adds.2 before is_in.store_stands (Some begun.there) error held' after fresh broke (λ no. cc) in
+        (state', left_so state' left, is_left)
+
+    pub open_completes : CompletesTo held.vault.mapping hashes state (resume_answer result) held' after
+    open_completes = by result (resumed result came.came)
+      where
+        by : (result : Result ℕ KeeperError) → (state' : State) × Resumed result state' × IsLeftIn hashes state' held' after → CompletesTo held.vault.mapping hashes state (resume_answer result) held' after
+        by (Ok count) (state', (same, count_is), left) = (state', (open_window, adds.1, same, count_is), left)
+        by (Err Failed) (state', inl same, left) = (state', inl same, left)
+        by (Err Failed) (state', inr sealed, left) = (state', inr (open_window, adds.1, sealed), left)
+        by (Err Memory) (state', inl same, left) = (state', inl same, left)
+        by (Err Memory) (state', inr sealed, left) = (state', inr (open_window, adds.1, sealed), left)
+
+    -- given again it is completed
+    pub open_step : (given : WindowIn) → IsOpenAgain held.vault (staged held) given None → StepsTo held.vault.mapping hashes state given (load_answer result) held' after
+    open_step given again = by result (resumed result came.came)
+      where
+        again_here : IsOpenAgain held.vault state.begun given None
+        again_here = subst (λ begun. IsOpenAgain held.vault begun given None) begun_same again
+
+        to_load : outcome held.vault.mapping hashes state given ≡ outcomes.Load
+        to_load = completes hashes state held stands built given again_here
+
+        same_window : open_window ≡ window_of held.vault.mapping given
+        same_window = same_Some open_window again_here.window (sym adds.1 ∙ again_here.is_open) ∙ is_given hashes state held stands built given again_here
+
+        by : (result : Result ℕ KeeperError) → (state' : State) × Resumed result state' × IsLeftIn hashes state' held' after → StepsTo held.vault.mapping hashes state given (load_answer result) held' after
+        by (Ok count) (state', (same, count_is), left) = (
+          state',
+          (
+            to_load,
+            same ∙ ap (λ (w : Window). sealed_with w state) same_window,
+            count_is ∙ ap (loaded held.vault.mapping hashes state.sealed) same_window,
+          ),
+          left,
+        )
+        by (Err Failed) (state', inl same, left) = (state', inl same, left)
+        by (Err Failed) (state', inr sealed, left) = (state', inr (to_load, inr (sealed ∙ ap (λ (w : Window). sealed_with w state) same_window)), left)
+        by (Err Memory) (state', inl same, left) = (state', inl same, left)
+        by (Err Memory) (state', inr sealed, left) = (state', inr (to_load, inr (sealed ∙ ap (λ (w : Window). sealed_with w state) same_window)), left)
+
+  -- nothing is open
+  pub nothing_completes : held.begun ≡ None → (after : Option Store) → after ≡ before → CompletesTo held.vault.mapping hashes state NothingOpen held after
+  nothing_completes none after same =
+      (state, (sym begun_same ∙ ap (option_map (λ (b : Begun). b.addition.window)) none, refl), subst (IsLeftIn hashes state held) (sym same) still_in)

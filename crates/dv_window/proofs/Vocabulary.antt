@@ -8,16 +8,18 @@ pub use Rattle.dv_mapfile.proofs.Vocabulary.{IfSome, built_mapping, if◌then◌
 pub use Rattle.dv_vault.proofs.Vocabulary.{AreApart, HasSealed, IsAddition, IsBuilt, RawVault, TableRows, TakesWindow, Told, and_parts, are_heads_of, arith, full_at, hashes_of, head_of, last_head, last_load, late_after, loaded, map-append, ◌≤◌, ◌⊎◌}
 pub use Rattle.dv_judge.proofs.Vocabulary.{feed_twice, no_extracts, unknown_feed, window_of, window_rule}
 pub use Rattle.dv_catalog.specs.declared.rules.Rule.{Rule}
-pub use Rattle.dv_catalog.specs.declared.rules.Rule.TheVariants.{Collision}
+pub use Rattle.dv_catalog.specs.declared.rules.Rule.TheVariants.{Collision, OpenOther}
 pub use Rattle.dv_catalog.specs.declared.windows.WindowIn.{WindowIn}
 pub use Rattle.dv_judge.proofs.ReadWindows.{window_of-is_window}
 pub use Rattle.dv_mapfile.proofs.ReadMappings.{built_parts}
-pub use Rattle.dv_records.specs.Outcomes.{accepted, collides, differs, differs_from, if_new, late, open_other, outcome, refusal, too_long, vault_full, window_at}
+pub use Rattle.dv_records.specs.Outcomes.{accepted, collides, differs, has_same_extracts, staged_eq, differs_from, if_new, late, open_other, outcome, refusal, too_long, vault_full, window_at}
 pub use Rattle.dv_records.specs.Snapshots.{snapshot}
 pub use Rattle.dv_records.specs.Standing.{HasTables, IsMappedBy, Stands}
-pub use Rattle.dv_records.specs.States.{State, are_dates_valid, are_not_later, beginning, is_valid_state, snapshots_weight}
-pub use Rattle.dv_records.specs.Steps.{LoadBroke, opened, sealed_with}
+pub use Rattle.dv_records.specs.States.{State, all_windows, are_dates_valid, are_not_later, beginning, is_valid_state, snapshots_weight}
+pub use Rattle.dv_records.specs.Steps.{LoadBroke, ResumeBroke, opened, sealed_with}
+pub use Rattle.dv_records.specs.declared.answers.Damage.{Damage}
 pub use Rattle.dv_records.specs.declared.answers.Outcome.{Outcome}
+pub use Rattle.dv_records.specs.declared.keepers.KeeperError.{KeeperError}
 pub use Rattle.dv_records.specs.declared.stores.Store.{Store}
 pub use Rattle.dv_text.specs.declared.rows.NRow.{NRow}
 pub use Rattle.dv_text.specs.declared.rows.Staged.{Staged}
@@ -27,12 +29,34 @@ pub use Rattle.dv_vault.proofs.AddedWindows.{batch_count, full_with, last_same, 
 pub use Rattle.dv_vault.proofs.EmptyTables.{empty_rows}
 pub use Rattle.dv_records.proofs.NoWindows.{none_valid}
 pub use Rattle.dv_vault.proofs.NoWindows.{none_sealed}
-pub use Rattle.dv_vault.specs.Keeping.{Became, BrokeOff, IsLeftOpen, IsOpen, TookWindow}
+pub use Rattle.dv_start.specs.Completions.{IsBegunAs, MayBeTaken}
+pub use Rattle.dv_start.specs.Damages.{IsFirstDamage, IsInForm, IsNotRead, IsReadAs}
+pub use Rattle.std.specs.Prelude.{not}
+pub use Rattle.dv_start.specs.Restored.{HasKept, IsOfState}
+pub use Rattle.dv_start.specs.declared.restored.Begun.{Begun}
+pub use Rattle.dv_vault.proofs.OtherTables.{has_all, same_tables}
+pub use Rattle.dv_vault.specs.Keeping.{Became, BreaksWindow, BrokeOff, HasRows, IsAsFar, IsBegun, IsLeftOpen, IsOpen, KeepsOthers, TookWindow, reached}
 pub use Rattle.dv_vault.specs.Vaults.{entries_with}
 pub use Rattle.dv_vault.proofs.SealedContents.{sealed_rows}
 pub use Rattle.dv_vault.proofs.VaultCollisions.{apart_is_free, clash_collides}
 pub use Rattle.dv_vault.specs.declared.additions.Addition.{Addition}
-pub use Rattle.dv_window.specs.Offices.{Agrees, AnswerSays, Held, IsAtRest, IsNew, IsNewOf, StandsFor, StepsTo}
-pub use Rattle.dv_window.specs.Plans.{Collides, IsAgain, IsNewWindow, IsPlan, IsTooMuch, Stops, early_rule, given_rules, head_at, held_with, late_by, window_read}
-pub use Rattle.dv_window.specs.Stopping.{answer_of}
+pub use Rattle.dv_window.specs.Offices.{Agrees, AgreesUnlessStale, CompletesTo, Held, IsDamageFor, IsIn, IsLeftIn, IsOtherMapping, LeavesStill, LeavesStore, StaleAfter, StaleThen, StandsFor, StepsTo, staged}
+pub use Rattle.dv_window.specs.Plans.{Collides, IsAgain, IsNewWindow, IsOpenAgain, IsPlan, IsPlanned, IsTooMuch, Stops, early_rule, given_rules, head_at, held_broken, held_with, late_by, window_read}
+pub use Rattle.dv_window.specs.Stopping.{answer_of, load_answer, resume_answer, unrefreshed, unresumed}
+pub use Rattle.dv_window.specs.Takings.{BrokeAt, CompletesAs, TookOrBroke}
 pub use Rattle.dv_window.specs.declared.stops.Stop.{Stop}
+pub use Rattle.std.specs.Prelude.{Decides, Err, Result}
+pub use Rattle.dv_text.proofs.Vocabulary.{same_Some}
+pub use Rattle.dv_text.proofs.Deciding.{row_eq-Decides}
+pub use Rattle.dv_text.proofs.Vocabulary.{Decides-and, slice_eq-Decides, drop}
+pub use Rattle.dv_catalog.specs.declared.tables.TableId.{TableId}
+pub use Rattle.dv_records.specs.declared.stores.Rows.{Rows}
+pub use Rattle.dv_records.specs.Vault.{table_entry}
+pub use Rattle.dv_vault.specs.Additions.{raw_with}
+pub use Rattle.dv_text.proofs.Vocabulary.{rules}
+pub use Rattle.std.proofs.lemmas.Bool.{eqb-true}
+pub use Rattle.std.specs.Cmp.Lexicographic.{pointwise}
+pub use Rattle.dv_text.specs.Keys.{row_eq}
+pub use Rattle.dv_vault.proofs.Vocabulary.{map-map}
+pub use Rattle.std.proofs.lemmas.List.{map-id, take-append-drop}
+pub use Rattle.dv_start.specs.declared.faults.StartFault.{StartFault}

@@ -1,3 +1,4 @@
 pub mod Offices
 pub mod Plans
 pub mod Stopping
+pub mod Takings

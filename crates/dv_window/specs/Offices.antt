@@ -1,90 +1,123 @@
--- An office: what it holds of the warehouse, and what its answers say of the state that it stands for.
-use Rattle.std.specs.Prelude.{◌≡◌, ℕ, Bool, true, false, List, [], Ok, Option, None, Some}
+-- An office: what it holds of the warehouse, the state that it stands for, and what a call leaves of both.
+use Rattle.std.specs.Option.{option_map}
+use Rattle.std.specs.Prelude.{◌≡◌, ◌⊎◌, ℕ, Bool, true, false, List, [], Option, Some, None}
 use Rattle.dv_text.specs.declared.rows.Window.{Window}
 use Rattle.dv_text.specs.Keys.{Hashes}
 use Rattle.dv_text.specs.Told.{Told}
 use Rattle.dv_catalog.specs.declared.windows.WindowIn.{WindowIn}
-use Rattle.dv_catalog.specs.Built.{built_mapping}
 use Rattle.dv_catalog.specs.Entries.{Mapping}
-use Rattle.dv_catalog.specs.Windows.{window_of}
+use Rattle.dv_records.specs.declared.answers.Damage.{Damage}
 use Rattle.dv_records.specs.declared.answers.LoadAnswer.{LoadAnswer}
 use Rattle.dv_records.specs.declared.answers.LoadAnswer.TheVariants as load
-use Rattle.dv_records.specs.declared.answers.Outcome.TheVariants as outcomes
+use Rattle.dv_records.specs.declared.answers.ResumeAnswer.{ResumeAnswer}
+use Rattle.dv_records.specs.declared.answers.ResumeAnswer.TheVariants as resume
 use Rattle.dv_records.specs.declared.stores.Store.{Store}
-use Rattle.dv_records.specs.Loads.{loaded}
-use Rattle.dv_records.specs.Outcomes.{outcome}
-use Rattle.dv_records.specs.Standing.{HasTables, IsMappedBy, Stands}
+use Rattle.dv_records.specs.Standing.{IsMappedBy, Stands}
 use Rattle.dv_records.specs.States.{State, is_valid_state}
-use Rattle.dv_records.specs.Steps.{LoadStep, sealed_with}
+use Rattle.dv_records.specs.Steps.{LoadStep, ResumeStep}
+use Rattle.dv_start.specs.declared.restored.Begun.{Begun}
+use Rattle.dv_start.specs.Completions.{IsBegunAs}
+use Rattle.dv_start.specs.Damages.{IsFirstDamage, IsReadAs, mapping_damage}
+use Rattle.dv_start.specs.Restored.{HasKept}
 use Rattle.dv_vault.specs.Vaults.{HasSealed, RawVault}
 
--- what an office holds: the vault of the sealed windows, the open window, the dates of the snapshots, and whether its
--- keeper may have more than it knows
+-- what an office holds: the vault of the sealed windows, the open window with what it adds, the dates of the snapshots,
+-- whether its keeper may have more than it knows, and the width of the digests with which it was read
 pub record Held : Type 0 where
   pub vault : RawVault
-  pub begun : Option Window
+  pub begun : Option Begun
   pub dates : List ℕ
   pub stale : Bool
+  pub width : ℕ
+
+-- the open window of an office
+abbrev pub staged : Held → Option Window
+staged held = option_map (λ b. b.addition.window) held.begun
 
 -- an office stands for a state, which is valid
 pub record StandsFor (hashes : Hashes) (state : State) (held : Held) : Type 0 where
   pub valid : is_valid_state held.vault.mapping hashes state ≡ true
   pub sealed_are : HasSealed hashes state.sealed held.vault
-  pub begun_is : held.begun ≡ state.begun
+  pub begun_is : IsBegunAs hashes held.vault state.begun held.begun
   pub dates_are : held.dates ≡ state.dates
-
--- no window is open, there are no snapshots, and the office isn't stale
-pub record IsAtRest (held : Held) : Type 0 where
-  pub none_open : held.begun ≡ None
-  pub no_dates : held.dates ≡ []
-  pub not_stale : held.stale ≡ false
 
 -- a store has what an office holds
 pub record Agrees (held : Held) (store : Store) : Type 0 where
   pub mapped : IsMappedBy held.vault.mapping store.mapping
-  pub windows : store.windows ≡ held.vault.heads
-  pub stage : store.stage ≡ held.begun
-  pub tables_are : HasTables store held.vault.tables
+  pub kept : HasKept held.vault held.begun store
 
--- a store has the text of a mapping, in which every form is built, and nothing else
-pub record IsNewOf (mapping : Mapping) (store : Store) : Type 0 where
-  pub text : List ℕ
-  pub stored_is : store.mapping ≡ Some text
-  pub built : built_mapping text ≡ Ok mapping
-  pub none_open : store.stage ≡ None
-  pub no_windows : store.windows ≡ []
-  pub no_rows : HasTables store []
+-- an office that isn't stale agrees with its keeper's store, where this is told
+abbrev pub AgreesUnlessStale : Held → Option Store → Type 0
+AgreesUnlessStale held store = held.stale ≡ false → Told store (Agrees held)
 
--- a store has such a text of some mapping, and nothing else
-abbrev pub IsNew : Store → Type 0
-IsNew store = (mapping : Mapping) × IsNewOf mapping store
+-- ---- a state, an office and its keeper's store
 
--- what the answer to a window says of its outcome; a fault and want of memory say nothing, and a store that stands for a
--- state has no damage
-abbrev pub AnswerSays : Mapping → Hashes → State → WindowIn → LoadAnswer → Type 0
-AnswerSays mapping hashes state given (load.Loaded rows) =
-    (outcome mapping hashes state given ≡ outcomes.Load) × (rows ≡ loaded mapping hashes state.sealed (window_of mapping given))
-AnswerSays mapping hashes state given load.Repeated = outcome mapping hashes state given ≡ outcomes.Repeated
-AnswerSays mapping hashes state given (load.Refused rule) = outcome mapping hashes state given ≡ outcomes.Refused rule
-AnswerSays mapping hashes state given (load.Damaged damage) = ⊥
-AnswerSays mapping hashes state given load.KeeperFault = Unit {0}
-AnswerSays mapping hashes state given load.Memory = Unit {0}
+-- an office that isn't stale stands for the state; for a stale one its keeper tells the store. The store, where it is
+-- told, stands for the state, which so far has no snapshots.
+pub record IsIn (hashes : Hashes) (state : State) (held : Held) (store : Option Store) : Type 0 where
+  pub stands : held.stale ≡ false → StandsFor hashes state held
+  pub told : held.stale ≡ true → (s : Store) × (store ≡ Some s)
+  pub no_dates : state.dates ≡ []
+  pub store_stands : Told store (Stands held.vault.mapping hashes state)
 
--- what an office holds after the answer: with `Loaded` it stands for the state with the window sealed, and else it is as
--- before
-abbrev pub OfficeAfter : Hashes → State → WindowIn → Held → LoadAnswer → Held → Type 0
-OfficeAfter hashes state given held (load.Loaded rows) held' = StandsFor hashes (sealed_with (window_of held.vault.mapping given) state) held'
-OfficeAfter hashes state given held answer held' = held' ≡ held
+-- what a call leaves: an office that stands for the state unless it is stale, and a store that does where it is told
+pub record IsLeftIn (hashes : Hashes) (state : State) (held : Held) (store : Option Store) : Type 0 where
+  pub stands : held.stale ≡ false → StandsFor hashes state held
+  pub store_stands : Told store (Stands held.vault.mapping hashes state)
 
--- a store that is told stands for a state that the answer leaves
-abbrev pub StepsTo : Mapping → Hashes → State → WindowIn → LoadAnswer → Option Store → Type 0
-StepsTo mapping hashes state given answer after = Told after (λ store. (state' : State) × LoadStep mapping hashes state given answer state' × Stands mapping hashes state' store)
+-- the answer to a window is a step of the machine
+abbrev pub StepsTo : Mapping → Hashes → State → WindowIn → LoadAnswer → Held → Option Store → Type 0
+StepsTo mapping hashes state given answer held' after =
+    (state' : State) × LoadStep mapping hashes state given answer state' × IsLeftIn hashes state' held' after
 
--- what the keeper's store has after the answer: with `Loaded` it agrees again, and it is as before where nothing was loaded
-abbrev pub StoreAfter : Held → Option Store → LoadAnswer → Option Store → Type 0
-StoreAfter held' before (load.Loaded rows) after = Told after (Agrees held')
-StoreAfter held' before load.Repeated after = after ≡ before
-StoreAfter held' before (load.Refused rule) after = after ≡ before
-StoreAfter held' before (load.Damaged damage) after = after ≡ before
-StoreAfter held' before load.KeeperFault after = Unit {0}
-StoreAfter held' before load.Memory after = Unit {0}
+-- and so is that to the completion of the open window
+abbrev pub CompletesTo : Mapping → Hashes → State → ResumeAnswer → Held → Option Store → Type 0
+CompletesTo mapping hashes state answer held' after =
+    (state' : State) × ResumeStep mapping hashes state answer state' × IsLeftIn hashes state' held' after
+
+-- ---- whether an office is stale
+
+-- a call leaves it stale where a call of the keeper failed, or it was stale and could not be refreshed
+abbrev pub StaleAfter : LoadAnswer → Bool → Bool → Type 0
+StaleAfter (load.Loaded rows) was is = is ≡ false
+StaleAfter load.Repeated was is = is ≡ false
+StaleAfter (load.Refused rule) was is = is ≡ false
+StaleAfter (load.Damaged damage) was is = (was ≡ true) × (is ≡ true)
+StaleAfter load.KeeperFault was is = is ≡ true
+StaleAfter load.Memory was is = is ≡ true → was ≡ true
+
+abbrev pub StaleThen : ResumeAnswer → Bool → Bool → Type 0
+StaleThen (resume.Loaded rows) was is = is ≡ false
+StaleThen resume.NothingOpen was is = is ≡ false
+StaleThen (resume.Damaged damage) was is = (was ≡ true) × (is ≡ true)
+StaleThen resume.KeeperFault was is = is ≡ true
+StaleThen resume.Memory was is = is ≡ true → was ≡ true
+
+-- ---- what is left as it was
+
+-- the answers that leave the keeper's store as it was
+abbrev pub LeavesStore : LoadAnswer → Option Store → Option Store → Type 0
+LeavesStore (load.Loaded rows) before after = Unit {0}
+LeavesStore load.Repeated before after = after ≡ before
+LeavesStore (load.Refused rule) before after = after ≡ before
+LeavesStore (load.Damaged damage) before after = after ≡ before
+LeavesStore load.KeeperFault before after = Unit {0}
+LeavesStore load.Memory before after = Unit {0}
+
+abbrev pub LeavesStill : ResumeAnswer → Option Store → Option Store → Type 0
+LeavesStill (resume.Loaded rows) before after = Unit {0}
+LeavesStill resume.NothingOpen before after = after ≡ before
+LeavesStill (resume.Damaged damage) before after = after ≡ before
+LeavesStill resume.KeeperFault before after = Unit {0}
+LeavesStill resume.Memory before after = Unit {0}
+
+-- ---- damage
+
+-- the stored mapping is gone, or is another one
+abbrev pub IsOtherMapping : Mapping → Store → Damage → Type 0
+IsOtherMapping mapping store damage =
+    ((store.mapping ≡ None) ⊎ ((other : Mapping) × IsReadAs other store × (other ≡ mapping → ⊥))) × (damage ≡ mapping_damage)
+
+-- the first damage of a store by an office's mapping
+abbrev pub IsDamageFor : Mapping → Hashes → ℕ → Store → Damage → Type 0
+IsDamageFor mapping hashes width store damage = IsOtherMapping mapping store damage ⊎ IsFirstDamage hashes width store damage

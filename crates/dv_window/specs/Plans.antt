@@ -1,6 +1,6 @@
 -- What is decided of a window, told from what a vault has: the rule that it breaks, or that it repeats a sealed one,
 -- or what it adds.
-use Rattle.std.specs.Prelude.{◌≡◌, ◌⊎◌, ℕ, ◌==◌, Bool, true, List, [], ◌∷◌, Option, None, Some, is_some, if◌then◌else◌, find, length, map}
+use Rattle.std.specs.Prelude.{◌≡◌, ◌⊎◌, ℕ, ◌==◌, Bool, true, List, [], ◌∷◌, Option, None, Some, is_some, if◌then◌else◌, find, length, map, option_map}
 use Rattle.dv_text.specs.declared.rows.Window.{Window}
 use Rattle.dv_text.specs.declared.rows.WindowHead.{WindowHead}
 use Rattle.dv_text.specs.Keys.{Hashes}
@@ -13,8 +13,9 @@ use Rattle.dv_catalog.specs.FirstOf.{first_of}
 use Rattle.dv_catalog.specs.TableLookups.{is_table_of}
 use Rattle.dv_catalog.specs.Tables.{table_name}
 use Rattle.dv_catalog.specs.Windows.{window_of, window_rule}
+use Rattle.dv_records.specs.declared.keepers.KeeperError.{KeeperError}
 use Rattle.dv_records.specs.Collisions.{Pair}
-use Rattle.dv_records.specs.Outcomes.{differs_from, feed_twice, full_at, late_after, no_extracts, too_long, unknown_feed}
+use Rattle.dv_records.specs.Outcomes.{differs_from, feed_twice, full_at, late_after, no_extracts, open_other, too_long, unknown_feed}
 use Rattle.dv_records.specs.ReadBack.{any_content_read}
 use Rattle.dv_vault.specs.declared.additions.Addition.{Addition}
 use Rattle.dv_vault.specs.declared.additions.AdditionFault.{AdditionFault}
@@ -23,7 +24,10 @@ use Rattle.dv_vault.specs.Additions.{AreApart, Fits, IsAddition, IsFirstClash, r
 use Rattle.dv_vault.specs.Vaults.{RawVault, hub_names, last_head}
 use Rattle.dv_window.specs.declared.stops.Stop.{Stop}
 use Rattle.dv_window.specs.declared.stops.Stop.TheVariants as stop
-use Rattle.dv_window.specs.Offices.{Held}
+use Rattle.dv_window.specs.declared.plans.Planned.{Planned}
+use Rattle.dv_window.specs.declared.plans.Planned.TheVariants as planned
+use Rattle.dv_window.specs.Offices.{Held, staged}
+use Rattle.dv_window.specs.Stopping.{is_failed}
 
 -- ---- before the vault is looked at
 
@@ -34,15 +38,15 @@ head_at load heads = find (λ head. head.load == load) heads
 abbrev pub late_by : List WindowHead → ℕ → Option Rule
 late_by heads load = if is_some (head_at load heads) then None else late_after (last_head heads) load
 
--- the first rule, W1 to W4 and W6, that a window breaks as it is given; none is open
-abbrev pub given_rules : RawVault → WindowIn → Option Rule
-given_rules raw given =
+-- the first rule, W1 to W6, that a window breaks as it is given
+abbrev pub given_rules : RawVault → Option Window → WindowIn → Option Rule
+given_rules raw begun given =
     first_of (
-    no_extracts given ∷ unknown_feed raw.mapping given ∷ feed_twice given ∷ late_by raw.heads given.load ∷ too_long given ∷ [])
+    no_extracts given ∷ unknown_feed raw.mapping given ∷ feed_twice given ∷ late_by raw.heads given.load ∷ open_other begun given ∷ too_long given ∷ [])
 
 -- the first rule, W1 to W18, that a window breaks
-abbrev pub early_rule : RawVault → WindowIn → Option Rule
-early_rule raw given = first_of (given_rules raw given ∷ window_rule raw.mapping given ∷ [])
+abbrev pub early_rule : RawVault → Option Window → WindowIn → Option Rule
+early_rule raw begun given = first_of (given_rules raw begun given ∷ window_rule raw.mapping given ∷ [])
 
 -- ---- a sealed load date
 
@@ -55,24 +59,37 @@ window_read raw head = record {
 
 -- ---- decisions
 
--- a window has a new load date and breaks no rule that is asked before
-pub record IsNewWindow (raw : RawVault) (given : WindowIn) : Type 0 where
-  pub early : early_rule raw given ≡ None
+-- a window's load date is that of no sealed window, and it breaks no rule that is asked before
+pub record IsNewWindow (raw : RawVault) (begun : Option Window) (given : WindowIn) : Type 0 where
+  pub early : early_rule raw begun given ≡ None
   pub is_new : head_at given.load raw.heads ≡ None
 
--- what is to be done for a window that breaks no rule
-pub record IsPlan (hashes : Hashes) (raw : RawVault) (given : WindowIn) (addition : Addition) : Type 0 where
-  pub passes : IsNewWindow raw given
+-- no window is open, and the vault may grow by what the window adds
+pub record IsPlan (hashes : Hashes) (raw : RawVault) (begun : Option Window) (given : WindowIn) (addition : Addition) : Type 0 where
+  pub passes : IsNewWindow raw begun given
+  pub none_open : begun ≡ None
   pub adds : IsAddition hashes raw (window_of raw.mapping given) addition
   pub fits : Fits raw addition
   pub not_full : full_at addition.weight (length raw.heads) ≡ None
 
 -- a window repeats the sealed one of its load date, or differs from it
-pub record IsAgain (raw : RawVault) (given : WindowIn) (differs : Option Rule) : Type 0 where
-  pub early : early_rule raw given ≡ None
+pub record IsAgain (raw : RawVault) (begun : Option Window) (given : WindowIn) (differs : Option Rule) : Type 0 where
+  pub early : early_rule raw begun given ≡ None
   pub head : WindowHead
   pub is_head : head_at given.load raw.heads ≡ Some head
   pub differs_is : differs_from (Some (window_read raw head)) (window_of raw.mapping given) ≡ differs
+
+-- it repeats the open one, or differs from it
+pub record IsOpenAgain (raw : RawVault) (begun : Option Window) (given : WindowIn) (differs : Option Rule) : Type 0 where
+  pub passes : IsNewWindow raw begun given
+  pub window : Window
+  pub is_open : begun ≡ Some window
+  pub differs_is : differs_from (Some window) (window_of raw.mapping given) ≡ differs
+
+-- what is to be done for a window that breaks no rule: it is taken, or the open one is completed
+abbrev pub IsPlanned : Hashes → Held → WindowIn → Planned → Type 0
+IsPlanned hashes held given (planned.New addition) = IsPlan hashes held.vault (staged held) given addition
+IsPlanned hashes held given planned.Open = IsOpenAgain held.vault (staged held) given None
 
 -- the rule of a collision
 abbrev pub IsRefusal : Mapping → AdditionFault → Stop → Type 0
@@ -98,13 +115,15 @@ StopsRows hashes raw window (stop.Refused rule) = NamesClash hashes raw window r
 StopsRows hashes raw window stop.Memory = Unit {0}
 
 -- the window of a new load date collides
-pub record Collides (hashes : Hashes) (raw : RawVault) (given : WindowIn) (rule : Rule) : Type 0 where
-  pub passes : IsNewWindow raw given
+pub record Collides (hashes : Hashes) (raw : RawVault) (begun : Option Window) (given : WindowIn) (rule : Rule) : Type 0 where
+  pub passes : IsNewWindow raw begun given
+  pub none_open : begun ≡ None
   pub names : NamesClash hashes raw (window_of raw.mapping given) rule
 
 -- the vault is too full for a window
-pub record IsTooMuch (hashes : Hashes) (raw : RawVault) (given : WindowIn) (rule : Rule) : Type 0 where
-  pub passes : IsNewWindow raw given
+pub record IsTooMuch (hashes : Hashes) (raw : RawVault) (begun : Option Window) (given : WindowIn) (rule : Rule) : Type 0 where
+  pub passes : IsNewWindow raw begun given
+  pub none_open : begun ≡ None
   pub apart : AreApart hashes raw (window_of raw.mapping given)
   pub rule_is : full_at (weight_with hashes raw (window_of raw.mapping given)) (length raw.heads) ≡ Some rule
 
@@ -114,20 +133,29 @@ again_stop None = stop.Repeated
 again_stop (Some rule) = stop.Refused rule
 
 -- a window breaks a rule before the vault is looked at
-abbrev pub StopsEarly : RawVault → WindowIn → Stop → Type 0
-StopsEarly raw given stop.Repeated = ⊥
-StopsEarly raw given (stop.Refused rule) = early_rule raw given ≡ Some rule
-StopsEarly raw given stop.Memory = Unit {0}
+abbrev pub StopsEarly : RawVault → Option Window → WindowIn → Stop → Type 0
+StopsEarly raw begun given stop.Repeated = ⊥
+StopsEarly raw begun given (stop.Refused rule) = early_rule raw begun given ≡ Some rule
+StopsEarly raw begun given stop.Memory = Unit {0}
 
 -- why a window is not loaded
-abbrev pub Stops : Hashes → RawVault → WindowIn → Stop → Type 0
-Stops hashes raw given stop.Repeated = IsAgain raw given None
-Stops hashes raw given (stop.Refused rule) =
-    (early_rule raw given ≡ Some rule)
-    ⊎ (IsAgain raw given (Some rule) ⊎ (Collides hashes raw given rule ⊎ IsTooMuch hashes raw given rule))
-Stops hashes raw given stop.Memory = Unit {0}
+abbrev pub Stops : Hashes → RawVault → Option Window → WindowIn → Stop → Type 0
+Stops hashes raw begun given stop.Repeated = IsAgain raw begun given None
+Stops hashes raw begun given (stop.Refused rule) =
+    (early_rule raw begun given ≡ Some rule)
+    ⊎ (IsAgain raw begun given (Some rule)
+    ⊎ (IsOpenAgain raw begun given (Some rule) ⊎ (Collides hashes raw begun given rule ⊎ IsTooMuch hashes raw begun given rule)))
+Stops hashes raw begun given stop.Memory = Unit {0}
 
 -- ---- an office with an addition
 
+-- an office with an addition, and no window open
 abbrev pub held_with : Addition → Held → Held
-held_with addition held = record held { vault = raw_with addition held.vault }
+held_with addition held = record held { vault = raw_with addition held.vault; begun = None }
+
+-- an office that broke off to take an addition, as far as it got; where its keeper failed it is stale
+abbrev pub held_broken : Addition → KeeperError → Option ℕ → Held → Held
+held_broken addition error reached held = record held {
+  begun = option_map (λ there. record { addition = addition; there = there }) reached;
+  stale = is_failed error;
+}

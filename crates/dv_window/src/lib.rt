@@ -1,12 +1,16 @@
 //! The office: it takes windows as they are given, judges them in the state that it stands for, gives those that it
-//! loads to a keeper, and keeps the vault of the sealed ones.
+//! loads to a keeper, completes one that was broken off, and keeps the vault of the sealed ones.
 #![tactic(auto)]
 
 mod loads;
 mod offices;
 mod plans;
+mod refreshes;
 mod refusals;
+mod resumes;
 mod starts;
 mod stops;
+mod takings;
 
-pub use offices::{Office, Order, StartFault};
+pub use dv_start::StartFault;
+pub use offices::{Office, Order};

@@ -1,33 +1,38 @@
+ghost use Rattle.std.specs.Option.{option_map};
 ghost use Rattle.std.specs.Prelude.{◌≡◌, ◌<◌, IfOk, IsTrue, length};
 ghost use Rattle.dv_records.specs.ReadBack.{any_content_read};
 ghost use Rattle.dv_vault.specs.Vaults.{IsBuilt, are_heads_of, last_head};
+ghost use Rattle.dv_window.specs.Offices as spec;
 
 use dv_catalog::Catalog;
+use dv_start::Begun;
 use dv_text::{List, Memory, NRow, Stamp, Window, WindowHead};
 use dv_vault::Vault;
 use std::alloc::Global;
 use std::marker::Model;
 
-/// What loads windows: the vault of the sealed ones, the open one, the dates of the snapshots, and whether its
-/// keeper may have more than it knows. Contracts see these. So far no window stays open, and there are no
-/// snapshots.
+/// What loads windows: the vault of the sealed ones, the open one with what it adds, the dates of the snapshots, whether
+/// its keeper may have more than it knows, and the width of the digests with which it was read. Contracts see these. So
+/// far there are no snapshots.
 #[derive(Drop)]
 pub struct Office {
     pub(crate) vault: Vault,
-    pub(crate) begun: Option<Window>,
+    pub(crate) begun: Option<Begun>,
     pub(crate) dates: List<Stamp>,
     pub(crate) stale: bool,
+    pub(crate) width: u8,
 }
 
 impl Model for Office {
-    ghost use Rattle.std.specs.Prelude.{◌≡◌, [], None, false};
+    ghost use Rattle.std.specs.Prelude.{◌≡◌, [], IfSome};
+    ghost use Rattle.dv_start.specs.Completions.{MayBeTaken};
     ghost use Rattle.dv_window.specs.Offices.{Held};
 
     ghost Value = { Held };
 
-    ghost view = { λ o. record { vault = o.vault; begun = o.begun; dates = o.dates; stale = o.stale } };
+    ghost view = { λ o. record { vault = o.vault; begun = o.begun; dates = o.dates; stale = o.stale; width = o.width } };
 
-    ghost invariant = { λ o. (o.begun ≡ None) × (o.dates ≡ []) × (o.stale ≡ false) };
+    ghost invariant = { λ o. (o.dates ≡ []) × IfSome o.begun (MayBeTaken o.vault) };
 }
 
 /// The order in which the tasks of a window are worked through.
@@ -37,14 +42,6 @@ pub enum Order {
     Reverse,
 }
 
-/// Why an office could not start.
-#[derive(Clone, Copy, Debug, PartialEq, Eq)]
-pub enum StartFault {
-    NoMapping,
-    KeeperFault,
-    Memory,
-}
-
 impl Office {
     /// The mapping, in which every form is built. Takes no memory.
     pub fn catalog(&self) -> &Catalog
@@ -52,6 +49,13 @@ impl Office {
         ensures built { IsBuilt self.now.vault.mapping }
     {
         self.vault.catalog()
+    }
+
+    /// Does nothing: a call tells a proof that every form in the mapping is built.
+    pub(crate) fn note_built(&self)
+        ensures { IsBuilt self.now.vault.mapping }
+    {
+        let _catalog = self.catalog();
     }
 
     /// The vault of the sealed windows. Takes no memory.
@@ -79,6 +83,28 @@ impl Office {
         ensures { result ≡ last_head self.now.vault.heads }
     {
         self.vault.last()
+    }
+
+    /// The open window; none where none is open. Takes no memory.
+    pub fn staged(&self) -> Option<&Window>
+        ensures { option_map (λ window. window.now) result ≡ spec.staged self.now }
+    {
+        let begun = self.begun.as_ref()?;
+        Some(&begun.addition.window)
+    }
+
+    /// Whether the keeper may have more than the office knows: a call of it failed, and the office was not refreshed since.
+    pub fn is_stale(&self) -> bool
+        ensures { result ≡ self.now.stale }
+    {
+        self.stale
+    }
+
+    /// The width of the digests, in bytes, with which the store was last read.
+    pub fn width(&self) -> u8
+        ensures { result ≡ self.now.width }
+    {
+        self.width
     }
 
     /// The rows of a feed in the last sealed window that has the feed and is not later than the date, read

@@ -7,16 +7,25 @@ ghost use Rattle.dv_records.specs.Outcomes.{differs_from, full_at};
 ghost use Rattle.dv_records.specs.States.{is_window};
 ghost use Rattle.dv_vault.specs.Vaults.{IsBuilt};
 ghost use Rattle.dv_window.specs.Plans as spec;
-ghost use Rattle.dv_window.specs.Plans.{IsPlan, Stops};
+ghost use Rattle.dv_window.specs.Offices.{staged};
+ghost use Rattle.dv_window.specs.Plans.{IsPlan, IsPlanned, Stops};
 
 use crate::offices::Office;
 use crate::refusals::addition;
 use crate::stops::Stop;
 use dv_catalog::{Rule, WindowIn};
-use dv_judge::{differs, full, given_rule, late, stage_window, too_long};
+use dv_judge::{differs, full, given_rule, late, open_other, stage_window, too_long};
 use dv_text::{KeyDigest, List, Memory, Staged, Stamp, Window, WindowHead};
 use dv_vault::{Addition, Vault};
 use std::alloc::Global;
+
+/// What is to be done for a window that breaks no rule: what it adds is taken, or the open window, which it is again, is
+/// completed.
+#[derive(Drop)]
+pub(crate) enum Planned {
+    New(Addition),
+    Open,
+}
 
 // How many windows are sealed. More than a number of 32 bits has room for find no room in memory.
 fn count_windows(heads: &[WindowHead]) -> Result<u32, Memory>
@@ -76,9 +85,9 @@ impl Office {
         find_head(self.heads().items(), load)
     }
 
-    // The first rule, W1 to W4 and W6, that a window breaks as it is given.
+    // The first rule, W1 to W6, that a window breaks as it is given.
     fn given_rule(&self, given: &WindowIn) -> Result<Option<Rule>, Memory>
-        ensures { IfOk result (λ rule. rule ≡ spec.given_rules self.now.vault given.now) }
+        ensures { IfOk result (λ rule. rule ≡ spec.given_rules self.now.vault (staged self.now) given.now) }
     {
         let alloc = self.allocator();
         if let Some(rule) = given_rule(alloc, self.catalog(), given)? {
@@ -88,15 +97,26 @@ impl Office {
         if let Some(rule) = late(self.last(), is_sealed, given.load) {
             return Ok(Some(rule));
         }
+        if let Some(rule) = open_other(self.open_load(), given.load) {
+            return Ok(Some(rule));
+        }
         too_long(alloc, given)
+    }
+
+    // The load date of the open window, if there is one.
+    fn open_load(&self) -> Option<Stamp>
+        ensures { result ≡ option_map (λ window. window.load) (staged self.now) }
+    {
+        let window = self.staged()?;
+        Some(window.load)
     }
 
     // The window that the extracts read as, or the first rule, W1 to W18, that is broken.
     fn window_of(&self, given: &WindowIn) -> Result<Window, Stop>
-        ensures early { IfOk result (λ window. spec.early_rule self.now.vault given.now ≡ None) }
+        ensures early { IfOk result (λ window. spec.early_rule self.now.vault (staged self.now) given.now ≡ None) }
         ensures window { IfOk result (λ window. window ≡ window_of self.now.vault.mapping given.now) }
         ensures whole { IfOk result (λ window. IsTrue (is_window self.now.vault.mapping window)) }
-        ensures stops { IfErr result (spec.StopsEarly self.now.vault given.now) }
+        ensures stops { IfErr result (spec.StopsEarly self.now.vault (staged self.now) given.now) }
         ensures built { IsBuilt self.now.vault.mapping }
     {
         let catalog = self.catalog();
@@ -107,18 +127,19 @@ impl Office {
         Ok(window)
     }
 
-    // What a new window adds to the vault, or why it can't.
+    // What a new window adds to the vault, or why it can't. No window is open.
     fn plan_new<H: KeyDigest>(
         &self,
         given: &WindowIn,
         window: Window,
         digest: &H,
     ) -> Result<Addition, Stop>
-        requires passes { spec.IsNewWindow self.now.vault given.now }
+        requires passes { spec.IsNewWindow self.now.vault (staged self.now) given.now }
+        requires none_open { staged self.now ≡ None }
         requires window { window ≡ window_of self.now.vault.mapping given.now }
         requires whole { IsTrue (is_window self.now.vault.mapping window) }
-        ensures plan { IfOk result (IsPlan (hashes_of H.digest_of H.size) self.now.vault given.now) }
-        ensures stops { IfErr result (Stops (hashes_of H.digest_of H.size) self.now.vault given.now) }
+        ensures plan { IfOk result (IsPlan (hashes_of H.digest_of H.size) self.now.vault (staged self.now) given.now) }
+        ensures stops { IfErr result (Stops (hashes_of H.digest_of H.size) self.now.vault (staged self.now) given.now) }
     {
         let addition = addition(&self.vault, window, digest)?;
         let windows = count_windows(self.heads().items())?;
@@ -128,16 +149,23 @@ impl Office {
         }
     }
 
-    /// What is decided of a window: what it adds to the vault, or why it is not loaded.
-    pub(crate) fn plan<H: KeyDigest>(&self, given: &WindowIn, digest: &H) -> Result<Addition, Stop>
-        ensures plan { IfOk result (IsPlan (hashes_of H.digest_of H.size) self.now.vault given.now) }
-        ensures stops { IfErr result (Stops (hashes_of H.digest_of H.size) self.now.vault given.now) }
+    /// What is decided of a window: what is to be done for it, or why it is not loaded.
+    pub(crate) fn plan<H: KeyDigest>(&self, given: &WindowIn, digest: &H) -> Result<Planned, Stop>
+        ensures plan { IfOk result (IsPlanned (hashes_of H.digest_of H.size) self.now given.now) }
+        ensures stops { IfErr result (Stops (hashes_of H.digest_of H.size) self.now.vault (staged self.now) given.now) }
         ensures built { IsBuilt self.now.vault.mapping }
     {
         let window = self.window_of(given)?;
         if let Some(head) = self.head_at(given.load) {
             return Err(again(self.allocator(), &self.vault, head, &window)?);
         }
-        self.plan_new(given, window, digest)
+        let Some(begun) = self.staged() else {
+            let addition = self.plan_new(given, window, digest)?;
+            return Ok(Planned::New(addition));
+        };
+        match differs(Some(begun), &window) {
+            Some(rule) => Err(Stop::Refused(rule)),
+            None => Ok(Planned::Open),
+        }
     }
 }

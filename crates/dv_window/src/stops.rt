@@ -1,6 +1,10 @@
+ghost use Rattle.std.specs.Prelude.{◌≡◌};
+ghost use Rattle.dv_window.specs.Stopping as spec;
+
 use dv_catalog::Rule;
-use dv_records::LoadAnswer;
+use dv_records::{KeeperError, LoadAnswer, ResumeAnswer};
 use dv_stage::StageFault;
+use dv_start::StartFault;
 use dv_text::Memory;
 
 /// Why a window is not loaded: it repeats a sealed one, or breaks a rule; or want of memory.
@@ -48,5 +52,53 @@ impl From<Stop> for LoadAnswer {
             Stop::Refused(rule) => LoadAnswer::Refused(rule),
             Stop::Memory => LoadAnswer::Memory,
         }
+    }
+}
+
+/// The answer to a window that was taken, or broken off.
+pub(crate) fn load_answer(taken: Result<u64, KeeperError>) -> LoadAnswer
+    ensures { result ≡ spec.load_answer taken }
+{
+    match taken {
+        Ok(rows) => LoadAnswer::Loaded { rows },
+        Err(KeeperError::Failed) => LoadAnswer::KeeperFault,
+        Err(KeeperError::Memory) => LoadAnswer::Memory,
+    }
+}
+
+/// The answer to the completion of the open window, which was taken, or broken off.
+pub(crate) fn resume_answer(taken: Result<u64, KeeperError>) -> ResumeAnswer
+    ensures { result ≡ spec.resume_answer taken }
+{
+    match taken {
+        Ok(rows) => ResumeAnswer::Loaded { rows },
+        Err(KeeperError::Failed) => ResumeAnswer::KeeperFault,
+        Err(KeeperError::Memory) => ResumeAnswer::Memory,
+    }
+}
+
+/// What a load answers where a stale office could not be refreshed.
+pub(crate) fn unrefreshed(fault: StartFault) -> LoadAnswer
+    requires { fault ≡ StartFault.NoMapping → ⊥ }
+    ensures { result ≡ spec.unrefreshed fault }
+{
+    match fault {
+        StartFault::NoMapping => unreachable!(),
+        StartFault::Damaged(damage) => LoadAnswer::Damaged(damage),
+        StartFault::KeeperFault => LoadAnswer::KeeperFault,
+        StartFault::Memory => LoadAnswer::Memory,
+    }
+}
+
+/// What the completion of the open window answers where a stale office could not be refreshed.
+pub(crate) fn unresumed(fault: StartFault) -> ResumeAnswer
+    requires { fault ≡ StartFault.NoMapping → ⊥ }
+    ensures { result ≡ spec.unresumed fault }
+{
+    match fault {
+        StartFault::NoMapping => unreachable!(),
+        StartFault::Damaged(damage) => ResumeAnswer::Damaged(damage),
+        StartFault::KeeperFault => ResumeAnswer::KeeperFault,
+        StartFault::Memory => ResumeAnswer::Memory,
     }
 }

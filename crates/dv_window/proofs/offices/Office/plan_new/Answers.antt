@@ -1,4 +1,4 @@
-use Rattle.dv_window.proofs.Vocabulary.{ap, inr, length, subst, sym, ◌∙◌, hashes_of, last_head, late_after, full_at, Window, IsAddition, Held}
+use Rattle.dv_window.proofs.Vocabulary.{ap, inr, length, staged, subst, sym, ◌∙◌, hashes_of, last_head, late_after, full_at, Window, IsAddition, Held}
 use Rattle.dv_window.proofs.PlanFacts.{not_late}
 use Rattle.dv_window.proofs.offices.Office.plan_new.Goals as goal
 
@@ -6,7 +6,7 @@ pub addition-requires-clause-later : goal.addition-requires-clause-later
 addition-requires-clause-later g c κs within =
     ap (λ (held : Held). late_after (last_head held.vault.heads) c.args.window.load) c.self.view_is
     ∙ ap (λ (window : Window). late_after (last_head c.args.self.now.vault.heads) window.load) c.requires.window
-    ∙ not_late c.args.self.now.vault c.args.given.now c.requires.passes
+    ∙ not_late c.args.self.now.vault (staged c.args.self.now) c.args.given.now c.requires.passes
 
 pub returns-in-Some-clause-stops : goal.returns-in-Some-clause-stops
 returns-in-Some-clause-stops g c =
@@ -15,8 +15,9 @@ returns-in-Some-clause-stops g c =
     let adds : IsAddition hashes raw c.args.window c.in_ok-addition.addition = subst (λ (held : Held). IsAddition hashes held.vault c.args.window c.in_ok-addition.addition) c.self.view_is (c.in_ok-addition.ensures {u = tt}).adds in
     let here = subst (λ (window : Window). IsAddition hashes raw window c.in_ok-addition.addition) c.requires.window adds in
     let count = c.in_ok-windows.ensures {u = tt} ∙ ap length (c.items.ensures ∙ c.heads.ensures.value) in
-    inr (inr (inr (record {
+    inr (inr (inr (inr (record {
       passes = c.requires.passes;
+      none_open = c.requires.none_open;
       apart = here.apart;
       rule_is = ap (λ weight. full_at weight (length raw.heads)) (sym here.weight_is) ∙ ap (full_at c.in_ok-addition.addition.weight) (sym count) ∙ sym c.too_full.ensures ∙ c.in-Some.is;
-    })))
+    }))))

@@ -1,0 +1,73 @@
+-- What an office and its keeper's store are left in where an addition was taken, or broken off.
+use Rattle.dv_window.proofs.Vocabulary.{None, Option, Some, [], false, inl, inr, length, refl, subst, sym, ℕ, ◌≡◌, ◌≤◌, ◌⊎◌, Told, IfSome, same_Some}
+use Rattle.dv_window.proofs.Vocabulary.{Hashes, Window, IsBuilt, Stands, State, Store, opened, sealed_with, Addition, Held, IsLeftIn, StandsFor, held_broken, held_with, BrokeAt, KeeperError, TakesWindow}
+use Rattle.dv_window.proofs.Vocabulary.{Became, BrokeOff, IsAsFar, reached}
+use Rattle.dv_records.specs.declared.keepers.KeeperError.TheVariants.{Failed, Memory}
+use Rattle.dv_window.proofs.Growths.{CanAdd, open_stands, opened_stands_for, sealed_stands, sealed_stands_for}
+
+-- the states that a broken window may be left in
+abbrev pub LeftState : State → Window → State → Type 0
+LeftState state window state' = (state' ≡ state) ⊎ ((state' ≡ opened window state) ⊎ (state' ≡ sealed_with window state))
+
+module _ (hashes : Hashes) (state : State) (held : Held) (stands : StandsFor hashes state held) (no_dates : state.dates ≡ []) (built : IsBuilt held.vault.mapping) (window : Window) (addition : Addition)
+    (can : CanAdd hashes held.vault window addition) (before : Option Store) (told : Told before (Stands held.vault.mapping hashes state)) where
+  -- a window that was taken
+  pub taken : (held' : Held) (after : Option Store) → held' ≡ held_with addition held → TakesWindow addition.window held.vault.tables addition.batches before after
+      → IsLeftIn hashes (sealed_with window state) held' after
+  taken held' after is takes = record {
+    stands = λ fresh. subst (StandsFor hashes (sealed_with window state)) (sym is) (sealed_stands_for hashes state held stands no_dates built window addition can);
+    store_stands = λ now e.
+        let (was, at, took) = takes now e in
+        subst (λ (held : Held). Stands held.vault.mapping hashes (sealed_with window state) now) (sym is) (sealed_stands hashes state held stands no_dates built window addition can was (told was at) now took);
+  }
+
+  -- the office and the store are left in one of these
+  abbrev pub Left : Held → Option Store → Type 0
+  Left held' after = (state' : State) × LeftState state window state' × IsLeftIn hashes state' held' after
+
+  -- a store that is told
+  store_left : (was now : Store) → Stands held.vault.mapping hashes state was → BrokeOff addition.window held.vault.tables addition.batches was now
+      → (state' : State) × LeftState state window state' × Stands held.vault.mapping hashes state' now
+  store_left was now stood (inl same) = (state, inl refl, subst (Stands held.vault.mapping hashes state) (sym same) stood)
+  store_left was now stood (inr (inl (k, within, is_open))) =
+      (opened window state, inr (inl refl), open_stands hashes state held stands no_dates built window addition can was stood now k within is_open)
+  store_left was now stood (inr (inr took)) = (sealed_with window state, inr (inr refl), sealed_stands hashes state held stands no_dates built window addition can was stood now took)
+
+  -- the keeper failed: the office is stale
+  failed_left : (reached : Option ℕ) (after : Option Store) → Became (BrokeOff addition.window held.vault.tables addition.batches) before after → Left (held_broken addition Failed reached held) after
+  failed_left reached None broke = (state, inl refl, record { stands = λ no. cc; store_stands = λ now e. cc })
+  failed_left reached (Some now) broke =
+      let (was, at, how) = broke now refl in
+      let (state', left, stood) = store_left was now (told was at) how in
+      (state', left, record { stands = λ no. cc; store_stands = λ other e. subst (Stands held.vault.mapping hashes state') (same_Some now other e) stood })
+
+  -- memory ran out: the office has the window as far as it got
+  memory_left : (reached : Option ℕ) (after : Option Store) → (reached ≡ None → held.begun ≡ None) → held.stale ≡ false → IfSome reached (λ k. k ≤ length addition.batches)
+      → Became (IsAsFar addition.window held.vault.tables addition.batches reached) before after → Left (held_broken addition Memory reached held) after
+  memory_left None after none fresh within far = (
+    state,
+    inl refl,
+    record {
+      stands = λ e. subst (λ begun. StandsFor hashes state (record held { begun = begun; stale = false })) (none refl) (subst (λ stale. StandsFor hashes state (record held { stale = stale })) fresh stands);
+      store_stands = λ now e.
+          let (was, at, same) = far now e in
+          subst (Stands held.vault.mapping hashes state) (sym same) (told was at);
+    },
+  )
+  memory_left (Some k) after none fresh within far = (
+    opened window state,
+    inr (inl refl),
+    record {
+      stands = λ e. opened_stands_for hashes state held stands no_dates built window addition can k false;
+      store_stands = λ now e.
+          let (was, at, is_open) = far now e in
+          open_stands hashes state held stands no_dates built window addition can was (told was at) now k within is_open;
+    },
+  )
+
+  -- a window that was broken off
+  pub broken : (begun : Option ℕ) (error : KeeperError) (held' : Held) (after : Option Store) → held.stale ≡ false → (broke : BrokeAt begun addition error held held' before after) → (begun ≡ None → held.begun ≡ None)
+      → Left held' after
+  broken begun Failed held' after fresh broke none = subst (λ held. Left held after) (sym broke.held_is) (failed_left broke.reached after broke.broke.broke)
+  broken begun Memory held' after fresh broke none =
+      subst (λ held. Left held after) (sym broke.held_is) (memory_left broke.reached after (λ e. none (broke.still e)) fresh broke.broke.within (broke.broke.exact refl))

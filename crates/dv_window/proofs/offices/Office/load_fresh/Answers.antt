@@ -1,0 +1,46 @@
+use Rattle.dv_window.proofs.Vocabulary.{IsPlanned, None, Some, StepsTo, hashes_of, refl, subst, sym}
+use Rattle.dv_window.proofs.Agreed.{agrees_closed, agrees_then, none_staged}
+use Rattle.dv_window.proofs.Stepped.{new_step, open_step, stopped_step}
+use Rattle.dv_window.proofs.offices.Office.load_fresh.Goals as goal
+
+pub carry_out-requires-clause-told : goal.carry_out-requires-clause-told
+carry_out-requires-clause-told g c = λ store at.
+    let plan = subst (IsPlanned (hashes_of g.H.KeyDigest.digest_of g.H.KeyDigest.size) c.args.self.now c.args.given.now) c.in-Ok-New.field-0-is c.in-Ok-New.ensures.plan in
+    agrees_closed c.args.self.now store (c.requires.agrees c.requires.fresh store at) (none_staged c.args.self.now plan.none_open)
+
+pub returns-in-Ok-New-clause-step : goal.returns-in-Ok-New-clause-step
+returns-in-Ok-New-clause-step g c state is_in =
+    let hashes = hashes_of g.H.KeyDigest.digest_of g.H.KeyDigest.size in
+    let after = g.K.Keeper.store c.carry_out.new.keeper in
+    let plan = subst (IsPlanned hashes c.args.self.now c.args.given.now) c.in-Ok-New.field-0-is c.in-Ok-New.ensures.plan in
+    subst (λ answer. StepsTo c.args.self.now.vault.mapping hashes state c.args.given.now answer c.carry_out.new.self after) (sym c.load_answer.ensures)
+    (new_step hashes state c.args.self.now c.plan.ensures.built (g.K.Keeper.store c.args.keeper.now) c.requires.fresh is_in c.args.given.now c.in-Ok-New.addition plan
+    c.carry_out.new.self after c.carry_out.result c.carry_out.ensures.came)
+
+pub returns-in-Ok-New-clause-agrees : goal.returns-in-Ok-New-clause-agrees
+returns-in-Ok-New-clause-agrees g c =
+    let plan = subst (IsPlanned (hashes_of g.H.KeyDigest.digest_of g.H.KeyDigest.size) c.args.self.now c.args.given.now) c.in-Ok-New.field-0-is c.in-Ok-New.ensures.plan in
+    agrees_then c.args.self.now c.in-Ok-New.addition None c.carry_out.new.self (g.K.Keeper.store c.args.keeper.now) (g.K.Keeper.store c.carry_out.new.keeper) (c.requires.agrees c.requires.fresh)
+    (λ e. none_staged c.args.self.now plan.none_open) c.carry_out.result c.carry_out.ensures.came
+
+pub returns-in-Some-clause-step : goal.returns-in-Some-clause-step
+returns-in-Some-clause-step g c state is_in =
+    let hashes = hashes_of g.H.KeyDigest.digest_of g.H.KeyDigest.size in
+    let after = g.K.Keeper.store c.complete.new.keeper in
+    let plan = subst (IsPlanned hashes c.args.self.now c.args.given.now) c.in-Ok-Open.field-0-is c.in-Ok-Open.ensures.plan in
+    subst (λ answer. StepsTo c.args.self.now.vault.mapping hashes state c.args.given.now answer c.complete.new.self after) (sym c.load_answer-in-Some.ensures)
+    (open_step hashes state c.args.self.now c.plan.ensures.built (g.K.Keeper.store c.args.keeper.now) c.requires.fresh is_in c.complete.new.self after c.in-Some.completed (c.in-Some.ensures {u = tt}).some
+    c.args.given.now plan)
+
+pub returns-in-Some-clause-agrees : goal.returns-in-Some-clause-agrees
+returns-in-Some-clause-agrees g c =
+    let came = (c.in-Some.ensures {u = tt}).some in
+    agrees_then c.args.self.now came.begun.addition (Some came.begun.there) c.complete.new.self (g.K.Keeper.store c.args.keeper.now) (g.K.Keeper.store c.complete.new.keeper) (c.requires.agrees c.requires.fresh)
+    (λ no. cc) c.in-Some.completed came.came
+
+pub returns-in-Err-clause-step : goal.returns-in-Err-clause-step
+returns-in-Err-clause-step g c state is_in =
+    let hashes = hashes_of g.H.KeyDigest.digest_of g.H.KeyDigest.size in
+    let before = g.K.Keeper.store c.args.keeper.now in
+    subst (λ answer. StepsTo c.args.self.now.vault.mapping hashes state c.args.given.now answer c.args.self.now before) (sym c.from.ensures)
+    (stopped_step hashes state c.args.self.now c.plan.ensures.built before c.requires.fresh is_in c.args.given.now c.in-Err.stop c.in-Err.ensures.stops before refl)

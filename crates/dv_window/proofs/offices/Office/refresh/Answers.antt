@@ -1,0 +1,48 @@
+use Rattle.dv_window.proofs.Vocabulary.{Some, ap, inr, refl, rules, subst, sym, true, ◌∙◌, ◌≡◌, Agrees, Held, IsIn, IsMappedBy, Mapping, Stands, hashes_of}
+use Rattle.dv_window.proofs.Refreshed.{not_damaged}
+use Rattle.dv_window.proofs.StartFacts.{mapped_by, stands_as}
+use Rattle.dv_window.proofs.offices.Office.refresh.Goals as goal
+
+pub returns-in_err-catalog-clause-undamaged : goal.returns-in_err-catalog-clause-undamaged
+returns-in_err-catalog-clause-undamaged g c damage is state is_in =
+    let stale : c.args.self.now.stale ≡ true = ap (λ (held : Held). held.stale) (sym c.self.view_is) ∙ c.if-not-self.false in
+    let (store, at) = is_in.told stale in
+    not_damaged c.args.self.now.vault.mapping (hashes_of g.H.KeyDigest.digest_of g.H.KeyDigest.size) state store (is_in.store_stands store at) c.same_mapping.ensures.known damage
+    (c.same_mapping.ensures.damaged damage (search rules) store at)
+
+pub returns-in_err-restored-clause-damaged : goal.returns-in_err-restored-clause-damaged
+returns-in_err-restored-clause-damaged g c damage is = λ store at.
+    inr (inr (c.in_ok-catalog.catalog, c.in_ok-catalog.ensures.read store at, c.read_store.ensures.damaged damage (search rules) store (c.same_mapping.ensures.store ∙ at)))
+
+pub returns-in_err-restored-clause-undamaged : goal.returns-in_err-restored-clause-undamaged
+returns-in_err-restored-clause-undamaged g c damage is state is_in =
+    let hashes = hashes_of g.H.KeyDigest.digest_of g.H.KeyDigest.size in
+    let stale : c.args.self.now.stale ≡ true = ap (λ (held : Held). held.stale) (sym c.self.view_is) ∙ c.if-not-self.false in
+    let (store, at) = is_in.told stale in
+    c.read_store.ensures.undamaged damage (search rules) state store (c.same_mapping.ensures.store ∙ at)
+    (subst (λ (mapping : Mapping). Stands mapping hashes state store) (sym c.in_ok-catalog.ensures.same) (is_in.store_stands store at))
+
+pub returns-clause-agrees : goal.returns-clause-agrees
+returns-clause-agrees g c = λ fresh store at.
+    let before : g.K.Keeper.store c.args.keeper.now ≡ Some store = sym c.same_mapping.ensures.store ∙ sym c.read_store.ensures.store ∙ at in
+    let read : IsMappedBy c.in_ok-catalog.catalog store.mapping = mapped_by c.in_ok-catalog.catalog store (c.in_ok-catalog.ensures.read store before) in
+    subst (λ (held : Held). Agrees held store) (sym (c.change_to.ensures ∙ c.of_restored.ensures)) (record {
+      mapped = subst (λ (mapping : Mapping). IsMappedBy mapping store.mapping) (sym c.in_ok-restored.ensures.mapping) read;
+      kept = c.in_ok-restored.ensures.kept store (c.same_mapping.ensures.store ∙ before);
+    })
+
+pub returns-clause-stands : goal.returns-clause-stands
+returns-clause-stands g c state is_in =
+    let hashes = hashes_of g.H.KeyDigest.digest_of g.H.KeyDigest.size in
+    let stale : c.args.self.now.stale ≡ true = ap (λ (held : Held). held.stale) (sym c.self.view_is) ∙ c.if-not-self.false in
+    let (store, at) = is_in.told stale in
+    let here = subst (λ (mapping : Mapping). Stands mapping hashes state store) (sym c.in_ok-catalog.ensures.same) (is_in.store_stands store at) in
+    let of_state = c.in_ok-restored.ensures.stands state store (c.same_mapping.ensures.store ∙ at) here in
+    let kept : g.K.Keeper.store c.read_store.new.keeper ≡ g.K.Keeper.store c.args.keeper.now = c.read_store.ensures.store ∙ c.same_mapping.ensures.store in
+    let same : c.in_ok-restored.restored.vault.mapping ≡ c.args.self.now.vault.mapping = c.in_ok-restored.ensures.mapping ∙ c.in_ok-catalog.ensures.same in
+    subst (λ (held : Held). IsIn hashes state held (g.K.Keeper.store c.read_store.new.keeper)) (sym (c.change_to.ensures ∙ c.of_restored.ensures)) (record {
+      stands = λ fresh. stands_as hashes state _ of_state refl is_in.no_dates;
+      told = λ no. cc;
+      no_dates = is_in.no_dates;
+      store_stands = λ other e. subst (λ (mapping : Mapping). Stands mapping hashes state other) (sym same) (is_in.store_stands other (sym kept ∙ e));
+    })

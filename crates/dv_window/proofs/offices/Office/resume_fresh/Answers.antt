@@ -1,0 +1,29 @@
+use Rattle.dv_window.proofs.Vocabulary.{AgreesUnlessStale, CompletesTo, Held, Some, subst, sym}
+use Rattle.dv_records.specs.declared.answers.ResumeAnswer.TheVariants.{NothingOpen}
+use Rattle.dv_window.proofs.Agreed.{agrees_then}
+use Rattle.dv_window.proofs.Stepped.{nothing_completes, open_completes}
+use Rattle.dv_window.proofs.offices.Office.resume_fresh.Goals as goal
+
+pub returns-in-Some-clause-step : goal.returns-in-Some-clause-step
+returns-in-Some-clause-step g c hashes state is_in =
+    let after = g.K.Keeper.store c.complete.new.keeper in
+    subst (λ answer. CompletesTo c.args.self.now.vault.mapping hashes state answer c.complete.new.self after) (sym c.resume_answer.ensures)
+    (open_completes hashes state c.args.self.now c.complete.ensures.built (g.K.Keeper.store c.args.keeper.now) c.requires.fresh is_in c.complete.new.self after c.in-Some.completed (c.in-Some.ensures {u = tt}).some)
+
+pub returns-in-Some-clause-agrees : goal.returns-in-Some-clause-agrees
+returns-in-Some-clause-agrees g c =
+    let came = (c.in-Some.ensures {u = tt}).some in
+    agrees_then c.args.self.now came.begun.addition (Some came.begun.there) c.complete.new.self (g.K.Keeper.store c.args.keeper.now) (g.K.Keeper.store c.complete.new.keeper) (c.requires.agrees c.requires.fresh)
+    (λ no. cc) c.in-Some.completed came.came
+
+pub returns-in-None-clause-step : goal.returns-in-None-clause-step
+returns-in-None-clause-step g c hashes state is_in =
+    let (none, same, kept) = (c.in-None.ensures {u = tt}).none in
+    let after = g.K.Keeper.store c.complete.new.keeper in
+    subst (λ (held : Held). CompletesTo c.args.self.now.vault.mapping hashes state NothingOpen held after) (sym same)
+    (nothing_completes hashes state c.args.self.now c.complete.ensures.built (g.K.Keeper.store c.args.keeper.now) c.requires.fresh is_in none after kept)
+
+pub returns-in-None-clause-agrees : goal.returns-in-None-clause-agrees
+returns-in-None-clause-agrees g c =
+    let (none, same, kept) = (c.in-None.ensures {u = tt}).none in
+    subst (λ (held : Held). AgreesUnlessStale held (g.K.Keeper.store c.complete.new.keeper)) (sym same) (subst (AgreesUnlessStale c.args.self.now) (sym kept) c.requires.agrees)

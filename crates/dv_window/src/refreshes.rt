@@ -1,0 +1,81 @@
+// A stale office is refreshed: what its keeper has is read again.
+ghost use Rattle.std.specs.Prelude.{◌≡◌, ◌≤◌, ◌⊎◌, IfOk, IsErrOf, Ok, OnErr, OnOk, false};
+ghost use Rattle.dv_text.specs.Causes.{Rose};
+ghost use Rattle.dv_text.specs.Keys.{hashes_of};
+ghost use Rattle.dv_text.specs.Told.{Told};
+ghost use Rattle.dv_records.specs.declared.answers.Damage.{Damage};
+ghost use Rattle.dv_records.specs.States.{State};
+ghost use Rattle.dv_start.specs.Damages.{IsNotRead, IsReadAs};
+ghost use Rattle.dv_vault.specs.Vaults.{IsBuilt};
+ghost use Rattle.dv_window.specs.Offices.{AgreesUnlessStale, IsDamageFor, IsIn, IsOtherMapping};
+
+use crate::offices::Office;
+use dv_catalog::Catalog;
+use dv_records::Keeper;
+use dv_start::{StartFault, mapping_damage, read_store, stored_mapping};
+use dv_text::KeyDigest;
+
+impl Office {
+    // The office is another one.
+    fn change_to(&mut self, office: Office)
+        ensures { self.new ≡ office }
+    {
+        *self = office;
+    }
+
+    // The mapping of the office, read from its keeper again. One that is gone, or another one, is damage.
+    fn same_mapping<K: Keeper>(&self, keeper: &mut K) -> Result<Catalog, StartFault>
+        ensures same { IfOk result (λ catalog. catalog ≡ self.now.vault.mapping) }
+        ensures built { IfOk result IsBuilt }
+        ensures read { IfOk result (λ catalog. Told (K.store keeper.old) (IsReadAs catalog)) }
+        ensures known { IsBuilt self.now.vault.mapping }
+        ensures mapped { IsErrOf result StartFault.NoMapping → ⊥ }
+        ensures damaged { (damage : Damage) → IsErrOf result (StartFault.Damaged damage) → Told (K.store keeper.old) (λ s. IsOtherMapping self.now.vault.mapping s damage ⊎ IsNotRead s damage) }
+        ensures store { K.store keeper.new ≡ K.store keeper.old }
+        ensures cause { IsErrOf result StartFault.KeeperFault → Rose (K.faults keeper.old) (K.faults keeper.new) }
+        ensures later { K.faults keeper.old ≤ K.faults keeper.new }
+    {
+        let alloc = self.allocator();
+        self.note_built();
+        let catalog = match stored_mapping(alloc, keeper) {
+            Err(StartFault::NoMapping) => return Err(StartFault::Damaged(mapping_damage(alloc)?)),
+            read => read?,
+        };
+        if !catalog.same(self.catalog()) {
+            return Err(StartFault::Damaged(mapping_damage(alloc)?));
+        }
+        Ok(catalog)
+    }
+
+    /// Reads the keeper again, where the office is stale; then it isn't stale. It never answers `NoMapping`: a mapping that
+    /// is gone, or another one, is damage of the mapping (F1). `Damaged` and `KeeperFault` come as from `start`. With an
+    /// error the office is as before. The store is as before.
+    pub fn refresh<K: Keeper, H: KeyDigest>(
+        &mut self,
+        keeper: &mut K,
+        digest: &H,
+    ) -> Result<(), StartFault>
+        requires { AgreesUnlessStale self.old (K.store keeper.old) }
+        ensures fresh { OnOk result (self.new.stale ≡ false) }
+        ensures kept { OnErr result (self.new ≡ self.old) }
+        ensures still { self.old.stale ≡ false → (result ≡ Ok tt) × (self.new ≡ self.old) }
+        ensures mapping { self.new.vault.mapping ≡ self.old.vault.mapping }
+        ensures agrees { AgreesUnlessStale self.new (K.store keeper.new) }
+        ensures stands { (state : State) → IsIn (hashes_of H.digest_of H.size) state self.old (K.store keeper.old) → OnOk result (IsIn (hashes_of H.digest_of H.size) state self.new (K.store keeper.new)) }
+        ensures mapped { IsErrOf result StartFault.NoMapping → ⊥ }
+        ensures damaged { (damage : Damage) → IsErrOf result (StartFault.Damaged damage) → Told (K.store keeper.old) (λ s. IsDamageFor self.old.vault.mapping (hashes_of H.digest_of H.size) H.size s damage) }
+        ensures undamaged { (damage : Damage) → IsErrOf result (StartFault.Damaged damage) → (state : State) → IsIn (hashes_of H.digest_of H.size) state self.old (K.store keeper.old) → ⊥ }
+        ensures store { K.store keeper.new ≡ K.store keeper.old }
+        ensures cause { IsErrOf result StartFault.KeeperFault → Rose (K.faults keeper.old) (K.faults keeper.new) }
+        ensures later { K.faults keeper.old ≤ K.faults keeper.new }
+    {
+        if !self.stale {
+            return Ok(());
+        }
+        let catalog = self.same_mapping(keeper)?;
+        let alloc = self.allocator();
+        let restored = read_store(alloc, keeper, catalog, digest)?;
+        self.change_to(Office::of_restored(alloc, restored, digest.width()));
+        Ok(())
+    }
+}
