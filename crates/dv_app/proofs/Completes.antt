@@ -1,5 +1,5 @@
 -- With no fault and memory enough, a command does all that the definitions say.
-use Rattle.dv_app.proofs.Vocabulary.{List, Option, inl, inr, refl, subst, sym, ℕ, ◌≡◌, ◌⊎◌, ⊎_elim, Hashes, Told, trial_of, CommandCompletes, Faults, IsCaused, NoFault, RunCompletes, Gives, Heard, Trial, TrySays, tried_of, Tries, asked, Asked, NamedFile, Status, Done, ReadFault, Refused}
+use Rattle.dv_app.proofs.Vocabulary.{List, Option, inl, inr, refl, subst, sym, ℕ, ◌≡◌, ⊎_elim, Hashes, Told, trial_of, CommandCompletes, Faults, IsCaused, NoFault, RunCompletes, Gives, Heard, Trial, TrySays, tried_of, Tries, asked, Asked, NamedFile, Status, Done, ReadFault, Refused}
 use Rattle.dv_app.proofs.Vocabulary.{WriteFault}
 use Rattle.dv_outside.specs.declared.statuses.Status.TheVariants.{Mapping as Mapped, Memory}
 

@@ -1,6 +1,6 @@
 -- How the line of an ending ends the command.
-use Rattle.dv_app.proofs.Vocabulary.{Bool, List, Option, [], ap, arith, false, inl, inr, refl, subst, sym, true, ℕ, ◌++◌, ◌∙◌, ◌≡◌, ◌≤◌, ◌⊎◌, Ok, Err, Result, ⊎_elim, Ends, line_of, Rose, after, IfOk, IfErr, OnErr, EndsOrMemory, IsReadCause, IsStopCause, StopsBy, line_of_ending, status_of}
-use Rattle.dv_app.proofs.Vocabulary.{absent_line, query_line, read_fault_line, refused_mapping_line, memory_line, HasEnd, HasLines, TryStops, WroteLines, Faults, HasLast, IsCaused, CutShort, Gives, Heard, IsCutLines, IsEnded, Trial, TrySays, tried_of, Tried, ended, status_for, NoCommand, asked}
+use Rattle.dv_app.proofs.Vocabulary.{Bool, List, Option, ap, arith, false, inl, inr, refl, subst, sym, true, ℕ, ◌++◌, ◌∙◌, ◌≡◌, ◌≤◌, ◌⊎◌, Ok, Err, Result, ⊎_elim, Ends, line_of, Rose, after, IfOk, IfErr, OnErr, EndsOrMemory, IsReadCause, IsStopCause, StopsBy, line_of_ending, status_of}
+use Rattle.dv_app.proofs.Vocabulary.{absent_line, query_line, read_fault_line, refused_mapping_line, memory_line, HasEnd, HasLines, TryStops, WroteLines, Faults, HasLast, IsCaused, CutShort, Gives, Heard, IsCutLines, IsEnded, Trial, TrySays, tried_of, Tried, ended, status_for}
 use Rattle.dv_app.proofs.Vocabulary.{Ending, Absent, BadMapping, BadQuery, Memory, Unread, Stop, Ended, Unwritten, after-after, after-nil, got_behind, got_nothing, Status}
 use Rattle.dv_outside.specs.declared.statuses.Status.TheVariants as statuses
 

@@ -1,7 +1,7 @@
 -- The run over manifests, so far.
 use Rattle.dv_app.proofs.Vocabulary.{Bool, List, Option, Some, [], ap, append_assoc, false, get_or, length, refl, subst, sym, take, true, ℕ, ◌++◌, ◌+◌, ◌<◌, ◌||◌, ◌∙◌, ◌∷◌, ◌≡◌, ◌≤◌, Ok, slice_get, drop, Err, Result, slice_get-get_or, take_more, drop_more, append-nil, take-append-drop, take_all}
-use Rattle.dv_app.proofs.Vocabulary.{refusal, Mapping, GotPrefix, after, Hashes, BringEnds, IsStopCause, Goes, HasRefusal, IsLoaded, LoadEnds, LoadStops, LoadsAll, LoadsFirst, ManifestStops, SoFar, WroteLine, WroteLines, outcome_of, taken_text, Progress, is_refused, refusal_text, start, step}
-use Rattle.dv_app.proofs.Vocabulary.{step_by, step_on, steps, window_line, Ending, Absent, BadMapping, BadQuery, Memory, Unread, Stop, Ended, Unwritten, Loading, Taken, after-after, after-nil, got_behind, NamedFile}
+use Rattle.dv_app.proofs.Vocabulary.{Mapping, GotPrefix, after, Hashes, BringEnds, IsStopCause, Goes, HasRefusal, IsLoaded, LoadEnds, LoadStops, LoadsAll, LoadsFirst, ManifestStops, SoFar, WroteLine, WroteLines, outcome_of, taken_text, Progress, is_refused, refusal_text, start, step}
+use Rattle.dv_app.proofs.Vocabulary.{step_by, step_on, steps, window_line, Ending, Absent, Memory, Unread, Stop, Ended, Unwritten, Loading, Taken, after-after, after-nil, got_behind, NamedFile}
 use Rattle.dv_app.specs.declared.takings.Taken.TheVariants as taken
 
 -- ---- the lines, whatever the folder tells

@@ -2,7 +2,7 @@
 use Rattle.dv_app.proofs.Vocabulary.{List, Option, Some, [], ap, arith, inl, inr, length, refl, subst, sym, take, ℕ, ◌++◌, ◌∙◌, ◌≡◌, ◌≤◌, Ok, Err}
 use Rattle.dv_app.proofs.Vocabulary.{Result, Mapping, GotPrefix, after, take_all, Hashes, HasSealed, RawVault, mart_text, path_name, vault, QueryEnds, QueryRule, TextEnds, TooLarge, IsReadCause, IsStopCause, line_of_ending, status_of, memory_line, Begins}
 use Rattle.dv_app.proofs.Vocabulary.{HasEnd, LoadEnds, LoadStops, LoadsAll, SoFar, TryStops, Gives, Heard, IsEnded, IsMemory, Trial, lines_before, lines_of, tried_of, Progress, Tried}
-use Rattle.dv_app.proofs.Vocabulary.{at_end, with_text, ended, start, status_for, steps, Ending, Absent, BadQuery, Memory, Unread, Stop, Ended, Unwritten, Loading, What, after-nil}
+use Rattle.dv_app.proofs.Vocabulary.{at_end, with_text, start, status_for, steps, Ending, Absent, BadQuery, Memory, Unread, Stop, Ended, Unwritten, Loading, What, after-nil}
 use Rattle.dv_app.proofs.Vocabulary.{got_all, got_longer, got_nothing, Window}
 use Rattle.dv_outside.specs.declared.statuses.Status.TheVariants as statuses
 use Rattle.dv_app.proofs.EndSteps.{read_cause_so}

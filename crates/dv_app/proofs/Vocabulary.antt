@@ -2,7 +2,7 @@
 pub use Rattle.dv_text.proofs.Vocabulary.{Bool, Contains, Contains-get_or, List, None, Option, Some, [], ap, append_assoc, arith, codes, cond, drop_more, false, get_or, inl, inr, le-ltb, length, length-map, lt-ltb, map, option_or, refl, slice_get-get_or, subst, sym, take, take_more, true, ℕ}
 pub use Rattle.dv_text.proofs.Vocabulary.{◌++◌, ◌+◌, ◌<◌, ◌==◌, ◌||◌, ◌∙◌, ◌∷◌, ◌≡◌, ◌≤◌, ◌⊎◌}
 pub use Rattle.dv_catalog.proofs.Vocabulary.{Mapping, first_of, nat_lt, printed}
-pub use Rattle.dv_window.proofs.Vocabulary.{IsAtRest, Ok, StandsFor, State, accepted, beginning, collides, differs, feed_twice, if_new, late, no_extracts, open_other, outcome, refusal, unknown_feed, vault_full, window_of, window_rule}
+pub use Rattle.dv_window.proofs.Vocabulary.{Held, IsIn, Ok, StepsTo, Store, StandsFor, State, accepted, beginning, collides, differs, feed_twice, if_new, late, no_extracts, open_other, outcome, refusal, unknown_feed, vault_full, window_of, window_rule}
 pub use Rattle.dv_records.proofs.Vocabulary.{Hashes, find, min, option_map_or}
 pub use Rattle.dv_mapfile.proofs.Vocabulary.{IfOk, built_mapping, if◌then◌else◌, option_map, string_bytes}
 pub use Rattle.dv_outside.proofs.Vocabulary.{Ends, GotPrefix, Rose, after, append-nil, drop, err_from_is_err_and, file_at, take-append-drop, take_all}
@@ -51,7 +51,7 @@ pub use Rattle.dv_records.specs.Vault.{vault}
 pub use Rattle.dv_records.specs.declared.answers.Outcome.{Outcome}
 pub use Rattle.dv_text.specs.Stamps.{stamp_of}
 pub use Rattle.dv_text.specs.declared.rows.Window.{Window}
-pub use Rattle.dv_window.specs.Offices.{OfficeAfter}
+pub use Rattle.dv_window.specs.Offices.{StaleAfter}
 pub use Rattle.std.proofs.Common.{Err, Result, slice_get, ⊎_elim}
 pub use Rattle.std.proofs.lemmas.Bool.{ltb-false, ltb-true}
 pub use Rattle.std.proofs.lemmas.List.{length-take}

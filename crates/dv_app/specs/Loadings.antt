@@ -1,5 +1,5 @@
 -- The parts of `try` between its mapping and its text: the taking of the manifests, one after another.
-use Rattle.std.specs.Prelude.{◌≡◌, ℕ, Bool, true, ◌||◌, List, ◌++◌, Option, Ok, Err, codes, take}
+use Rattle.std.specs.Prelude.{◌≡◌, ℕ, Bool, true, false, ◌||◌, List, [], ◌++◌, Option, Ok, Err, codes, take}
 use Rattle.std.specs.Fmt.{decimal}
 use Rattle.dv_text.specs.Keys.{Hashes}
 use Rattle.dv_catalog.specs.Entries.{Mapping}
@@ -14,7 +14,7 @@ use Rattle.dv_records.specs.Outcomes.{outcome}
 use Rattle.dv_records.specs.States.{State}
 use Rattle.dv_records.specs.declared.answers.Outcome.{Outcome}
 use Rattle.dv_records.specs.declared.answers.Outcome.TheVariants as outcomes
-use Rattle.dv_window.specs.Offices.{Held, IsAtRest, StandsFor}
+use Rattle.dv_window.specs.Offices.{Held, StandsFor}
 use Rattle.dv_app.specs.declared.endings.Ending.{Ending}
 use Rattle.dv_app.specs.declared.endings.Ending.TheVariants as endings
 use Rattle.dv_app.specs.declared.endings.Stop.{Stop}
@@ -36,11 +36,12 @@ trial_of hashes files a =
 
 -- ---- a window
 
--- a window can be given to the office: it stands for some state with no window open
+-- a window can be given to the office: it isn't stale, and stands for some state without snapshots
 pub record IsReady (hashes : Hashes) (loading : Loading) : Type 0 where
   pub state : State
   pub stands : StandsFor hashes state loading.office
-  pub rest : IsAtRest loading.office
+  pub fresh : loading.office.stale ≡ false
+  pub no_dates : state.dates ≡ []
 
 -- what the code has loaded is what the run has
 pub record IsLoaded (mapping : Mapping) (hashes : Hashes) (loading : Loading) (p : Progress) : Type 0 where

@@ -53,8 +53,12 @@ fn read_mapping<F: Folder>(alloc: Global, folder: &mut F) -> Result<Catalog, End
     }
 }
 
-/// The mapping's file is read, and an office of its mapping begun.
-pub(crate) fn open_loading<F: Folder>(alloc: Global, folder: &mut F) -> Result<Loading, Ending>
+/// The mapping's file is read, and an office of its mapping begun, for digests of so many bytes.
+pub(crate) fn open_loading<F: Folder>(
+    alloc: Global,
+    folder: &mut F,
+    width: u8,
+) -> Result<Loading, Ending>
     ensures ok { IfOk result (λ loading. Told (F.files folder.old) (λ files. mapping_at files ≡ Some (Ok loading.office.vault.mapping))) }
     ensures ready { (hashes : Hashes) → IfOk result (IsReady hashes) }
     ensures loaded { (hashes : Hashes) → IfOk result (λ loading. IsLoaded loading.office.vault.mapping hashes loading start) }
@@ -64,7 +68,7 @@ pub(crate) fn open_loading<F: Folder>(alloc: Global, folder: &mut F) -> Result<L
     ensures later { F.faults folder.old ≤ F.faults folder.new }
 {
     let catalog = read_mapping(alloc, folder)?;
-    match begin_loading(alloc, catalog) {
+    match begin_loading(alloc, catalog, width) {
         Ok(loading) => Ok(loading),
         Err(Memory) => Err(Ending::Memory),
     }

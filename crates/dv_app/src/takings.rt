@@ -31,14 +31,14 @@ pub(crate) enum Taken {
     Refused(Rule),
 }
 
-/// An office of no windows, of a mapping in which every form is built.
-pub(crate) fn begin_loading(alloc: Global, catalog: Catalog) -> Result<Loading, Memory>
+/// An office of no windows, of a mapping in which every form is built, for digests of so many bytes.
+pub(crate) fn begin_loading(alloc: Global, catalog: Catalog, width: u8) -> Result<Loading, Memory>
     requires { IsBuilt catalog }
     ensures ready { (hashes : Hashes) → IfOk result (IsReady hashes) }
     ensures mapping { IfOk result (λ loading. loading.office.vault.mapping ≡ catalog) }
     ensures loaded { (hashes : Hashes) → IfOk result (λ loading. IsLoaded loading.office.vault.mapping hashes loading start) }
 {
-    let office = Office::begin(alloc, catalog)?;
+    let office = Office::begin(alloc, catalog, width)?;
     Ok(Loading {
         office,
         refused: false,

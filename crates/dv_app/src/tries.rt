@@ -96,8 +96,13 @@ fn load_all<F: Folder, E: Sink, H: KeyDigest, G: Gate>(
     Ok(())
 }
 
-// All that comes before the manifests.
-fn begin<F: Folder>(alloc: Global, asked: &Asked<'_>, folder: &mut F) -> Result<Readied, Ending>
+// All that comes before the manifests, for digests of so many bytes.
+fn begin<F: Folder>(
+    alloc: Global,
+    asked: &Asked<'_>,
+    folder: &mut F,
+    width: u8,
+) -> Result<Readied, Ending>
     ensures ok { (hashes : Hashes) → IfOk result (λ readied. Told (F.files folder.old) (λ files.
         Begins (trial_of hashes files asked.now) readied.loading.office.vault.mapping readied.what readied.date)) }
     ensures ready { (hashes : Hashes) → IfOk result (λ readied. IsReady hashes readied.loading) }
@@ -109,7 +114,7 @@ fn begin<F: Folder>(alloc: Global, asked: &Asked<'_>, folder: &mut F) -> Result<
     ensures kept { F.files folder.new ≡ F.files folder.old }
     ensures later { F.faults folder.old ≤ F.faults folder.new }
 {
-    let loading = open_loading(alloc, folder)?;
+    let loading = open_loading(alloc, folder, width)?;
     let what = check_what(alloc, loading.office.catalog(), asked.what)?;
     let date = check_date(asked.date)?;
     Ok(Readied {
@@ -167,7 +172,7 @@ fn try_all<F: Folder, O: Sink, E: Sink, H: KeyDigest, G: Gate>(
     ensures kept { F.files folder.new ≡ F.files folder.old }
     ensures later { (F.faults folder.old ≤ F.faults folder.new) × (O.faults out.old ≤ O.faults out.new) × (E.faults err.old ≤ E.faults err.new) }
 {
-    let mut readied = begin(alloc, asked, folder)?;
+    let mut readied = begin(alloc, asked, folder, digest.width())?;
     load_all(
         alloc,
         &mut readied.loading,

@@ -1,4 +1,4 @@
-use Rattle.dv_app.proofs.Vocabulary.{if◌then◌else◌, reading_of}
+use Rattle.dv_app.proofs.Vocabulary.{reading_of}
 use Rattle.dv_app.proofs.EndSteps.{if_err_so}
 use Rattle.dv_app.proofs.ExtractSteps.{extract_ends}
 use Rattle.dv_app.proofs.arrivals.extract_bytes.Goals as goal

@@ -5,7 +5,8 @@ pub returns-clause-ready : goal.returns-clause-ready
 returns-clause-ready c hashes = record {
   state = beginning;
   stands = c.in_ok-office.ensures.stands hashes;
-  rest = c.in_ok-office.ensures.rest;
+  fresh = c.in_ok-office.ensures.fresh;
+  no_dates = refl;
 }
 
 pub returns-clause-loaded : goal.returns-clause-loaded
