@@ -1,5 +1,5 @@
 // The load of a window.
-ghost use Rattle.std.specs.Prelude.{◌≡◌, ◌≤◌, false};
+ghost use Rattle.std.specs.Prelude.{◌≡◌, ◌≤◌, false, true};
 ghost use Rattle.dv_text.specs.Causes.{Rose};
 ghost use Rattle.dv_text.specs.Keys.{hashes_of};
 ghost use Rattle.dv_text.specs.Told.{Told};
@@ -28,6 +28,7 @@ impl Office {
         ensures step { (state : State) → IsIn (hashes_of H.digest_of H.size) state self.old (K.store keeper.old) → StepsTo self.old.vault.mapping (hashes_of H.digest_of H.size) state given.now result self.new (K.store keeper.new) }
         ensures agrees { AgreesUnlessStale self.new (K.store keeper.new) }
         ensures mapping { self.new.vault.mapping ≡ self.old.vault.mapping }
+        ensures width { self.new.width ≡ self.old.width }
         ensures stale { StaleAfter result self.old.stale self.new.stale }
         ensures store { LeavesStore result (K.store keeper.old) (K.store keeper.new) }
         ensures undamaged { (damage : Damage) → result ≡ LoadAnswer.Damaged damage → ⊥ }
@@ -67,6 +68,7 @@ impl Office {
         ensures step { (state : State) → IsIn (hashes_of H.digest_of H.size) state self.old (K.store keeper.old) → StepsTo self.old.vault.mapping (hashes_of H.digest_of H.size) state given.now result self.new (K.store keeper.new) }
         ensures agrees { AgreesUnlessStale self.new (K.store keeper.new) }
         ensures mapping { self.new.vault.mapping ≡ self.old.vault.mapping }
+        ensures width { (self.old.stale ≡ false → self.new.width ≡ self.old.width) × (self.old.stale ≡ true → self.new.stale ≡ false → self.new.width ≡ H.size) }
         ensures stale { StaleAfter result self.old.stale self.new.stale }
         ensures store { LeavesStore result (K.store keeper.old) (K.store keeper.new) }
         ensures damaged { (damage : Damage) → result ≡ LoadAnswer.Damaged damage → Told (K.store keeper.old) (λ s. IsDamageFor self.old.vault.mapping (hashes_of H.digest_of H.size) H.size s damage) }

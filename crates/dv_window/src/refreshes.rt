@@ -1,5 +1,5 @@
 // A stale office is refreshed: what its keeper has is read again.
-ghost use Rattle.std.specs.Prelude.{◌≡◌, ◌≤◌, ◌⊎◌, IfOk, IsErrOf, Ok, OnErr, OnOk, false};
+ghost use Rattle.std.specs.Prelude.{◌≡◌, ◌≤◌, ◌⊎◌, IfOk, IsErrOf, Ok, OnErr, OnOk, false, true};
 ghost use Rattle.dv_text.specs.Causes.{Rose};
 ghost use Rattle.dv_text.specs.Keys.{hashes_of};
 ghost use Rattle.dv_text.specs.Told.{Told};
@@ -60,6 +60,7 @@ impl Office {
         ensures kept { OnErr result (self.new ≡ self.old) }
         ensures still { self.old.stale ≡ false → (result ≡ Ok tt) × (self.new ≡ self.old) }
         ensures mapping { self.new.vault.mapping ≡ self.old.vault.mapping }
+        ensures width { (self.old.stale ≡ false → self.new.width ≡ self.old.width) × (self.old.stale ≡ true → self.new.stale ≡ false → self.new.width ≡ H.size) }
         ensures agrees { AgreesUnlessStale self.new (K.store keeper.new) }
         ensures stands { (state : State) → IsIn (hashes_of H.digest_of H.size) state self.old (K.store keeper.old) → OnOk result (IsIn (hashes_of H.digest_of H.size) state self.new (K.store keeper.new)) }
         ensures mapped { IsErrOf result StartFault.NoMapping → ⊥ }

@@ -1,5 +1,5 @@
 // The completion of an open window.
-ghost use Rattle.std.specs.Prelude.{◌≡◌, ◌≤◌, false};
+ghost use Rattle.std.specs.Prelude.{◌≡◌, ◌≤◌, false, true};
 ghost use Rattle.dv_text.specs.Causes.{Rose};
 ghost use Rattle.dv_text.specs.Keys.{Hashes, hashes_of};
 ghost use Rattle.dv_text.specs.Told.{Told};
@@ -20,6 +20,7 @@ impl Office {
         ensures step { (hashes : Hashes) (state : State) → IsIn hashes state self.old (K.store keeper.old) → CompletesTo self.old.vault.mapping hashes state result self.new (K.store keeper.new) }
         ensures agrees { AgreesUnlessStale self.new (K.store keeper.new) }
         ensures mapping { self.new.vault.mapping ≡ self.old.vault.mapping }
+        ensures width { self.new.width ≡ self.old.width }
         ensures stale { StaleThen result self.old.stale self.new.stale }
         ensures store { LeavesStill result (K.store keeper.old) (K.store keeper.new) }
         ensures undamaged { (damage : Damage) → result ≡ ResumeAnswer.Damaged damage → ⊥ }
@@ -43,6 +44,7 @@ impl Office {
         ensures step { (state : State) → IsIn (hashes_of H.digest_of H.size) state self.old (K.store keeper.old) → CompletesTo self.old.vault.mapping (hashes_of H.digest_of H.size) state result self.new (K.store keeper.new) }
         ensures agrees { AgreesUnlessStale self.new (K.store keeper.new) }
         ensures mapping { self.new.vault.mapping ≡ self.old.vault.mapping }
+        ensures width { (self.old.stale ≡ false → self.new.width ≡ self.old.width) × (self.old.stale ≡ true → self.new.stale ≡ false → self.new.width ≡ H.size) }
         ensures stale { StaleThen result self.old.stale self.new.stale }
         ensures store { LeavesStill result (K.store keeper.old) (K.store keeper.new) }
         ensures damaged { (damage : Damage) → result ≡ ResumeAnswer.Damaged damage → Told (K.store keeper.old) (λ s. IsDamageFor self.old.vault.mapping (hashes_of H.digest_of H.size) H.size s damage) }

@@ -29,6 +29,7 @@ impl Office {
         ensures mapping { IfOk result (λ office. office.vault.mapping ≡ catalog) }
         ensures stands { IfOk result (λ office. (hashes : Hashes) → StandsFor hashes beginning office) }
         ensures fresh { IfOk result (λ office. office.stale ≡ false) }
+        ensures width { IfOk result (λ office. office.width ≡ width) }
     {
         let vault = Vault::empty(alloc, catalog)?;
         Ok(Office {
