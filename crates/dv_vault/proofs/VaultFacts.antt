@@ -1,7 +1,9 @@
 -- Where the rows of a table stand among the tables of a vault.
 use Rattle.dv_vault.proofs.Vocabulary.{got_from, none_found_at, none_pass, table_eq-itself, ◌≡◌, ℕ, ◌<◌, Bool, true, false, List, [], ◌∷◌, Option, Some, None, Bor, refl, sym, ◌∙◌, ap, subst, length, map, ◌||◌, Contains, IfNone, IfSome}
 use Rattle.dv_vault.proofs.Vocabulary.{find, if◌then◌else◌, option_map, false≢true, TableId, Mapping, tables, Indexed, Rows, TableRows, no_rows, rows_in, table_eq, found_member, some_passes, some_passes_at, Contains-map, map_member}
-use Rattle.dv_vault.proofs.Vocabulary.{has_hub, has_link, has_status, same_table, IsVaultOf, has_table}
+use Rattle.dv_vault.proofs.Vocabulary.{has_hub, has_link, has_status, same_table, IsVaultOf, has_table, entry_of, is_of_kind, Table, cond, length-map, nat_lt, not, ◌+◌}
+use Rattle.std.specs.List.{position, prefix_len}
+use Rattle.dv_vault.specs.declared.tables.Table.TheVariants as variants
 use Rattle.dv_catalog.specs.declared.tables.TableId.TheVariants as ids
 
 pub found_rows : (id : TableId) (entries : List TableRows) (entry : TableRows) → find (λ other. table_eq other.table id) entries ≡ Some entry → rows_in id entries ≡ entry.rows
@@ -32,6 +34,44 @@ find-seen f test (x ∷ xs) = by (test (f x)) (find-seen f test xs)
 pub seen-twice : {X Y Z : Type 0} (f : X → Y) (g : Y → Z) (found : Option X) → option_map (λ x. g (f x)) found ≡ option_map g (option_map f found)
 seen-twice f g None = refl
 seen-twice f g (Some x) = refl
+
+-- a place among what is seen of things
+prefix_len-seen : {X Y : Type 0} (f : X → Y) (test : Y → Bool) (xs : List X) → prefix_len (λ x. test (f x)) xs ≡ prefix_len test (map f xs)
+prefix_len-seen f test [] = refl
+prefix_len-seen f test (x ∷ xs) = ap (λ n. cond (test (f x)) (1 + n) 0) (prefix_len-seen f test xs)
+
+pub position-seen : {X Y : Type 0} (f : X → Y) (test : Y → Bool) (xs : List X) → position (λ x. test (f x)) xs ≡ position test (map f xs)
+position-seen f test xs =
+    let place = prefix_len-seen f (λ y. not (test y)) xs in
+    let long = sym (length-map xs f) in
+    λ i. cond (nat_lt (place i) (long i)) (Some (place i)) None
+
+-- ---- the rows of a table are of its kind
+
+kind_of : (t : Table) → is_of_kind (entry_of t).table (entry_of t).rows ≡ true
+kind_of (variants.Hub hub rows) = refl
+kind_of (variants.Link link rows) = refl
+kind_of (variants.Sat feed rows) = refl
+kind_of (variants.Multi feed rows) = refl
+kind_of (variants.Status feed rows) = refl
+kind_of (variants.Effect feed rows) = refl
+
+none_of_kind : (id : TableId) → is_of_kind id (no_rows id) ≡ true
+none_of_kind (ids.Hub n) = refl
+none_of_kind (ids.Link n) = refl
+none_of_kind (ids.Sat n) = refl
+none_of_kind (ids.Multi n) = refl
+none_of_kind (ids.Status n) = refl
+none_of_kind (ids.Effect n) = refl
+
+pub rows_of_kind : (id : TableId) (tables : List Table) → is_of_kind id (rows_in id (map entry_of tables)) ≡ true
+rows_of_kind id [] = none_of_kind id
+rows_of_kind id (t ∷ tables) = by (table_eq (entry_of t).table id) refl (rows_of_kind id tables)
+  where
+    by : (b : Bool) → table_eq (entry_of t).table id ≡ b → is_of_kind id (rows_in id (map entry_of tables)) ≡ true
+        → is_of_kind id (if b then (entry_of t).rows else rows_in id (map entry_of tables)) ≡ true
+    by true is later = subst (λ id. is_of_kind id (entry_of t).rows ≡ true) (same_table (entry_of t).table id is) (kind_of t)
+    by false is later = later
 
 -- ---- a table that was looked for
 

@@ -1,7 +1,7 @@
-ghost use Rattle.std.specs.Prelude.{◌≡◌, false, IfNone, IfOk, IfSome, IsTrue, find, map, option_map};
+ghost use Rattle.std.specs.Prelude.{◌≡◌, false, IfNone, IfOk, IfSome, IsTrue, find, map, option_map, position, true};
 ghost use Rattle.dv_catalog.specs.Tables.{tables};
 ghost use Rattle.dv_records.specs.ReadBack.{effect_rows_in, hub_rows_in, link_rows_in, multi_rows_in, sat_rows_in, status_rows_in};
-ghost use Rattle.dv_records.specs.Stores.{no_rows, table_eq};
+ghost use Rattle.dv_records.specs.Stores.{is_of_kind, no_rows, rows_in, table_eq};
 ghost use Rattle.dv_vault.specs.Vaults.{entries_of, entry_of};
 ghost use Rattle.dv_vault.specs.Vaults as spec;
 
@@ -44,6 +44,13 @@ fn find_table(tables: &[Table], id: TableId) -> Option<&Table>
     tables.iter().find(|table| is_table(table, id))
 }
 
+// The place of the first table with an id.
+fn find_place(tables: &[Table], id: TableId) -> Option<usize>
+    ensures { result ≡ position (λ table. table_eq (entry_of table).table id) tables.now }
+{
+    tables.iter().position(|table| is_table(table, id))
+}
+
 impl RawTables {
     /// The tables of a mapping, without rows.
     pub(crate) fn empty(alloc: Global, catalog: &Catalog) -> Result<RawTables, Memory>
@@ -59,6 +66,14 @@ impl RawTables {
         ensures { option_map (λ table. entry_of table.now) result ≡ find (λ entry. table_eq entry.table id) (entries_of self.now) }
     {
         find_table(&self.tables, id)
+    }
+
+    /// The place of a table, in table order; none where it isn't among them. Takes no memory.
+    pub(crate) fn place_of(&self, id: TableId) -> Option<usize>
+        ensures place { result ≡ position (λ entry. table_eq entry.table id) (entries_of self.now) }
+        ensures kind { is_of_kind id (rows_in id (entries_of self.now)) ≡ true }
+    {
+        find_place(&self.tables, id)
     }
 
     fn hub_at(&self, i: u32) -> Option<&HubTable>

@@ -1,11 +1,11 @@
-ghost use Rattle.std.specs.Prelude.{◌≡◌, ◌<◌, [], Contains, IfErr, IfNone, IfOk, IfSome, IsTrue, None, length, map};
+ghost use Rattle.std.specs.Prelude.{◌≡◌, ◌<◌, [], Contains, IfErr, IfNone, IfOk, IfSome, IsTrue, None, length, map, position, true};
 ghost use Rattle.dv_text.specs.Keys.{hashes_of};
 ghost use Rattle.dv_catalog.specs.Built.{unbuilt};
 ghost use Rattle.dv_catalog.specs.Tables.{tables};
 ghost use Rattle.dv_records.specs.Outcomes.{late_after};
 ghost use Rattle.dv_records.specs.ReadBack.{effect_rows_in, hub_rows_in, link_rows_in, multi_rows_in, sat_rows_in, status_rows_in};
 ghost use Rattle.dv_records.specs.States.{is_window};
-ghost use Rattle.dv_records.specs.Stores.{no_rows};
+ghost use Rattle.dv_records.specs.Stores.{is_of_kind, no_rows, rows_in, table_eq};
 ghost use Rattle.dv_records.specs.Weights.{tables_weight};
 ghost use Rattle.dv_vault.specs.Additions as spec;
 ghost use Rattle.dv_vault.specs.Additions.{Fits, IsAddition};
@@ -118,6 +118,16 @@ impl Vault {
     {
         let head = self.heads.items().last()?;
         Some(head.load)
+    }
+
+    /// The place of a raw table in table order; none where the mapping doesn't have it. Its rows are of
+    /// its kind. Takes no memory.
+    pub fn place_of(&self, table: TableId) -> Option<usize>
+        ensures place { result ≡ position (λ entry. table_eq entry.table table) self.now.tables }
+        ensures kind { is_of_kind table (rows_in table self.now.tables) ≡ true }
+        ensures tables { IsVaultOf self.now.mapping self.now.tables }
+    {
+        self.raw.place_of(table)
     }
 
     /// The table of the hub at a place in declared order. Condition: the mapping has it. Takes no memory.

@@ -1,7 +1,7 @@
 -- What an office and its keeper's store are left in where an addition was taken, or broken off.
 use Rattle.dv_window.proofs.Vocabulary.{None, Option, Some, [], false, inl, inr, length, refl, subst, sym, ℕ, ◌≡◌, ◌≤◌, ◌⊎◌, Told, IfSome, same_Some}
 use Rattle.dv_window.proofs.Vocabulary.{Hashes, Window, IsBuilt, Stands, State, Store, opened, sealed_with, Addition, Held, IsLeftIn, StandsFor, held_broken, held_with, BrokeAt, KeeperError, TakesWindow}
-use Rattle.dv_window.proofs.Vocabulary.{Became, BrokeOff, IsAsFar, reached}
+use Rattle.dv_window.proofs.Vocabulary.{Became, BrokeOff, IsAsFar, reached, CompletesAs, Err, IsIn, Ok, Result, TookOrBroke, true, ◌∙◌}
 use Rattle.dv_records.specs.declared.keepers.KeeperError.TheVariants.{Failed, Memory}
 use Rattle.dv_window.proofs.Growths.{CanAdd, open_stands, opened_stands_for, sealed_stands, sealed_stands_for}
 
@@ -71,3 +71,37 @@ module _ (hashes : Hashes) (state : State) (held : Held) (stands : StandsFor has
   broken begun Failed held' after fresh broke none = subst (λ held. Left held after) (sym broke.held_is) (failed_left broke.reached after broke.broke.broke)
   broken begun Memory held' after fresh broke none =
       subst (λ held. Left held after) (sym broke.held_is) (memory_left broke.reached after (λ e. none (broke.still e)) fresh broke.broke.within (broke.broke.exact refl))
+
+-- ---- whatever is told of the store
+
+-- an office that isn't stale, beside a store that is not told
+pub untold_in : (hashes : Hashes) (state : State) (held : Held) → StandsFor hashes state held → held.stale ≡ false → state.dates ≡ [] → IsIn hashes state held None
+untold_in hashes state held stands fresh no_dates = record {
+  stands = λ same. stands;
+  told = λ stale. absurd (no (sym fresh ∙ stale));
+  no_dates = no_dates;
+  store_stands = λ store e. cc;
+}
+  where
+    no : false ≡ true → ⊥
+    no e = cc
+
+-- an addition that was taken, or broken off
+pub untold : (begun : Option ℕ) (addition : Addition) (held held' : Held) (before after : Option Store) (result : Result ℕ KeeperError) → TookOrBroke begun addition held held' before after result
+    → TookOrBroke begun addition held held' None None result
+untold begun addition held held' before after (Ok rows) (rows_are, is, took) = (rows_are, is, λ now e. cc)
+untold begun addition held held' before after (Err error) broke = record {
+  reached = broke.reached;
+  still = broke.still;
+  held_is = broke.held_is;
+  broke = record { broke = λ now e. cc; within = broke.broke.within; exact = λ same now e. cc };
+}
+
+-- the open window that was completed, or broken off
+pub untold_open : (held held' : Held) (before after : Option Store) (result : Result ℕ KeeperError) → CompletesAs held held' before after result → CompletesAs held held' None None result
+untold_open held held' before after result came = record {
+  begun = came.begun;
+  begun_is = came.begun_is;
+  may_be = came.may_be;
+  came = untold (Some came.begun.there) came.begun.addition held held' before after result came.came;
+}

@@ -1,5 +1,6 @@
 pub mod Agreed
 pub mod Answered
+pub mod BegunRows
 pub mod BrokenOff
 pub mod Growths
 pub mod OutcomeSteps

@@ -1,5 +1,5 @@
 -- Where the store of a stale office stands for a state, its mapping is the office's.
-use Rattle.dv_window.proofs.Vocabulary.{None, Some, inl, inr, sym, ◌∙◌, ◌≡◌, ◌⊎◌, Damage, Hashes, IsBuilt, IsNotRead, IsOtherMapping, Mapping, Stands, State, Store, refl, CompletesTo, Held, IsLeftIn, Option, StartFault, StepsTo, WindowIn, unrefreshed, unresumed}
+use Rattle.dv_window.proofs.Vocabulary.{None, Some, inl, inr, sym, ◌∙◌, ◌≡◌, ◌⊎◌, Damage, Hashes, IsBuilt, IsNotRead, IsOtherMapping, Mapping, Stands, State, Store, refl, CompletesTo, Held, IsLeftIn, Option, StartFault, StepsTo, WindowIn, unrefreshed, unresumed, Err, Ok, Result}
 use Rattle.dv_records.specs.declared.answers.LoadAnswer.TheVariants as answers
 use Rattle.dv_records.specs.declared.answers.ResumeAnswer.TheVariants as resumed
 use Rattle.dv_start.specs.declared.faults.StartFault.TheVariants as faults
@@ -44,3 +44,7 @@ is_damaged faults.NoMapping damage e = cc
 is_damaged (faults.Damaged other) damage e = cc
 is_damaged faults.KeeperFault damage e = cc
 is_damaged faults.Memory damage e = cc
+
+-- a refresh that answered Ok did not fail
+pub not_err : (fault : StartFault) → ◌≡◌ {A = Result (Unit {0}) StartFault} (Ok tt) (Err fault) → ⊥
+not_err fault e = cc

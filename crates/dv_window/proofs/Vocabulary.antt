@@ -40,7 +40,7 @@ pub use Rattle.dv_vault.specs.Vaults.{entries_with}
 pub use Rattle.dv_vault.proofs.SealedContents.{sealed_rows}
 pub use Rattle.dv_vault.proofs.VaultCollisions.{apart_is_free, clash_collides}
 pub use Rattle.dv_vault.specs.declared.additions.Addition.{Addition}
-pub use Rattle.dv_window.specs.Offices.{Agrees, AgreesUnlessStale, CompletesTo, Held, IsDamageFor, IsIn, IsLeftIn, IsOtherMapping, LeavesStill, LeavesStore, StaleAfter, StaleThen, StandsFor, StepsTo, staged}
+pub use Rattle.dv_window.specs.Offices.{Agrees, AgreesUnlessStale, CompletesTo, Held, IsDamageFor, IsIn, IsLeftIn, IsOtherMapping, LeavesOffice, LeavesStill, LeavesStore, StaleAfter, StaleThen, StandsFor, StepsTo, rows_behind, staged}
 pub use Rattle.dv_window.specs.Plans.{Collides, IsAgain, IsNewWindow, IsOpenAgain, IsPlan, IsPlanned, IsTooMuch, Stops, early_rule, given_rules, head_at, held_broken, held_with, late_by, window_read}
 pub use Rattle.dv_window.specs.Stopping.{answer_of, load_answer, resume_answer, unrefreshed, unresumed}
 pub use Rattle.dv_window.specs.Takings.{BrokeAt, CompletesAs, TookOrBroke}
@@ -60,3 +60,7 @@ pub use Rattle.dv_text.specs.Keys.{row_eq}
 pub use Rattle.dv_vault.proofs.Vocabulary.{map-map}
 pub use Rattle.std.proofs.lemmas.List.{map-id, take-append-drop}
 pub use Rattle.dv_start.specs.declared.faults.StartFault.{StartFault}
+pub use Rattle.dv_vault.proofs.Vocabulary.{AllZip, AllZip-long, Bor, Follow, has_table, is_of_kind, length-map, none_pass, rows_then, slice_get, suc, table_eq, zero, ◌<◌}
+pub use Rattle.dv_records.proofs.Vocabulary.{by_place, is_placed, position}
+pub use Rattle.dv_start.specs.Completions.{rows_there}
+pub use Rattle.std.proofs.Common.{length-take}

@@ -11,10 +11,12 @@ use Rattle.dv_records.specs.declared.answers.LoadAnswer.{LoadAnswer}
 use Rattle.dv_records.specs.declared.answers.LoadAnswer.TheVariants as load
 use Rattle.dv_records.specs.declared.answers.ResumeAnswer.{ResumeAnswer}
 use Rattle.dv_records.specs.declared.answers.ResumeAnswer.TheVariants as resume
+use Rattle.dv_records.specs.declared.stores.Rows.{Rows}
 use Rattle.dv_records.specs.declared.stores.Store.{Store}
 use Rattle.dv_records.specs.Standing.{IsMappedBy, Stands}
 use Rattle.dv_records.specs.States.{State, is_valid_state}
 use Rattle.dv_records.specs.Steps.{LoadStep, ResumeStep}
+use Rattle.dv_records.specs.Stores.{rows_then}
 use Rattle.dv_start.specs.declared.restored.Begun.{Begun}
 use Rattle.dv_start.specs.Completions.{IsBegunAs}
 use Rattle.dv_start.specs.Damages.{IsFirstDamage, IsReadAs, mapping_damage}
@@ -33,6 +35,11 @@ pub record Held : Type 0 where
 -- the open window of an office
 abbrev pub staged : Held → Option Window
 staged held = option_map (λ b. b.addition.window) held.begun
+
+-- rows of a table, and behind them those that the open window has in it, where there are some
+abbrev pub rows_behind : Rows → Option Rows → Rows
+rows_behind rows None = rows
+rows_behind rows (Some more) = rows_then rows more
 
 -- an office stands for a state, which is valid
 pub record StandsFor (hashes : Hashes) (state : State) (held : Held) : Type 0 where
@@ -103,6 +110,15 @@ LeavesStore (load.Refused rule) before after = after ≡ before
 LeavesStore (load.Damaged damage) before after = after ≡ before
 LeavesStore load.KeeperFault before after = Unit {0}
 LeavesStore load.Memory before after = Unit {0}
+
+-- the answers that leave the office as it was
+abbrev pub LeavesOffice : LoadAnswer → Held → Held → Type 0
+LeavesOffice (load.Loaded rows) held held' = Unit {0}
+LeavesOffice load.Repeated held held' = held' ≡ held
+LeavesOffice (load.Refused rule) held held' = held' ≡ held
+LeavesOffice (load.Damaged damage) held held' = held' ≡ held
+LeavesOffice load.KeeperFault held held' = Unit {0}
+LeavesOffice load.Memory held held' = Unit {0}
 
 abbrev pub LeavesStill : ResumeAnswer → Option Store → Option Store → Type 0
 LeavesStill (resume.Loaded rows) before after = Unit {0}

@@ -1,11 +1,11 @@
 // The load of a window.
-ghost use Rattle.std.specs.Prelude.{◌≡◌, ◌≤◌, false, true};
+ghost use Rattle.std.specs.Prelude.{◌≡◌, ◌≤◌, [], None, false, true};
 ghost use Rattle.dv_text.specs.Causes.{Rose};
 ghost use Rattle.dv_text.specs.Keys.{hashes_of};
 ghost use Rattle.dv_text.specs.Told.{Told};
 ghost use Rattle.dv_records.specs.declared.answers.Damage.{Damage};
 ghost use Rattle.dv_records.specs.States.{State};
-ghost use Rattle.dv_window.specs.Offices.{AgreesUnlessStale, IsDamageFor, IsIn, LeavesStore, StaleAfter, StepsTo};
+ghost use Rattle.dv_window.specs.Offices.{AgreesUnlessStale, IsDamageFor, IsIn, LeavesOffice, LeavesStore, StaleAfter, StandsFor, StepsTo};
 
 use crate::offices::{Office, Order};
 use crate::plans::Planned;
@@ -26,6 +26,8 @@ impl Office {
         requires fresh { self.old.stale ≡ false }
         requires agrees { AgreesUnlessStale self.old (K.store keeper.old) }
         ensures step { (state : State) → IsIn (hashes_of H.digest_of H.size) state self.old (K.store keeper.old) → StepsTo self.old.vault.mapping (hashes_of H.digest_of H.size) state given.now result self.new (K.store keeper.new) }
+        ensures answer { (state : State) → StandsFor (hashes_of H.digest_of H.size) state self.old → state.dates ≡ [] → StepsTo self.old.vault.mapping (hashes_of H.digest_of H.size) state given.now result self.new None }
+        ensures kept { LeavesOffice result self.old self.new }
         ensures agrees { AgreesUnlessStale self.new (K.store keeper.new) }
         ensures mapping { self.new.vault.mapping ≡ self.old.vault.mapping }
         ensures width { self.new.width ≡ self.old.width }
@@ -45,16 +47,20 @@ impl Office {
         }
     }
 
-    /// Loads a window: decides what comes of it, gives it to the keeper, and adds it to the vault. The window that is
-    /// open, given again, is completed; any other is refused then. A stale office is refreshed first.
+    /// Loads a window: decides what comes of it, gives it to the keeper, and adds it to the vault.
+    /// The window that is open, given again, is completed; any other is refused then. A stale
+    /// office is refreshed first.
     ///
-    /// `Refused` names the first rule that the window breaks, and `Repeated` says that it is a sealed one
-    /// again; both leave the keeper's store as it is. `Damaged` comes only from the refresh, as there. `Loaded` gives the
-    /// number of rows that the window adds to all tables, whichever call appended them. `KeeperFault` comes only where the
-    /// keeper's count of faults rose, and leaves the office stale. After it, and after `Memory`, the keeper's store stands
-    /// for the state before, or has this window open, or has it sealed. All memory that the window needs is taken before
-    /// the store changes. Condition: the keeper's store, where it is told, is what the office holds, unless this is stale.
-    /// One loader works through the tables in declared order, whatever `workers` and `order` say.
+    /// `Refused` names the first rule that the window breaks, and `Repeated` says that it is a
+    /// sealed one again; both leave the keeper's store as it is, and an office that isn't stale.
+    /// Such an office answers by each state that it stands for, also where its keeper tells
+    /// nothing. `Damaged` comes only from the refresh, as there. `Loaded` gives the number of rows
+    /// that the window adds to all tables, whichever call appended them. `KeeperFault` comes only
+    /// where the keeper's count of faults rose, and leaves the office stale. After it, and after
+    /// `Memory`, the keeper's store stands for the state before, or has this window open, or has it
+    /// sealed. All memory that the window needs is taken before the store changes. Condition: the
+    /// keeper's store, where it is told, is what the office holds, unless this is stale. One loader
+    /// works through the tables in declared order, whatever `workers` and `order` say.
     pub fn load<K: Keeper, H: KeyDigest, G: Gate>(
         &mut self,
         keeper: &mut K,
@@ -66,6 +72,8 @@ impl Office {
     ) -> LoadAnswer
         requires { AgreesUnlessStale self.old (K.store keeper.old) }
         ensures step { (state : State) → IsIn (hashes_of H.digest_of H.size) state self.old (K.store keeper.old) → StepsTo self.old.vault.mapping (hashes_of H.digest_of H.size) state given.now result self.new (K.store keeper.new) }
+        ensures answer { self.old.stale ≡ false → (state : State) → StandsFor (hashes_of H.digest_of H.size) state self.old → state.dates ≡ [] → StepsTo self.old.vault.mapping (hashes_of H.digest_of H.size) state given.now result self.new None }
+        ensures kept { self.old.stale ≡ false → LeavesOffice result self.old self.new }
         ensures agrees { AgreesUnlessStale self.new (K.store keeper.new) }
         ensures mapping { self.new.vault.mapping ≡ self.old.vault.mapping }
         ensures width { (self.old.stale ≡ false → self.new.width ≡ self.old.width) × (self.old.stale ≡ true → self.new.stale ≡ false → self.new.width ≡ H.size) }

@@ -1,10 +1,13 @@
 ghost use Rattle.std.specs.Option.{option_map};
-ghost use Rattle.std.specs.Prelude.{◌≡◌, ◌<◌, IfOk, IsTrue, length};
+ghost use Rattle.std.specs.Prelude.{◌≡◌, ◌<◌, IfOk, IfSome, IsTrue, length, slice_get, true};
 ghost use Rattle.dv_records.specs.ReadBack.{any_content_read};
-ghost use Rattle.dv_vault.specs.Vaults.{IsBuilt, are_heads_of, last_head};
+ghost use Rattle.dv_records.specs.Stores.{is_of_kind, rows_in};
+ghost use Rattle.dv_start.specs.Completions.{rows_there};
+ghost use Rattle.dv_vault.specs.Vaults.{IsBuilt, IsVaultOf, are_heads_of, last_head};
 ghost use Rattle.dv_window.specs.Offices as spec;
 
-use dv_catalog::Catalog;
+use dv_catalog::{Catalog, TableId};
+use dv_records::Rows;
 use dv_start::Begun;
 use dv_text::{List, Memory, NRow, Stamp, Window, WindowHead};
 use dv_vault::Vault;
@@ -40,6 +43,13 @@ impl Model for Office {
 pub enum Order {
     Declared,
     Reverse,
+}
+
+// The batch at a place; none past the last one.
+fn batch_at(batches: &[Rows], place: usize) -> Option<&Rows>
+    ensures { option_map (λ rows. rows.now) result ≡ slice_get batches.now place }
+{
+    batches.get(place)
 }
 
 impl Office {
@@ -91,6 +101,19 @@ impl Office {
     {
         let begun = self.begun.as_ref()?;
         Some(&begun.addition.window)
+    }
+
+    /// The rows that the open window has in a raw table of the keeper already; none where no window is
+    /// open, or the table has not got its rows of it yet. Takes no memory.
+    pub fn rows_begun(&self, table: TableId) -> Option<&Rows>
+        ensures kind { IfSome result (λ rows. is_of_kind table rows.now ≡ true) }
+        ensures held { is_of_kind table (rows_in table self.now.vault.tables) ≡ true }
+        ensures among { IsVaultOf self.now.vault.mapping self.now.vault.tables }
+        ensures rows { rows_in table (rows_there self.now.vault self.now.begun) ≡ spec.rows_behind (rows_in table self.now.vault.tables) (option_map (λ rows. rows.now) result) }
+    {
+        let place = self.vault.place_of(table)?;
+        let begun = self.begun.as_ref()?;
+        batch_at(&begun.addition.batches.items()[..begun.there], place)
     }
 
     /// Whether the keeper may have more than the office knows: a call of it failed, and the office was not refreshed since.

@@ -1,11 +1,11 @@
 // The completion of an open window.
-ghost use Rattle.std.specs.Prelude.{◌≡◌, ◌≤◌, false, true};
+ghost use Rattle.std.specs.Prelude.{◌≡◌, ◌≤◌, [], None, false, true};
 ghost use Rattle.dv_text.specs.Causes.{Rose};
 ghost use Rattle.dv_text.specs.Keys.{Hashes, hashes_of};
 ghost use Rattle.dv_text.specs.Told.{Told};
 ghost use Rattle.dv_records.specs.declared.answers.Damage.{Damage};
 ghost use Rattle.dv_records.specs.States.{State};
-ghost use Rattle.dv_window.specs.Offices.{AgreesUnlessStale, CompletesTo, IsDamageFor, IsIn, LeavesStill, StaleThen};
+ghost use Rattle.dv_window.specs.Offices.{AgreesUnlessStale, CompletesTo, IsDamageFor, IsIn, LeavesStill, StaleThen, StandsFor};
 
 use crate::offices::Office;
 use crate::stops::{resume_answer, unresumed};
@@ -18,6 +18,8 @@ impl Office {
         requires fresh { self.old.stale ≡ false }
         requires agrees { AgreesUnlessStale self.old (K.store keeper.old) }
         ensures step { (hashes : Hashes) (state : State) → IsIn hashes state self.old (K.store keeper.old) → CompletesTo self.old.vault.mapping hashes state result self.new (K.store keeper.new) }
+        ensures answer { (hashes : Hashes) (state : State) → StandsFor hashes state self.old → state.dates ≡ [] → CompletesTo self.old.vault.mapping hashes state result self.new None }
+        ensures kept { result ≡ ResumeAnswer.NothingOpen → self.new ≡ self.old }
         ensures agrees { AgreesUnlessStale self.new (K.store keeper.new) }
         ensures mapping { self.new.vault.mapping ≡ self.old.vault.mapping }
         ensures width { self.new.width ≡ self.old.width }
@@ -33,15 +35,19 @@ impl Office {
         }
     }
 
-    /// Completes the open window: appends the rows of it that the keeper hasn't, and seals it. `NothingOpen` comes exactly
-    /// where none is open. `Loaded` gives the number of rows that the window adds to all tables, whichever call appended
-    /// them. A stale office is refreshed first, and `Damaged` comes only from there. `KeeperFault` comes only where the
-    /// keeper's count of faults rose, and leaves the office stale. After it, and after `Memory`, the keeper's store stands
-    /// for the state before, or has the window sealed. Condition: the keeper's store, where it is told, is what the office
+    /// Completes the open window: appends the rows of it that the keeper hasn't, and seals it.
+    /// `NothingOpen` comes exactly where none is open, and leaves an office that isn't stale as it
+    /// is. `Loaded` gives the number of rows that the window adds to all tables, whichever call
+    /// appended them. A stale office is refreshed first, and `Damaged` comes only from there.
+    /// `KeeperFault` comes only where the keeper's count of faults rose, and leaves the office
+    /// stale. After it, and after `Memory`, the keeper's store stands for the state before, or has
+    /// the window sealed. Condition: the keeper's store, where it is told, is what the office
     /// holds, unless this is stale.
     pub fn resume<K: Keeper, H: KeyDigest>(&mut self, keeper: &mut K, digest: &H) -> ResumeAnswer
         requires { AgreesUnlessStale self.old (K.store keeper.old) }
         ensures step { (state : State) → IsIn (hashes_of H.digest_of H.size) state self.old (K.store keeper.old) → CompletesTo self.old.vault.mapping (hashes_of H.digest_of H.size) state result self.new (K.store keeper.new) }
+        ensures answer { self.old.stale ≡ false → (state : State) → StandsFor (hashes_of H.digest_of H.size) state self.old → state.dates ≡ [] → CompletesTo self.old.vault.mapping (hashes_of H.digest_of H.size) state result self.new None }
+        ensures kept { self.old.stale ≡ false → result ≡ ResumeAnswer.NothingOpen → self.new ≡ self.old }
         ensures agrees { AgreesUnlessStale self.new (K.store keeper.new) }
         ensures mapping { self.new.vault.mapping ≡ self.old.vault.mapping }
         ensures width { (self.old.stale ≡ false → self.new.width ≡ self.old.width) × (self.old.stale ≡ true → self.new.stale ≡ false → self.new.width ≡ H.size) }
