@@ -1,7 +1,11 @@
 pub mod DrivenFeeds
+pub mod JoinedNames
 pub mod NoNames
+pub mod OfferedMarts
 pub mod OfferedTables
 pub mod PartColumns
 pub mod RowTexts
+pub mod TableRecords
 pub mod VaultMarts
 pub mod Vocabulary
+pub mod WrittenTexts

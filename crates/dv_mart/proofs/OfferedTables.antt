@@ -46,6 +46,10 @@ period_named mapping (Some name) what e = by (feed_place mapping name) e
     by None is = let no : None ≡ Some what = is in cc
     by (Some feed) is = driven feed (has_driver (slice_get mapping.feeds feed)) refl is
 
+-- the raw table with a name is one of the mapping
+pub named_among : (mapping : Mapping) (name : List ℕ) (table : TableId) → table_named mapping name ≡ Some table → Contains (tables mapping) table
+named_among mapping name table found = (found_member (λ table. bytes_eq (table_name mapping table) name) (tables mapping) table found).0
+
 table_found : (mapping : Mapping) (rest : Option (List ℕ)) (what : What) → option_map (λ table. Table table) (option_and_then (table_named mapping) rest) ≡ Some what → CanBe mapping what
 table_found mapping None what e = let no : None ≡ Some what = e in cc
 table_found mapping (Some name) what e = by (table_named mapping name) refl e
@@ -55,7 +59,7 @@ table_found mapping (Some name) what e = by (table_named mapping name) refl e
     by (Some table) at is =
         let got : Some (Table table) ≡ Some what = is in
         let same : Table table ≡ what = cc in
-        subst (CanBe mapping) same (found_member (λ table. bytes_eq (table_name mapping table) name) (tables mapping) table at).0
+        subst (CanBe mapping) same (named_among mapping name table at)
 
 only_one : {X : Type 0} (o : Option X) (x : X) → first_of (o ∷ []) ≡ Some x → o ≡ Some x
 only_one None x e = e

@@ -6,7 +6,7 @@ use Rattle.dv_records.specs.Backwards.{Backwards, backwards}
 
 -- ---- a table of the mapping
 
-of_mapping : (mapping : Mapping) (table : TableId) → Contains (tables mapping) table → is_table_of mapping table ≡ true
+pub of_mapping : (mapping : Mapping) (table : TableId) → Contains (tables mapping) table → is_table_of mapping table ≡ true
 of_mapping mapping table has = passes_at (is_table_of mapping) (tables mapping) table (tables_in mapping) has
 
 pub hub_within : (mapping : Mapping) (hub : ℕ) → Contains (tables mapping) (ids.Hub hub) → hub < length mapping.hubs

@@ -14,7 +14,7 @@ use Rattle.dv_records.specs.declared.stores.TableRows.{TableRows}
 use Rattle.dv_records.specs.Marts.{feed_mart, hub_mart, path_mart, period_mart}
 use Rattle.dv_records.specs.Snapshots.{bridge, pit}
 use Rattle.dv_records.specs.Steps.{is_too_large}
-use Rattle.dv_records.specs.Stores.{is_of_kind, rows_in}
+use Rattle.dv_records.specs.Stores.{is_of_kind, rows_in, rows_then}
 use Rattle.dv_records.specs.Vault.{rows_up_to}
 use Rattle.dv_mart.specs.declared.query_rules.QueryRule.{QueryRule}
 use Rattle.dv_mart.specs.declared.query_rules.QueryRule.TheVariants.{TooLarge}
@@ -60,6 +60,11 @@ table_text mapping table rows = csv_text (table_header mapping table ∷ raw_rec
 -- a table has rows of its kind
 abbrev pub HasKind : List TableRows → TableId → Type 0
 HasKind tables table = is_of_kind table (rows_in table tables) ≡ true
+
+-- rows, and those behind them where there are any
+abbrev pub rows_behind : Rows → Option Rows → Rows
+rows_behind rows None = rows
+rows_behind rows (Some more) = rows_then rows more
 
 -- the text of a raw table: its rows in the store that are not later than the date
 abbrev pub raw_text : Mapping → List TableRows → TableId → ℕ → List ℕ

@@ -70,3 +70,12 @@ what_of mapping word =
 -- what this stage offers: the marts of feeds, the periods of feeds with a driver, and the raw tables
 abbrev pub offered_what : Mapping → List ℕ → Option What
 offered_what mapping word = first_of (feed_word mapping word ∷ period_word mapping word ∷ table_word mapping word ∷ [])
+
+-- a mart itself; a raw table is none
+abbrev pub if_mart : What → Option What
+if_mart (Table table) = None
+if_mart what = Some what
+
+-- the mart that a word names; a raw table is none
+abbrev pub offered_mart : Mapping → List ℕ → Option What
+offered_mart mapping word = option_and_then if_mart (offered_what mapping word)

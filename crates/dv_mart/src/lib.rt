@@ -13,6 +13,8 @@ mod recorded;
 mod table_texts;
 mod vault_tables;
 mod whats;
+mod whole_tables;
+mod windows_texts;
 
 pub use feed_texts::feed_text;
 pub use mart_faults::{MartFault, too_large};
@@ -24,3 +26,5 @@ pub use table_texts::{
     status_table_text,
 };
 pub use whats::What;
+pub use whole_tables::whole_table_text;
+pub use windows_texts::windows_text;

@@ -1,10 +1,12 @@
 //! The texts of the raw tables at a date.
 
-ghost use Rattle.std.specs.Prelude.{◌≡◌, ◌∷◌, ◌<◌, ℕ, [], ◌++◌, codes, length, map, slice_get, IfOk, OnOk};
+ghost use Rattle.std.specs.Prelude.{◌≡◌, ◌∷◌, ◌<◌, ℕ, [], ◌++◌, codes, length, map, slice_get, IfOk, IsTrue, OnOk};
 ghost use Rattle.std.specs.Fmt.{decimal};
 ghost use Rattle.dv_catalog.specs.Entries.{Mapping};
+ghost use Rattle.dv_catalog.specs.TableLookups.{is_table_of};
 ghost use Rattle.dv_catalog.specs.Tables.{hub_name};
 ghost use Rattle.dv_records.specs.Vault.{rows_up_to};
+ghost use Rattle.dv_mart.specs.MartTexts as texts;
 ghost use Rattle.dv_mart.specs.MartTexts.{table_text};
 ghost use Rattle.dv_mart.specs.Texts as spec;
 
@@ -85,6 +87,41 @@ fn sat_header(alloc: Global, feed: &FeedDef) -> Result<Fields, Memory>
     Ok(header)
 }
 
+fn status_header(alloc: Global) -> Result<Fields, Memory>
+    ensures { IfOk result (λ header. header ≡ spec.status_table_header) }
+{
+    let mut header = raw_header(alloc)?;
+    header.push(b"status")?;
+    Ok(header)
+}
+
+fn effect_header(alloc: Global) -> Result<Fields, Memory>
+    ensures { IfOk result (λ header. header ≡ spec.effect_table_header) }
+{
+    let mut header = raw_header(alloc)?;
+    header.push(b"begin")?;
+    header.push(b"end")?;
+    Ok(header)
+}
+
+/// The header of a raw table.
+pub(crate) fn table_header(
+    alloc: Global,
+    catalog: &Catalog,
+    table: TableId,
+) -> Result<Fields, Memory>
+    requires { IsTrue (is_table_of catalog.now table) }
+    ensures { IfOk result (λ header. header ≡ texts.table_header catalog.now table) }
+{
+    match table {
+        TableId::Hub(hub) => hub_header(alloc, catalog.hub(hub)),
+        TableId::Link(link) => link_header(alloc, catalog, link),
+        TableId::Sat(feed) | TableId::Multi(feed) => sat_header(alloc, catalog.feed(feed)),
+        TableId::Status(_) => status_header(alloc),
+        TableId::Effect(_) => effect_header(alloc),
+    }
+}
+
 /// The text of a hub's table with its rows that aren't later than a date.
 pub fn hub_table_text(
     alloc: Global,
@@ -143,23 +180,6 @@ pub fn multi_table_text(
 {
     let header = sat_header(alloc, catalog.feed(feed))?;
     rows_text_up_to(alloc, header, rows, date)
-}
-
-fn status_header(alloc: Global) -> Result<Fields, Memory>
-    ensures { IfOk result (λ header. header ≡ spec.status_table_header) }
-{
-    let mut header = raw_header(alloc)?;
-    header.push(b"status")?;
-    Ok(header)
-}
-
-fn effect_header(alloc: Global) -> Result<Fields, Memory>
-    ensures { IfOk result (λ header. header ≡ spec.effect_table_header) }
-{
-    let mut header = raw_header(alloc)?;
-    header.push(b"begin")?;
-    header.push(b"end")?;
-    Ok(header)
 }
 
 /// The text of a status table with its rows that aren't later than a date. Each has the same header,

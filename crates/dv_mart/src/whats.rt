@@ -1,5 +1,6 @@
-ghost use Rattle.std.specs.Prelude.{◌≡◌, IfOk, Some, None, option_map, nat_eq};
+ghost use Rattle.std.specs.Prelude.{◌≡◌, IfOk, IfSome, Some, None, option_map, nat_eq};
 ghost use Rattle.std.specs.List.{starts_with};
+ghost use Rattle.dv_mart.specs.OfferedMarts.{IsOffered};
 ghost use Rattle.dv_mart.specs.Whats as spec;
 
 use dv_catalog::{Catalog, TableId};
@@ -86,6 +87,17 @@ fn table_word(alloc: Global, catalog: &Catalog, word: &Text) -> Result<Option<Wh
     }
 }
 
+// A mart itself; a raw table is none.
+fn if_mart(what: What) -> Option<What>
+    ensures { result ≡ spec.if_mart what }
+{
+    match what {
+        What::Table(_) => None,
+        What::Feed(_) | What::Hub(_) | What::Path(_) => Some(what),
+        What::Period(_) | What::Pit(_) | What::Bridge(_) => Some(what),
+    }
+}
+
 impl What {
     /// What a word names; none where it names nothing that is offered. In this stage the marts of feeds are
     /// offered, as `feed:F`, the periods of feeds with a driver, as `period:F`, and the raw tables, as `table:T`.
@@ -98,6 +110,17 @@ impl What {
         match period_word(alloc, catalog, word)? {
             Some(what) => Ok(Some(what)),
             None => table_word(alloc, catalog, word),
+        }
+    }
+
+    /// What a word names, where it is a mart: a raw table is none.
+    pub fn read_mart(alloc: Global, catalog: &Catalog, word: &Text) -> Result<Option<What>, Memory>
+        ensures mart { IfOk result (λ what. what ≡ spec.offered_mart catalog.now word.now) }
+        ensures offered { IfOk result (λ what. IfSome what (IsOffered catalog.now)) }
+    {
+        match What::read(alloc, catalog, word)? {
+            Some(what) => Ok(if_mart(what)),
+            None => Ok(None),
         }
     }
 }

@@ -1,6 +1,10 @@
 // The marts and tables of an office that has loaded three windows.
 use crate::offices::{Arrival, FIRST, SECOND, THIRD, hold, office, stamp};
-use dv_mart::feed_mart;
+use crate::texts::sat_row;
+use dv_catalog::TableId;
+use dv_mart::{feed_mart, whole_table_text};
+use dv_records::{Rows, SatRow};
+use dv_text::{List, Text};
 use dv_window::Office;
 use std::alloc::Global;
 use std::test::Fail;
@@ -185,5 +189,31 @@ fn a_feed_that_a_window_lacks_is_as_before(rt: HostRuntime) -> Result<(), Fail> 
         let rows = row_count(alloc, &office, feed, date)?;
         assert_eq!(rt; rows, expected, "for {feed} at {date}");
     }
+    Ok(())
+}
+
+// The text of the satellite of customers with all its rows, and behind them this one.
+fn whole_satellite(alloc: Global, office: &Office, row: SatRow) -> Result<Text, Fail> {
+    let mut rows = List::new(alloc);
+    rows.push(row)?;
+    let behind = Rows::Sats(rows);
+    let vault = office.vault();
+    match vault.sat(0) {
+        Some(_) => Ok(whole_table_text(alloc, vault, TableId::Sat(0), Some(&behind))?),
+        None => Err("no satellite")?,
+    }
+}
+
+#[test]
+fn a_whole_table_has_the_rows_behind_those_of_the_vault(rt: HostRuntime) -> Result<(), Fail> {
+    let alloc = rt.alloc();
+    let office = office(&rt, alloc, MAPPING, &WINDOWS[..1])?;
+    let row = sat_row(alloc, SECOND, &["abc"])?;
+    let text = whole_satellite(alloc, &office, row)?;
+    let expected = "hash_key,load_date,record_source,hash_diff,NAME\n\
+         c4ca4238a0b923820dcc509a6f75849b,2024-03-01T02:00:00,crm.customers,900150983cd24fb0d6963f7d28e17f72,abc\n\
+         c81e728d9d4c2f636f067f89cc14862c,2024-03-01T02:00:00,crm.customers,9dd4e461268c8034f5c8564e155c67a6,x\n\
+         c4ca4238a0b923820dcc509a6f75849b,2024-03-02T02:00:00,crm.customers,900150983cd24fb0d6963f7d28e17f72,abc\n";
+    assert_eq!(rt; text.bytes(), expected.as_bytes());
     Ok(())
 }

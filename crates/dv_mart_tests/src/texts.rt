@@ -2,10 +2,10 @@ use dv_catalog::Catalog;
 use dv_mapfile::read_catalog;
 use dv_mart::{
     effect_table_text, feed_text, hub_table_text, link_table_text, multi_table_text, period_text,
-    sat_table_text, status_table_text,
+    sat_table_text, status_table_text, windows_text,
 };
 use dv_records::{Code, EffectRow, HubRow, LinkRow, MultiRow, PeriodRow, SatRow, StatusRow};
-use dv_text::{Digest, Key, List, NRow, Stamp, Text};
+use dv_text::{Digest, Key, List, NRow, Stamp, Text, WindowHead};
 use hex::FromHex;
 use std::alloc::Global;
 use std::test::Fail;
@@ -306,7 +306,8 @@ fn a_link_table_shows_a_missing_key_as_zeros(rt: HostRuntime) -> Result<(), Fail
     Ok(())
 }
 
-fn sat_row(alloc: Global, load: &str, attrs: &[&str]) -> Result<SatRow, Fail> {
+/// A row of the satellite of customers, of the key 1.
+pub(crate) fn sat_row(alloc: Global, load: &str, attrs: &[&str]) -> Result<SatRow, Fail> {
     let parent = digest_of(OF_ONE)?;
     let load = stamp_of(load)?;
     let source = Text::of(alloc, b"crm.customers")?;
@@ -469,6 +470,28 @@ fn an_effectivity_table_shows_begin_and_end(rt: HostRuntime) -> Result<(), Fail>
     let expected = "hash_key,load_date,record_source,begin,end\n\
          c81e728d9d4c2f636f067f89cc14862c,2024-03-01T02:00:00,hr.assignments,2024-03-01T02:00:00,9999-12-31T23:59:59\n\
          c81e728d9d4c2f636f067f89cc14862c,2024-03-02T02:00:00,hr.assignments,2024-03-01T02:00:00,2024-03-02T02:00:00\n";
+    assert_eq!(rt; text.bytes(), expected.as_bytes());
+    Ok(())
+}
+
+fn head_of(alloc: Global, load: &str, feeds: &[u32]) -> Result<WindowHead, Fail> {
+    let load = stamp_of(load)?;
+    let feeds = List::from_vec(feeds.to_vec(alloc)?);
+    Ok(WindowHead { load, feeds })
+}
+
+#[test]
+fn windows_are_written_with_their_states_and_feeds(rt: HostRuntime) -> Result<(), Fail> {
+    let alloc = rt.alloc();
+    let catalog = catalog_of(alloc)?;
+    let first = head_of(alloc, FIRST, &[0])?;
+    let second = head_of(alloc, SECOND, &[0, 1, 2])?;
+    let open = head_of(alloc, THIRD, &[1, 2])?;
+    let text = windows_text(alloc, &catalog, &[first, second], Some(&open))?;
+    let expected = "load_date,state,feeds\n\
+         2024-03-01T02:00:00,sealed,customers\n\
+         2024-03-02T02:00:00,sealed,customers phones placements\n\
+         2024-03-03T02:00:00,open,phones placements\n";
     assert_eq!(rt; text.bytes(), expected.as_bytes());
     Ok(())
 }

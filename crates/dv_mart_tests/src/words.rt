@@ -123,6 +123,11 @@ fn words_name_the_marts_and_periods_of_feeds_and_the_raw_tables(
     ] {
         let word = Text::of(alloc, word.as_bytes())?;
         assert_eq!(rt; What::read(alloc, &catalog, &word)?, expected);
+        let mart = match expected {
+            Some(What::Table(_)) => None,
+            what => what,
+        };
+        assert_eq!(rt; What::read_mart(alloc, &catalog, &word)?, mart);
     }
     Ok(())
 }
