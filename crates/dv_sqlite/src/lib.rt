@@ -1,0 +1,32 @@
+//! A keeper over one SQLite file. The rows of each kind stand in one table, in the order in which they came, with the
+//! columns of the printed tables, and a directory says which of them are a raw table's. Beside them stand the sealed
+//! windows, the mapping file, the open window as one value, and a view for people over each raw table.
+#![tactic(auto)]
+
+mod batches;
+mod cells;
+mod columns;
+mod dates;
+mod effects;
+mod encodings;
+mod files;
+mod hubs;
+mod keeper;
+mod kind_tables;
+mod kinds;
+mod links;
+mod multis;
+mod raw_views;
+mod refusals;
+mod sats;
+mod schemas;
+mod singles;
+mod statements;
+mod statuses;
+mod tables;
+mod values;
+mod view_names;
+mod view_texts;
+mod windows;
+
+pub use keeper::SqliteKeeper;
