@@ -1,10 +1,10 @@
-pub mod Endings
-pub mod Given
+pub mod Kept
 pub mod Lines
-pub mod Loadings
-pub mod NullKeepers
-pub mod Readings
+pub mod Openings
+pub mod Queries
+pub mod Replies
 pub mod Run
-pub mod Says
-pub mod Tried
+pub mod Stops
+pub mod Takings
 pub mod Words
+pub mod Works

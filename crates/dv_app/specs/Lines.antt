@@ -1,30 +1,36 @@
--- The texts that a command writes to standard error whatever it is given, and the name of the mapping's file.
-use Rattle.std.specs.Prelude.{ℕ, List, codes}
-
--- the name of the mapping's file
-abbrev pub mapping_file : List ℕ
-mapping_file = codes "mapping.toml"
-
--- the program's name, and behind it what a query breaks
-abbrev pub program_front : List ℕ
-program_front = codes "vaultdesk: "
+-- The texts that a command on the vault that is kept writes to standard error.
+use Rattle.std.specs.Prelude.{ℕ, List, ◌++◌, codes}
+use Rattle.std.specs.Fmt.{decimal}
+use Rattle.dv_records.specs.declared.answers.Damage.{Damage}
+use Rattle.dv_outside.specs.Ends.{line_of}
 
 -- the line where the words are no command
 abbrev pub usage_line : List ℕ
 usage_line = codes "vaultdesk: usage\n"
 
--- the line where memory ran out
-abbrev pub memory_line : List ℕ
-memory_line = codes "vaultdesk: out of memory\n"
+-- the last line where no mapping is stored, and where another one is stored than the file's
+abbrev pub none_line : List ℕ
+none_line = codes "vaultdesk: mapping none\n"
 
--- what stands before the name of a file that is absent
-abbrev pub absent_front : List ℕ
-absent_front = codes "vaultdesk: absent "
+abbrev pub differs_line : List ℕ
+differs_line = codes "vaultdesk: mapping differs\n"
 
--- what stands before the name of a file that could not be read
-abbrev pub read_fault_front : List ℕ
-read_fault_front = codes "vaultdesk: read fault "
+-- the last line where the keeper failed
+abbrev pub keeper_line : List ℕ
+keeper_line = codes "vaultdesk: keeper fault\n"
 
--- what stands before the fault of a mapping
-abbrev pub mapping_front : List ℕ
-mapping_front = codes "vaultdesk: mapping "
+-- the last line where the store is damaged: the table, the row and the rule of form
+abbrev pub damaged_line : Damage → List ℕ
+damaged_line damage =
+    line_of (codes "vaultdesk: damaged ") (damage.table ++ codes " " ++ decimal damage.row ++ codes " F" ++ decimal damage.rule)
+
+-- the lines of a mapping that is stored, and of one that was
+abbrev pub stored_line : List ℕ
+stored_line = codes "init: Stored\n"
+
+abbrev pub kept_line : List ℕ
+kept_line = codes "init: Kept\n"
+
+-- the line of an open window that is completed, with the number of its rows
+abbrev pub resumed_line : ℕ → List ℕ
+resumed_line rows = line_of (codes "resume: Loaded ") (decimal rows)

@@ -1,22 +1,104 @@
 -- What the words of the command line ask for.
-use Rattle.std.specs.Prelude.{◌≡◌, ℕ, Bool, List, ◌∷◌, Option, Some, None, codes, if◌then◌else◌}
+use Rattle.std.specs.List.{list_any}
+use Rattle.std.specs.Prelude.{ℕ, ◌==◌, ◌+◌, Bool, false, List, [], ◌∷◌, ◌++◌, Option, Some, None, codes, drop, position, take, if◌then◌else◌}
 use Rattle.std.specs.Str.{bytes_eq}
-use Rattle.dv_app.specs.declared.words.Asked.{Asked}
+use Rattle.dv_app.specs.declared.words.KeptCommand.{KeptCommand as Given}
+use Rattle.dv_app.specs.declared.words.KeptCommand.TheVariants as given
+use Rattle.dv_app.specs.declared.words.Parts.{Parts}
+use Rattle.dv_app.specs.declared.words.Command.{Command as Parsed}
+use Rattle.dv_app.specs.declared.words.Command.TheVariants as parsed
+
+-- a command on the vault that is kept
+pub data KeptCommand : Type 0 where
+  -- the mapping's file is stored
+  Init : KeptCommand
+  -- the window of a manifest is loaded
+  Load : (manifest : List ℕ) → KeptCommand
+  -- the open window is completed
+  Resume : KeptCommand
+  -- the mart of a word, at a date
+  Mart : (what date : List ℕ) → KeptCommand
+  -- the raw table of a name, with all its rows
+  Table : (name : List ℕ) → KeptCommand
+  -- the sealed windows and the open one
+  Windows : KeptCommand
 
 pub data Command : Type 0 where
-  -- the mart of a word, at a date, over the windows of manifests
+  -- the mart of a word, at a date, over the windows of manifests alone
   Tries : (what date : List ℕ) → (manifests : List (List ℕ)) → Command
-  -- no command
+  OnKeeper : (command : KeptCommand) → Command
   NoCommand : Command
 
-abbrev pub tries_if : Bool → List ℕ → List ℕ → List (List ℕ) → Command
-tries_if is_try what date manifests = if is_try then Tries what date manifests else NoCommand
+-- ---- the words behind the first one
 
--- exactly `try`, what is wanted, a date, and one or more manifests
+-- a word begins with `-`
+abbrev pub is_dashed : List ℕ → Bool
+is_dashed [] = false
+is_dashed (byte ∷ bytes) = byte == 45
+
+-- words, unless one of those in front begins with `-`: no command has an option
+abbrev pub unless_dashed : List (List ℕ) → List (List ℕ) → Option (List (List ℕ))
+unless_dashed front words = if list_any is_dashed front then None else Some words
+
+abbrev pub positionals_by : List (List ℕ) → Option ℕ → Option (List (List ℕ))
+positionals_by words None = unless_dashed words words
+positionals_by words (Some at) = unless_dashed (take at words) (take at words ++ drop (at + 1) words)
+
+-- the words without the first `--`; none where a word before it begins with `-`
+abbrev pub positionals : List (List ℕ) → Option (List (List ℕ))
+positionals words = positionals_by words (position (λ word. bytes_eq word (codes "--")) words)
+
+-- ---- the commands, by how many words they take
+
+abbrev pub bare : List ℕ → Command
+bare word =
+    if bytes_eq word (codes "init") then OnKeeper Init
+    else (if bytes_eq word (codes "resume") then OnKeeper Resume
+    else (if bytes_eq word (codes "windows") then OnKeeper Windows else NoCommand))
+
+abbrev pub with_one : List ℕ → List ℕ → Command
+with_one word name =
+    if bytes_eq word (codes "load") then OnKeeper (Load name)
+    else (if bytes_eq word (codes "table") then OnKeeper (Table name) else NoCommand)
+
+abbrev pub with_two : List ℕ → List ℕ → List ℕ → Command
+with_two word what date = if bytes_eq word (codes "mart") then OnKeeper (Mart what date) else NoCommand
+
+abbrev pub with_more : List ℕ → List ℕ → List ℕ → List (List ℕ) → Command
+with_more word what date manifests = if bytes_eq word (codes "try") then Tries what date manifests else NoCommand
+
+-- what a first word and the words behind it ask for
+abbrev pub command : List ℕ → List (List ℕ) → Command
+command word [] = bare word
+command word (name ∷ []) = with_one word name
+command word (what ∷ date ∷ []) = with_two word what date
+command word (what ∷ date ∷ manifest ∷ manifests) = with_more word what date (manifest ∷ manifests)
+
+abbrev pub command_if : List ℕ → Option (List (List ℕ)) → Command
+command_if word None = NoCommand
+command_if word (Some behind) = command word behind
+
+-- what the words ask for
 abbrev pub asked : List (List ℕ) → Command
-asked (word ∷ what ∷ date ∷ manifest ∷ manifests) = tries_if (bytes_eq word (codes "try")) what date (manifest ∷ manifests)
-asked words = NoCommand
+asked [] = NoCommand
+asked (word ∷ words) = command_if word (positionals words)
 
-abbrev pub IsAsked : Option Asked → List (List ℕ) → Type 0
-IsAsked None words = asked words ≡ NoCommand
-IsAsked (Some a) words = asked words ≡ Tries a.what.now a.date.now a.manifests.now
+-- the same of words that were parted
+abbrev pub command_in : Option Parts → Command
+command_in None = NoCommand
+command_in (Some parts) = command parts.first parts.behind
+
+-- ---- the command, as the code has it
+
+abbrev pub kept_of : Given → KeptCommand
+kept_of given.Init = Init
+kept_of (given.Load manifest) = Load manifest.now
+kept_of given.Resume = Resume
+kept_of (given.Mart what date) = Mart what.now date.now
+kept_of (given.Table name) = Table name.now
+kept_of given.Windows = Windows
+
+abbrev pub command_of : Option Parsed → Command
+command_of None = NoCommand
+command_of (Some (parsed.Try a)) = Tries a.what.now a.date.now a.manifests.now
+command_of (Some (parsed.OnKeeper kept)) = OnKeeper (kept_of kept)

@@ -1,15 +1,16 @@
 //! The commands of the program, and `run`, the top call.
 #![tactic(auto)]
 
-mod arrivals;
-mod checks;
-mod endings;
+mod inits;
+mod kept;
 mod lines;
-mod null_keepers;
-mod reads;
-mod takings;
+mod loads;
+mod openings;
+mod queries;
+mod replies;
+mod resumes;
+mod stops;
 mod top;
-mod tries;
 mod words;
 
 pub use dv_digest::Md5Keys;

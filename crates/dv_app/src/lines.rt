@@ -1,15 +1,19 @@
-// The fixed parts of the lines that a command writes to standard error, and the mapping file's name.
+// The fixed parts of the lines that a command on what is kept writes to standard error.
 
 pub(crate) const MEMORY: &[u8] = b"vaultdesk: out of memory\n";
 
 pub(crate) const USAGE: &[u8] = b"vaultdesk: usage\n";
 
-pub(crate) const ABSENT: &[u8] = b"vaultdesk: absent ";
+pub(crate) const MAPPING_NONE: &[u8] = b"vaultdesk: mapping none\n";
 
-pub(crate) const READ_FAULT: &[u8] = b"vaultdesk: read fault ";
+pub(crate) const MAPPING_DIFFERS: &[u8] = b"vaultdesk: mapping differs\n";
 
-pub(crate) const MAPPING_NAME: &[u8] = b"mapping.toml";
+pub(crate) const KEEPER_FAULT: &[u8] = b"vaultdesk: keeper fault\n";
 
-pub(crate) const MAPPING_REFUSED: &[u8] = b"vaultdesk: mapping ";
+pub(crate) const DAMAGED: &[u8] = b"vaultdesk: damaged ";
 
-pub(crate) const PROGRAM: &[u8] = b"vaultdesk: ";
+pub(crate) const INIT_STORED: &[u8] = b"init: Stored\n";
+
+pub(crate) const INIT_KEPT: &[u8] = b"init: Kept\n";
+
+pub(crate) const RESUME_LOADED: &[u8] = b"resume: Loaded ";

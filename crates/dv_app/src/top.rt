@@ -1,18 +1,26 @@
 ghost use Rattle.std.specs.Prelude.{◌≡◌, ◌≤◌, map, string_bytes};
+ghost use Rattle.dv_outside.specs.declared.statuses.Status.TheVariants as statuses;
 ghost use Rattle.dv_text.specs.Keys.{hashes_of};
-ghost use Rattle.dv_app.specs.Run.{IsCaused, NoFault, RunCompletes, RunSays};
+ghost use Rattle.dv_app.specs.Kept.{IsStanding};
+ghost use Rattle.dv_app.specs.Run.{IsApart, IsRunCause, NoFault, RunCompletes, RunSays};
+ghost use Rattle.dv_app.specs.Words.{asked};
 
+use crate::kept::reply_to;
 use crate::lines::{MEMORY, USAGE};
-use crate::tries::try_command;
-use crate::words::{asked_of, texts};
+use crate::replies::say;
+use crate::words::{Command, asked_command, parts_of};
 use dv_outside::{Folder, Gate, Sink, Status, end};
 use dv_records::Keeper;
 use dv_text::{KeyDigest, Memory};
+use dv_try::try_command;
 use std::alloc::Global;
 
 /// The top call: all that the program does. It takes the words of the command line without the program's
-/// name, writes texts to `out` and lines to `err`, and answers the program's exit status. The command of
-/// this stage is `try WHAT DATE MANIFEST...`; it keeps nothing, and leaves the keeper that is handed in.
+/// name, writes texts to `out` and lines to `err`, and answers the program's exit status.
+///
+/// `init` stores the mapping's file in the keeper, `load MANIFEST` gives a window to what is kept, `resume` completes one
+/// that broke off, and `mart WHAT DATE`, `table NAME` and `windows` write texts of it. `try WHAT DATE MANIFEST...` keeps
+/// nothing, and leaves the keeper.
 pub fn run<F: Folder, K: Keeper, O: Sink, E: Sink, H: KeyDigest, G: Gate>(
     alloc: Global,
     words: &[String],
@@ -23,33 +31,45 @@ pub fn run<F: Folder, K: Keeper, O: Sink, E: Sink, H: KeyDigest, G: Gate>(
     digest: &H,
     gate: &G,
 ) -> Status
-    // What is written, and the status, by what the words ask for.
-    ensures says { RunSays (map string_bytes words.now) (hashes_of H.digest_of H.size) (F.files folder.old)
+    // What is written, what the keeper has then, and the status, by what the words ask for.
+    ensures says { RunSays (map string_bytes words.now) (hashes_of H.digest_of H.size) H.size (F.files folder.old)
         (record { folder_before = F.faults folder.old; folder = F.faults folder.new; out_before = O.faults out.old; out = O.faults out.new; err_before = E.faults err.old; err = E.faults err.new })
+        (record { before = K.store keeper.old; after = K.store keeper.new; faults_before = K.faults keeper.old; faults = K.faults keeper.new })
         (record { out_old = O.contents out.old; out = O.contents out.new; err_old = E.contents err.old; err = E.contents err.new }) result }
 
     // With no fault and memory enough, it is what the definitions say.
     ensures complete { NoFault (F.faults folder.old) (F.faults folder.new) → NoFault (O.faults out.old) (O.faults out.new) → NoFault (E.faults err.old) (E.faults err.new)
-        → (result ≡ Status.Memory → ⊥) → RunCompletes (map string_bytes words.now) (hashes_of H.digest_of H.size) (F.files folder.old)
+        → NoFault (K.faults keeper.old) (K.faults keeper.new) → (result ≡ statuses.Memory → ⊥) → RunCompletes (map string_bytes words.now) (hashes_of H.digest_of H.size) H.size (F.files folder.old)
+        (record { before = K.store keeper.old; after = K.store keeper.new; faults_before = K.faults keeper.old; faults = K.faults keeper.new })
         (record { out_old = O.contents out.old; out = O.contents out.new; err_old = E.contents err.old; err = E.contents err.new }) result }
 
     // Each status has its cause, and its line, whatever the objects tell of their contents.
-    ensures causes { IsCaused (map string_bytes words.now)
+    ensures causes { IsRunCause (map string_bytes words.now)
         (record { folder_before = F.faults folder.old; folder = F.faults folder.new; out_before = O.faults out.old; out = O.faults out.new; err_before = E.faults err.old; err = E.faults err.new })
-        (E.contents err.old) (E.contents err.new) result }
+        (record { before = K.store keeper.old; after = K.store keeper.new; faults_before = K.faults keeper.old; faults = K.faults keeper.new })
+        (record { out_old = O.contents out.old; out = O.contents out.new; err_old = E.contents err.old; err = E.contents err.new }) result }
 
-    // The keeper is untouched, and so are the folder's files; no count falls.
-    ensures untouched { keeper.new ≡ keeper.old }
+    // A store that stands for a state is never called damaged.
+    ensures sound { result ≡ statuses.Damaged → IsStanding (hashes_of H.digest_of H.size) (K.store keeper.old) → ⊥ }
+
+    // A command that keeps nothing leaves the keeper; the folder's files are as they were; no count falls.
+    ensures untouched { IsApart (asked (map string_bytes words.now)) → keeper.new ≡ keeper.old }
     ensures kept { F.files folder.new ≡ F.files folder.old }
     ensures later_in { F.faults folder.old ≤ F.faults folder.new }
+    ensures later_keeper { K.faults keeper.old ≤ K.faults keeper.new }
     ensures later_out { (O.faults out.old ≤ O.faults out.new) × (E.faults err.old ≤ E.faults err.new) }
 {
-    let words = match texts(alloc, words) {
-        Ok(words) => words,
+    let parts = match parts_of(alloc, words) {
+        Ok(Some(parts)) => parts,
+        Ok(None) => return end(err, USAGE, Status::Usage),
         Err(Memory) => return end(err, MEMORY, Status::Memory),
     };
-    match asked_of(words.items()) {
+    match asked_command(parts.first.bytes(), parts.behind.items()) {
         None => end(err, USAGE, Status::Usage),
-        Some(asked) => try_command(alloc, &asked, folder, out, err, digest, gate),
+        Some(Command::Try(asked)) => try_command(alloc, &asked, folder, out, err, digest, gate),
+        Some(Command::OnKeeper(command)) => {
+            let reply = reply_to(alloc, &command, folder, keeper, digest, gate);
+            say(&reply, out, err)
+        }
     }
 }

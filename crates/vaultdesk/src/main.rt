@@ -1,11 +1,11 @@
-// The program: it makes the real folder, keeper and streams, runs the command of its words, and ends with
-// the command's status.
+// The program: it makes the real folder and streams and the keeper over `vault.db`, runs the command of its words,
+// and ends with the command's status.
 #![tactic(auto)]
 
 use dv_app::{Md5Keys, run};
-use dv_outside::{OpenGate, RealErr, RealFolder, RealOut};
-use dv_records::MemoryKeeper;
-use dv_text::List;
+use dv_outside::{OpenGate, RealErr, RealFolder, RealOut, Status};
+use dv_sqlite::SqliteKeeper;
+use dv_text::Text;
 use std::env;
 use std::process::ExitCode;
 
@@ -23,10 +23,14 @@ fn main(rt: HostRuntime) -> ExitCode {
     let alloc = rt.alloc();
     // Words that can't be read are no command, as no words are.
     let words = words(&rt).unwrap_or(Vec::new(alloc));
+    // The file is opened at the first call that a command makes of the keeper.
+    let Ok(path) = Text::of(alloc, b"vault.db") else {
+        return ExitCode::from(Status::Memory as u8);
+    };
+    let mut keeper = SqliteKeeper::new(rt, path);
     let mut out = RealOut::new(rt.stdout());
     let mut err = RealErr::new(rt.stderr());
     let mut folder = RealFolder::new(rt);
-    let mut keeper = MemoryKeeper::new(alloc, List::new(alloc));
     let status = run(
         alloc,
         &words,

@@ -1,0 +1,25 @@
+use Rattle.dv_try.proofs.Vocabulary.{err_from_is_err_and, hashes_of, ◌∙◌}
+use Rattle.dv_app.proofs.ShutStores.{start_shut, start_sound}
+use Rattle.dv_app.proofs.openings.open_office.Goals as goal
+
+pub returns-in_err-office-clause-shut : goal.returns-in_err-office-clause-shut
+returns-in_err-office-clause-shut g c =
+    let p = err_from_is_err_and c.from_residual.result c.from_residual.ensures.1 in
+    rw (p.1, p.2) (start_shut (hashes_of g.H.KeyDigest.digest_of g.H.KeyDigest.size) g.H.KeyDigest.size (g.K.Keeper.store c.args.keeper.now) _ c.in_err-office.ensures.none c.in_err-office.ensures.damaged)
+
+pub returns-in_err-office-clause-sound : goal.returns-in_err-office-clause-sound
+returns-in_err-office-clause-sound g c =
+    let p = err_from_is_err_and c.from_residual.result c.from_residual.ensures.1 in
+    rw (p.1, p.2) (start_sound (hashes_of g.H.KeyDigest.digest_of g.H.KeyDigest.size) g.H.KeyDigest.size (g.K.Keeper.store c.args.keeper.now) _ c.in_err-office.ensures.undamaged)
+
+pub returns-clause-ok : goal.returns-clause-ok
+returns-clause-ok g c = record {
+  opened = λ s told. record {
+    mapped = (c.in_ok-office.ensures.agrees s (c.in_ok-office.ensures.store ∙ told)).mapped;
+    built = c.catalog-catalog.ensures.built;
+    in_form = c.in_ok-office.ensures.in_form s told;
+  };
+  agrees = λ s told. c.in_ok-office.ensures.agrees s (c.in_ok-office.ensures.store ∙ told);
+  fresh = c.in_ok-office.ensures.fresh;
+  stands = λ s told state stands dates. c.in_ok-office.ensures.stands state s told dates stands;
+}

@@ -1,0 +1,6 @@
+use Rattle.dv_try.proofs.Vocabulary.{refl}
+use Rattle.dv_app.proofs.ReplySteps.{line_ends}
+use Rattle.dv_app.proofs.replies.say.Goals as goal
+
+pub returns-in-Memory-clause-says : goal.returns-in-Memory-clause-says
+returns-in-Memory-clause-says g c = λ before now. rw c.in-Memory.is (line_ends _ _ _ _ _ refl c.end-in-Memory.ensures.says)

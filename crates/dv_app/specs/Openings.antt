@@ -1,0 +1,14 @@
+-- An office that is opened over what is kept.
+use Rattle.std.specs.Prelude.{◌≡◌, ℕ, false, Option}
+use Rattle.dv_text.specs.Keys.{Hashes}
+use Rattle.dv_text.specs.Told.{Told}
+use Rattle.dv_records.specs.declared.stores.Store.{Store}
+use Rattle.dv_window.specs.Offices.{Agrees, Held, StandsFor}
+use Rattle.dv_app.specs.Kept.{InEach, IsOpenedBy}
+
+-- the office is that of the store, where this is told, and of each state that it stands for
+pub record IsOpen (hashes : Hashes) (width : ℕ) (told : Option Store) (office : Held) : Type 0 where
+  pub opened : Told told (λ s. IsOpenedBy hashes width s office.vault.mapping)
+  pub agrees : Told told (Agrees office)
+  pub fresh : office.stale ≡ false
+  pub stands : Told told (λ s. InEach office.vault.mapping hashes s (λ state. StandsFor hashes state office))

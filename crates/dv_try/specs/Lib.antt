@@ -1,0 +1,9 @@
+pub mod Causes
+pub mod Endings
+pub mod Given
+pub mod Lines
+pub mod Loadings
+pub mod NullKeepers
+pub mod Readings
+pub mod Says
+pub mod Tried
