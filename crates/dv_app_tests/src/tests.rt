@@ -1,12 +1,14 @@
 use dv_app::{Md5Keys, run};
 use dv_outside::{MemoryFolder, MemorySink, NamedFile, OpenGate, Status};
-use dv_records::MemoryKeeper;
+use dv_records::{Fail as KeeperFail, Keeper, MemoryKeeper};
 use dv_text::{KeyDigest, List, Memory, Text};
 use std::alloc::Global;
 use std::process::Abort;
 use std::str;
 use std::test::Fail;
 
+mod breaks;
+mod commands;
 mod ends;
 mod large;
 mod mappings;
@@ -14,6 +16,7 @@ mod marts;
 mod periods;
 mod phones;
 mod rules;
+mod stores;
 
 /// A trial: the words, the files of the folder, and what has to come of it.
 #[derive(Clone, Copy)]
@@ -77,7 +80,33 @@ fn texts(alloc: Global, words: &[&str]) -> Result<Vec<String>, Memory> {
     Ok(all)
 }
 
-// Runs the words over files, under a digest, where these calls fail.
+// Runs the words over files and a keeper, under a digest, where these calls fail.
+fn run_on<K: Keeper, H: KeyDigest>(
+    alloc: Global,
+    words: &[&str],
+    files: List<NamedFile>,
+    keeper: &mut K,
+    faults: Faults,
+    digest: &H,
+) -> Result<Heard, Memory> {
+    let mut folder = MemoryFolder::new(files, numbers(alloc, faults.reads)?);
+    let mut out = MemorySink::new(alloc, 4_000, numbers(alloc, faults.out)?)?;
+    let mut err = MemorySink::new(alloc, 4_000, numbers(alloc, faults.err)?)?;
+    let texts = texts(alloc, words)?;
+    let status = run(
+        alloc,
+        texts.as_slice(),
+        &mut folder,
+        keeper,
+        &mut out,
+        &mut err,
+        digest,
+        &OpenGate,
+    );
+    Ok(Heard { out, err, status })
+}
+
+// Runs the words over files and an empty keeper.
 fn run_over<H: KeyDigest>(
     alloc: Global,
     words: &[&str],
@@ -85,22 +114,8 @@ fn run_over<H: KeyDigest>(
     faults: Faults,
     digest: &H,
 ) -> Result<Heard, Memory> {
-    let mut folder = MemoryFolder::new(files, numbers(alloc, faults.reads)?);
-    let mut out = MemorySink::new(alloc, 4_000, numbers(alloc, faults.out)?)?;
-    let mut err = MemorySink::new(alloc, 4_000, numbers(alloc, faults.err)?)?;
     let mut keeper = MemoryKeeper::new(alloc, List::new(alloc));
-    let words = texts(alloc, words)?;
-    let status = run(
-        alloc,
-        words.as_slice(),
-        &mut folder,
-        &mut keeper,
-        &mut out,
-        &mut err,
-        digest,
-        &OpenGate,
-    );
-    Ok(Heard { out, err, status })
+    run_on(alloc, words, files, &mut keeper, faults, digest)
 }
 
 // What a sink has, as text.
@@ -122,5 +137,40 @@ fn hold(rt: &impl Abort, alloc: Global, cases: &[Case]) -> Result<(), Memory> {
         let heard = run_over(alloc, case.words, files, NO_FAULTS, &Md5Keys)?;
         is_heard(rt, &heard, case.out, case.err, case.status);
     }
+    Ok(())
+}
+
+// The cases one after another, over one keeper.
+fn play<K: Keeper, H: KeyDigest>(
+    rt: &impl Abort,
+    alloc: Global,
+    cases: &[Case],
+    keeper: &mut K,
+    digest: &H,
+) -> Result<(), Memory> {
+    for case in cases {
+        let files = files(alloc, case.files)?;
+        let heard = run_on(alloc, case.words, files, keeper, NO_FAULTS, digest)?;
+        is_heard(rt, &heard, case.out, case.err, case.status);
+    }
+    Ok(())
+}
+
+// The cases one after another, over one keeper in memory where these calls fail, under MD5. The keeper is given back.
+fn kept(
+    rt: &impl Abort,
+    alloc: Global,
+    cases: &[Case],
+    fails: &[KeeperFail],
+) -> Result<MemoryKeeper, Memory> {
+    let fails = List::from_vec(Vec::from_slice(alloc, fails)?);
+    let mut keeper = MemoryKeeper::new(alloc, fails);
+    play(rt, alloc, cases, &mut keeper, &Md5Keys)?;
+    Ok(keeper)
+}
+
+// The same, where no call fails.
+fn follow(rt: &impl Abort, alloc: Global, cases: &[Case]) -> Result<(), Memory> {
+    kept(rt, alloc, cases, &[])?;
     Ok(())
 }
