@@ -17,10 +17,11 @@ import shutil
 import subprocess
 import sys
 import tempfile
-import threading
-import time
 
 HERE = pathlib.Path(__file__).resolve().parent
+sys.path.insert(0, str(HERE.parent))
+from runs import built_program, head, row, run  # noqa: E402
+
 TOP = HERE.parent.parent
 WINDOWS = 4
 MANIFESTS = [f"w{number}.toml" for number in range(1, WINDOWS + 1)]
@@ -30,12 +31,6 @@ TUNED = ["hugetlb=1", "mxfast=0", "trim_threshold=4000000000", "mmap_threshold=4
 
 # Our runs, by what each adds to the environment.
 OURS = {"ours": {}, "ours_tuned": {"GLIBC_TUNABLES": ":".join(f"glibc.malloc.{setting}" for setting in TUNED)}}
-
-
-def built_program():
-    """The repository's program; the script vaultdesk builds it where a source is newer."""
-    subprocess.run([TOP / "vaultdesk"], stdin=subprocess.DEVNULL, stderr=subprocess.DEVNULL)
-    return TOP / "crates/vaultdesk/out/vaultdesk"
 
 
 class Orders:
@@ -88,39 +83,6 @@ def count_records(data):
 
 def last_date(data):
     return (data / MANIFESTS[-1]).read_text().split('"')[1]
-
-
-def watch(pid, peak):
-    """Keeps the most memory that a process ever had, in kB, until it is gone."""
-    while True:
-        try:
-            lines = pathlib.Path(f"/proc/{pid}/status").read_text().splitlines()
-        except OSError:
-            return
-        found = [int(line.split()[1]) for line in lines if line.startswith("VmHWM:")]
-        if not found:
-            return
-        peak[0] = max(peak[0], found[0])
-        time.sleep(0.004)
-
-
-def run(command, folder, out, settings=None):
-    """Seconds, processor seconds, kB at the peak, and the lines of standard error."""
-    start, peak = time.perf_counter(), [0]
-    with open(out, "wb") as text, tempfile.TemporaryFile("w+") as lines:
-        env = os.environ | (settings or {})
-        process = subprocess.Popen(command, cwd=folder, env=env, stdin=subprocess.DEVNULL, stdout=text, stderr=lines)
-        watcher = threading.Thread(target=watch, args=(process.pid, peak))
-        watcher.start()
-        _, status, used = os.wait4(process.pid, 0)
-        taken = time.perf_counter() - start
-        process.returncode = os.waitstatus_to_exitcode(status)
-        watcher.join()
-        lines.seek(0)
-        said = lines.read()
-    if process.returncode != 0:
-        raise SystemExit(f"{command[0]} ended with {process.returncode}: {said}")
-    return taken, used.ru_utime + used.ru_stime, peak[0], said.splitlines()
 
 
 def run_ours(program, settings, feed, data, mart):
@@ -180,14 +142,9 @@ def best(runs):
     return min(taken), min(used), max(peaks)
 
 
-def row(cells):
-    print(f"| {' | '.join(cells)} |")
-
-
 def show(unit, found):
     """The rates and peaks of each size, and how much longer a record takes at one size than at the one before."""
-    row([unit, "records", "who", "seconds", "processor s", "records a second", "ours takes, times", "peak, MB", "ours has, times", "growth"])
-    print("|" + "---|" * 10)
+    head([unit, "records", "who", "seconds", "processor s", "records a second", "ours takes, times", "peak, MB", "ours has, times", "growth"])
     before = {}
     for size, (records, by_name) in found.items():
         ours, _, our_peak = by_name["ours"]
