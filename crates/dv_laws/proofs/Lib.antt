@@ -1,5 +1,4 @@
 pub mod Ascending
-pub mod CellLoads
 pub mod EffectsTell
 pub mod HeaderSteps
 pub mod HubReconstruct

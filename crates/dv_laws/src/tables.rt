@@ -1,6 +1,6 @@
 ghost use Rattle.dv_laws.specs.EffectPeriods.{EffectsTell, SinceTells};
 ghost use Rattle.dv_laws.specs.Laws.{HubHolds, LinkHolds};
-ghost use Rattle.dv_laws.specs.PointInTime.{MultiCellsTell, SatCellsTell};
+ghost use Rattle.dv_laws.specs.PointInTime.{MultiCellsTell, PitsTell, SatCellsTell};
 ghost use Rattle.dv_laws.specs.Reconstruction.{DeliveredTells, FeedTells, KeysTell, MultiFeedTells, MultiTells, PeriodsTell, SatTells, StatusTells, VaultTells};
 
 /// A hub's table holds the keys that windows bring: each row is of such a key, and each such key has a row.
@@ -37,6 +37,13 @@ pub fn vault_tells()
 pub fn cells_tell()
     ensures sat { SatCellsTell }
     ensures multi { MultiCellsTell }
+{}
+
+/// What the raw tables of the vault say of a hub at a date is the point-in-time table of the sealed windows: a row for each
+/// key that a window up to the date brings, and in it for each feed of the hub the load date of the satellite rows that are
+/// valid then, and whether the feed's content has the key.
+pub fn pits_tell()
+    ensures { PitsTell }
 {}
 
 /// The periods that a feed's effectivity rows tell at a date are the rows of its period mart, by hash key, and

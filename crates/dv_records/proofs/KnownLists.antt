@@ -94,7 +94,7 @@ module _ (mapping : Mapping) (hashes : Hashes) (sealed : List Window) (whole : l
       let (window, there, is) = filter_map_member (extract_of feed) sealed extract has in
       rows_at mapping window (passes_at (is_window mapping) sealed window whole there) feed extract is definition at
 
-  delivered_known : (refs : List Key) → Contains (delivered_refs feed sealed) refs → is_known mapping definition.parent (reverse sealed) refs ≡ true
+  pub delivered_known : (refs : List Key) → Contains (delivered_refs feed sealed) refs → is_known mapping definition.parent (reverse sealed) refs ≡ true
   delivered_known refs has =
       let (extract, member, within) = flat_map_member (λ (extract : Extract). all_refs extract.rows) (history feed sealed) refs has in
       let (row, row_in, same) = map_member (λ (row : NRow). row.refs) extract.rows refs within in

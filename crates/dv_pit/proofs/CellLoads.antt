@@ -1,8 +1,8 @@
 -- The load date of a point-in-time cell is that of the satellite rows that are valid at its date.
-use Rattle.dv_laws.proofs.Vocabulary.{option_map, Contains, find, ◌&&◌, nat_le, ◌≡◌, ◌↔◌, ℕ, ◌==◌, Bool, true, false, List, ◌∷◌, Option, Some, None, refl, sym, ◌∙◌, ap, reverse, inl, inr, bytes_eq, and_from, and_parts, eq-eqb, eqb-true, false≢true}
-use Rattle.dv_laws.proofs.Vocabulary.{Contains-append_left, Contains-cons_here, Contains-cons_there, Contains-map, Contains-nil, filtered_members, reverse_member, refs_eq, refs_eq-Decides, some_passes, some_passes_at, Key, NRow, Window, Hashes, Mapping}
-use Rattle.dv_laws.proofs.Vocabulary.{Extract, IsApart, IsInLoadOrder, IsOnePerSub, SatRow, MultiRow, Multis, Multi, all_refs, appended, apart-reversed, delivered_refs, delivers, feed_rows, history, history-newest_first, history_member, lists_of, source, table_after, up_to}
-use Rattle.dv_laws.proofs.Vocabulary.{IsNewestFirst, multi_batch, multi_cmp, multi_rows, multi_tied, sat_cmp, sat_tied, all_valid_at, loaded_with, HasOneRowPerSub}
+use Rattle.dv_pit.proofs.Vocabulary.{option_map, Contains, find, ◌&&◌, nat_le, ◌≡◌, ◌↔◌, ℕ, ◌==◌, Bool, true, false, List, ◌∷◌, Option, Some, None, refl, sym, ◌∙◌, ap, reverse, inl, inr, bytes_eq, and_from, and_parts, eq-eqb, eqb-true, false≢true}
+use Rattle.dv_pit.proofs.Vocabulary.{Contains-append_left, Contains-cons_here, Contains-cons_there, Contains-map, Contains-nil, filtered_members, reverse_member, refs_eq, refs_eq-Decides, some_passes, some_passes_at, Key, NRow, Window, Hashes, Mapping}
+use Rattle.dv_pit.proofs.Vocabulary.{Extract, IsApart, IsInLoadOrder, IsOnePerSub, SatRow, MultiRow, Multis, Multi, all_refs, appended, apart-reversed, delivered_refs, delivers, feed_rows, history, history-newest_first, history_member, lists_of, source, table_after, up_to}
+use Rattle.dv_pit.proofs.Vocabulary.{IsNewestFirst, multi_batch, multi_cmp, multi_rows, multi_tied, sat_cmp, sat_tied, all_valid_at, loaded_with, HasOneRowPerSub}
 use Rattle.std.specs.Prelude.{if◌then◌else◌}
 use Rattle.std.specs.declared.cmp.Ordering.{Ordering}
 use Rattle.dv_catalog.specs.declared.tables.TableId.TheVariants.{Sat}

@@ -1,0 +1,4 @@
+pub mod CellLoads
+pub mod PitTells
+pub mod UpTo
+pub mod Vocabulary

@@ -1,0 +1,2 @@
+pub mod PitRows
+pub mod PitTables
