@@ -100,9 +100,9 @@ fn have_rows<K: Keeper>(test: &impl Abort, alloc: Global, keeper: &mut K) -> Res
 #[test]
 fn rows_come_back_in_pages(rt: HostRuntime) -> Result<(), Memory> {
     let alloc = rt.alloc();
-    opened(rt, |keeper| put_mapping(&rt, alloc, keeper))??;
-    opened(rt, |keeper| put_rows(&rt, alloc, keeper))??;
-    opened(rt, |keeper| have_rows(&rt, alloc, keeper))?
+    opened(rt, "pages.db", |keeper| put_mapping(&rt, alloc, keeper))??;
+    opened(rt, "pages.db", |keeper| put_rows(&rt, alloc, keeper))??;
+    opened(rt, "pages.db", |keeper| have_rows(&rt, alloc, keeper))?
 }
 
 // The heads of the windows of these numbers.
@@ -165,10 +165,22 @@ fn seal_window(
 fn windows_are_opened_and_sealed(rt: HostRuntime) -> Result<(), Memory> {
     let alloc = rt.alloc();
     for n in [3, 6] {
-        opened(rt, |keeper| open_window(&rt, alloc, keeper, n))??;
-        opened(rt, |keeper| seal_window(&rt, alloc, keeper, n))??;
+        opened(
+            rt,
+            "windows.db",
+            |keeper| open_window(&rt, alloc, keeper, n),
+        )??;
+        opened(
+            rt,
+            "windows.db",
+            |keeper| seal_window(&rt, alloc, keeper, n),
+        )??;
     }
-    opened(rt, |keeper| are_sealed(&rt, alloc, keeper, &[3, 6]))?
+    opened(
+        rt,
+        "windows.db",
+        |keeper| are_sealed(&rt, alloc, keeper, &[3, 6]),
+    )?
 }
 
 fn has_mapping<K: Keeper>(test: &impl Abort, alloc: Global, keeper: &mut K) -> Result<(), Memory> {
@@ -180,6 +192,6 @@ fn has_mapping<K: Keeper>(test: &impl Abort, alloc: Global, keeper: &mut K) -> R
 #[test]
 fn a_text_that_is_no_mapping_is_kept(rt: HostRuntime) -> Result<(), Memory> {
     let alloc = rt.alloc();
-    opened(rt, |keeper| put_mapping(&rt, alloc, keeper))??;
-    opened(rt, |keeper| has_mapping(&rt, alloc, keeper))?
+    opened(rt, "text.db", |keeper| put_mapping(&rt, alloc, keeper))??;
+    opened(rt, "text.db", |keeper| has_mapping(&rt, alloc, keeper))?
 }
