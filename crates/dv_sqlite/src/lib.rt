@@ -1,6 +1,9 @@
 //! A keeper over one SQLite file. The rows of each kind stand in one table, in the order in which they came, with the
 //! columns of the printed tables, and a directory says which of them are a raw table's. Beside them stand the sealed
 //! windows, the mapping file, the open window as one value, and a view for people over each raw table.
+//!
+//! A keeper over a file tells nothing of its store, since the library's contracts tell of it only where the disk never
+//! failed. So the functions here have no clauses but for the count of faults: tests over a file say what it holds.
 #![tactic(auto)]
 
 mod batches;
