@@ -1,6 +1,6 @@
 use dv_catalog::TableId;
 use dv_form::{Read, read_rows};
-use dv_records::{Code, Keeper, KeeperError, Rows, StatusRow};
+use dv_records::{Code, Keeper, KeeperError, Rows, SnapHead, SnapId, SnapTable, StatusRow};
 use dv_text::{Digest, List, Stamp, Text, Window, WindowHead};
 use std::alloc::Global;
 use std::test::Fail;
@@ -68,6 +68,30 @@ impl Keeper for Statuses {
 
     fn seal(&mut self, _alloc: Global, _head: &WindowHead) -> Result<(), KeeperError> {
         Ok(())
+    }
+
+    fn snapshots(&mut self, alloc: Global) -> Result<List<SnapHead>, KeeperError> {
+        Ok(List::new(alloc))
+    }
+
+    fn put_snapshot(
+        &mut self,
+        _alloc: Global,
+        _head: &SnapHead,
+        _tables: &List<SnapTable>,
+    ) -> Result<(), KeeperError> {
+        Ok(())
+    }
+
+    fn snapshot_rows(
+        &mut self,
+        alloc: Global,
+        _date: Stamp,
+        _id: SnapId,
+        _from: u64,
+        _most: u32,
+    ) -> Result<Rows, KeeperError> {
+        Ok(Rows::Pits(List::new(alloc)))
     }
 }
 

@@ -15,6 +15,7 @@ pub mod HubTables
 pub mod KnownLists
 pub mod KnownRefs
 pub mod LastChange
+pub mod LaterWindows
 pub mod LinkTables
 pub mod MultiReadBack
 pub mod MultiReconstruct
@@ -30,8 +31,10 @@ pub mod RowViews
 pub mod RunOrder
 pub mod SatelliteTies
 pub mod SatReconstruct
+pub mod SnapshotOrder
 pub mod StatusReconstruct
 pub mod StatusTies
+pub mod StoredSnapshots
 pub mod ValidWindows
 pub mod VaultRows
 pub mod VaultSteps

@@ -1,12 +1,13 @@
-ghost use Rattle.std.specs.Prelude.{◌≡◌, ◌<◌, ℕ, Option, None, IfOk, IsTrue};
+ghost use Rattle.std.specs.Prelude.{◌≡◌, ◌<◌, ℕ, Option, None, map, IfOk, IsTrue};
 ghost use Rattle.dv_text.specs.Told.{Told};
 ghost use Rattle.dv_records.specs.declared.stores.Store.{Store};
-ghost use Rattle.dv_records.specs.Stores.{is_of_kind, is_well_formed, page, rows_in, with_mapping, with_rows, with_seal, with_stage, IsStagedAt};
+ghost use Rattle.dv_records.specs.Stores.{is_new_snapshot, is_of_kind, is_well_formed, page, rows_in, snapshot_rows, with_mapping, with_rows, with_seal, with_snapshot, with_stage, IsStagedAt};
 ghost use Rattle.dv_records.specs.Changes.{Changes, KeeperCause};
 
+use crate::snapshots::{SnapHead, SnapId, SnapTable};
 use crate::stores::{Rows, Store};
 use dv_catalog::TableId;
-use dv_text::{List, Text, Window, WindowHead};
+use dv_text::{List, Stamp, Text, Window, WindowHead};
 use std::alloc::Global;
 
 /// Why a call of a keeper was not Ok: it failed, or memory ran out.
@@ -80,6 +81,38 @@ pub trait Keeper {
     fn seal(&mut self, alloc: Global, head: &WindowHead) -> Result<(), KeeperError>
         requires { Told (store self.old) (λ s. IsStagedAt head.now.load s.stage) }
         ensures change { Changes (with_seal head.now) (store self.old) (store self.new) result }
+        ensures cause { KeeperCause (faults self.old) (faults self.new) result };
+
+    /// The heads of the stored snapshots, by date.
+    fn snapshots(&mut self, alloc: Global) -> Result<List<SnapHead>, KeeperError>
+        ensures told { IfOk result (λ heads. Told (store self.old) (λ s. heads ≡ map (λ snap. snap.head) s.snapshots)) }
+        ensures kept { store self.new ≡ store self.old }
+        ensures cause { KeeperCause (faults self.old) (faults self.new) result };
+
+    /// Stores a snapshot at a date at which none is stored, with no table twice.
+    fn put_snapshot(
+        &mut self,
+        alloc: Global,
+        head: &SnapHead,
+        tables: &List<SnapTable>,
+    ) -> Result<(), KeeperError>
+        requires { Told (store self.old) (λ s. IsTrue (is_new_snapshot (record { head = head.now; tables = tables.now }) s.snapshots)) }
+        ensures change { Changes (with_snapshot (record { head = head.now; tables = tables.now })) (store self.old) (store self.new) result }
+        ensures cause { KeeperCause (faults self.old) (faults self.new) result };
+
+    /// Rows of a table of the snapshot at a date: at most `most` of them, from place `from` on, and fewer only at the end.
+    /// A table without an entry, or a date without a snapshot, has none.
+    fn snapshot_rows(
+        &mut self,
+        alloc: Global,
+        date: Stamp,
+        id: SnapId,
+        from: u64,
+        most: u32,
+    ) -> Result<Rows, KeeperError>
+        requires { 0 < most }
+        ensures told { IfOk result (λ rows. Told (store self.old) (λ s. rows ≡ page from most (snapshot_rows date id s.snapshots))) }
+        ensures kept { store self.new ≡ store self.old }
         ensures cause { KeeperCause (faults self.old) (faults self.new) result };
 
     ghost well_formed: { (keeper : Self) → Told (store keeper) (λ s. IsTrue (is_well_formed s)) };

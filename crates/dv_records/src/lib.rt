@@ -19,6 +19,7 @@ mod sat_places;
 mod snapshots;
 mod sorting;
 mod status_places;
+mod stored_snapshots;
 mod stores;
 mod turns;
 mod weights;

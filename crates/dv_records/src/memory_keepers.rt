@@ -4,10 +4,12 @@ ghost use Rattle.dv_records.specs.Stores.{is_well_formed};
 use crate::appends::append;
 use crate::keepers::{Keeper, KeeperError};
 use crate::pages::table_page;
+use crate::snapshots::{SnapHead, SnapId, SnapTable};
+use crate::stored_snapshots::{heads_of, insert, snapshot_page};
 use crate::stores::{Rows, Store};
 use crate::turns::{Fail, Turns};
 use dv_catalog::TableId;
-use dv_text::{Duplicate, List, Memory, Text, Window, WindowHead};
+use dv_text::{Duplicate, List, Memory, Stamp, Text, Window, WindowHead};
 use std::alloc::Global;
 
 impl From<Memory> for KeeperError {
@@ -74,9 +76,9 @@ impl MemoryKeeper {
 }
 
 impl Keeper for MemoryKeeper {
-    ghost use Rattle.std.specs.Prelude.{◌≡◌, ◌<◌, IfOk, None, Some};
+    ghost use Rattle.std.specs.Prelude.{◌≡◌, ◌<◌, map, IfOk, None, Some};
     ghost use Rattle.dv_text.specs.Told.{Told};
-    ghost use Rattle.dv_records.specs.Stores.{is_of_kind, page, rows_in, with_mapping, with_rows, with_seal, with_stage, IsStagedAt};
+    ghost use Rattle.dv_records.specs.Stores.{is_new_snapshot, is_of_kind, page, rows_in, snapshot_rows, with_mapping, with_rows, with_seal, with_snapshot, with_stage, IsStagedAt};
     ghost use Rattle.dv_records.specs.Changes.{Changes, KeeperCause};
     ghost use Rattle.dv_records.specs.Turns.{ReadTurn};
     ghost use Rattle.dv_records.specs.MemoryKeepers.{keeper_plan, keeper_store, told_well_formed, ChangeTurn};
@@ -197,5 +199,53 @@ impl Keeper for MemoryKeeper {
             self.store.stage = None;
         }
         self.turns.end(turn)
+    }
+
+    fn snapshots(&mut self, alloc: Global) -> Result<List<SnapHead>, KeeperError>
+        ensures told { IfOk result (λ heads. Told (Some (keeper_store self.old)) (λ s. heads ≡ map (λ snap. snap.head) s.snapshots)) }
+        ensures kept { Some (keeper_store self.new) ≡ Some (keeper_store self.old) }
+        ensures cause { KeeperCause (keeper_plan self.old).faults (keeper_plan self.new).faults result }
+        ensures turn { ReadTurn (keeper_plan self.old) (keeper_plan self.new) result }
+    {
+        self.turns.read()?;
+        Ok(heads_of(alloc, self.store.snapshots.items())?)
+    }
+
+    fn put_snapshot(
+        &mut self,
+        alloc: Global,
+        head: &SnapHead,
+        tables: &List<SnapTable>,
+    ) -> Result<(), KeeperError>
+        requires { Told (Some (keeper_store self.old)) (λ s. IsTrue (is_new_snapshot (record { head = head.now; tables = tables.now }) s.snapshots)) }
+        ensures change { Changes (with_snapshot (record { head = head.now; tables = tables.now })) (Some (keeper_store self.old)) (Some (keeper_store self.new)) result }
+        ensures cause { KeeperCause (keeper_plan self.old).faults (keeper_plan self.new).faults result }
+        ensures turn { ChangeTurn (with_snapshot (record { head = head.now; tables = tables.now })) self.old self.new result }
+    {
+        let tables = tables.copy()?;
+        let turn = self.turns.next();
+        if !turn.takes_effect() {
+            return self.turns.end(turn);
+        }
+        insert(alloc, &mut self.store.snapshots, *head, tables)?;
+        self.turns.end(turn)
+    }
+
+    fn snapshot_rows(
+        &mut self,
+        alloc: Global,
+        date: Stamp,
+        id: SnapId,
+        from: u64,
+        most: u32,
+    ) -> Result<Rows, KeeperError>
+        requires { 0 < most }
+        ensures told { IfOk result (λ rows. Told (Some (keeper_store self.old)) (λ s. rows ≡ page from most (snapshot_rows date id s.snapshots))) }
+        ensures kept { Some (keeper_store self.new) ≡ Some (keeper_store self.old) }
+        ensures cause { KeeperCause (keeper_plan self.old).faults (keeper_plan self.new).faults result }
+        ensures turn { ReadTurn (keeper_plan self.old) (keeper_plan self.new) result }
+    {
+        self.turns.read()?;
+        Ok(snapshot_page(alloc, self.store.snapshots.items(), date, id, from, most)?)
     }
 }

@@ -62,6 +62,13 @@ pub struct SnapTable {
     pub rows: Rows,
 }
 
+impl Duplicate for SnapTable {
+    fn copy(&self) -> Result<SnapTable, Memory> {
+        let rows = self.rows.copy()?;
+        Ok(SnapTable { id: self.id, rows })
+    }
+}
+
 /// A snapshot's date, the number of its rows, and what they weigh.
 #[derive(Clone, Copy, Debug, PartialEq, Eq)]
 pub struct SnapHead {

@@ -1,0 +1,18 @@
+use Rattle.dv_records.proofs.Vocabulary.{◌==◌, ◌∙◌, and_parts, list_any, nat_le, not, not-true}
+use Rattle.std.proofs.Common.{ap}
+use Rattle.std.specs.List.{insert}
+use Rattle.dv_catalog.proofs.PlaceSteps.{place_or_len}
+use Rattle.dv_records.specs.declared.snapshots.Snap.{Snap}
+use Rattle.dv_records.specs.Stores.{are_snap_tables_apart}
+use Rattle.dv_records.proofs.SnapshotOrder.{in_place}
+use Rattle.dv_records.proofs.stored_snapshots.put.Goals as goal
+
+pub returns-clause-ok : goal.returns-clause-ok
+returns-clause-ok c =
+    let snap : Snap = record { head = c.args.head; tables = c.args.tables } in
+    let snaps = c.args.snaps.now.items in
+    let (absent, apart) = and_parts (not (list_any (λ (other : Snap). other.head.date == snap.head.date) snaps)) (are_snap_tables_apart snap.tables) c.requires in
+    let at = rw c.deref.ensures.value at c.place_of-at.ensures in
+    c.in_ok-insert.ensures.items
+    ∙ ap (λ k. insert snaps k snap) (at ∙ place_or_len (λ (other : Snap). nat_le snap.head.date other.head.date) snaps)
+    ∙ in_place (λ (other : Snap). other.head.date) snap snaps (not-true (list_any (λ (other : Snap). other.head.date == snap.head.date) snaps) absent)
