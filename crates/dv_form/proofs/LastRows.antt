@@ -1,7 +1,5 @@
 -- The last item of a list.
-use Rattle.dv_form.proofs.Vocabulary.{◌≡◌, ◌-◌, List, [], ◌∷◌, Option, Some, length, last_or, map, refl, arith, ◌∙◌, ap, sym, option_map, slice_get, ℕ, None, is_lt, nat_cmp, nat_lt, nat_tests}
-use Rattle.dv_text.specs.declared.rows.WindowHead.{WindowHead}
-use Rattle.dv_form.specs.StoredHeads.{is_later}
+use Rattle.dv_form.proofs.Vocabulary.{◌≡◌, ◌-◌, List, [], ◌∷◌, Option, Some, length, last_or, map, refl, arith, ◌∙◌, ap, sym, option_map, slice_get, ℕ, None, is_lt, nat_cmp, nat_lt, nat_tests, option_map_or, true}
 
 last_got : {X : Type 0} (o : Option X) (x : X) (xs : List X) → last_or o (x ∷ xs) ≡ slice_get (x ∷ xs) (length xs)
 last_got o x [] = refl
@@ -17,11 +15,12 @@ pub last_map : {X Y : Type 0} (f : X → Y) (o : Option X) (xs : List X) → las
 last_map f o [] = refl
 last_map f o (x ∷ xs) = last_map f (Some x) xs
 
--- a date later than that of the last window
+-- a date later than that of the last item
 lt_is : (a b : ℕ) → is_lt (nat_cmp a b) ≡ nat_lt a b
 lt_is a b = grind (arith, nat_tests)
 
-pub later_than : (heads : List WindowHead) (head : WindowHead) (load : ℕ) → Some head ≡ slice_get heads (length heads - 1) → is_lt (nat_cmp head.load load) ≡ is_later heads load
-later_than heads head load there =
-    let last : last_or None (map (λ other. other.load) heads) ≡ Some head.load = last_map (λ other. other.load) None heads ∙ ap (option_map (λ other. other.load)) (last_is None heads head there) in
-    rw last (lt_is head.load load)
+pub later_than : {X : Type 0} (date_of : X → ℕ) (items : List X) (last : X) (date : ℕ) → Some last ≡ slice_get items (length items - 1)
+    → is_lt (nat_cmp (date_of last) date) ≡ option_map_or (λ before. nat_lt before date) (last_or None (map date_of items)) true
+later_than date_of items last date there =
+    let is : last_or None (map date_of items) ≡ Some (date_of last) = last_map date_of None items ∙ ap (option_map date_of) (last_is None items last there) in
+    rw is (lt_is (date_of last) date)

@@ -18,6 +18,7 @@ pub mod HubForms
 pub mod KeyRows
 pub mod KnownSteps
 pub mod LastRows
+pub mod LightSnapshots
 pub mod LinkForms
 pub mod MultiForms
 pub mod OtherKinds
@@ -34,6 +35,7 @@ pub mod SoundLinks
 pub mod SoundMultis
 pub mod SoundRows
 pub mod SoundSats
+pub mod SoundSnapshots
 pub mod SoundStatuses
 pub mod Splits
 pub mod StandingStores

@@ -1,21 +1,13 @@
 -- The heads of valid windows, and a window that is open behind them, break no rule of form.
-use Rattle.dv_form.proofs.Vocabulary.{Contains, IsStrictlySortedBy, Less, List, Mapping, None, Option, Some, Staged, Window, [], all_pass, and_from, ap, arith, ascends, head_of, is_staged, is_window, length, length-append, length-map, list_all, lt-ltb}
-use Rattle.dv_form.proofs.Vocabulary.{map, map-append, map-map, map_member, most_windows, nat_cmp, nat_lt, option_map_or, passes_at, ranked, refl, slice_get_within, staged_rows, subst, suc, sym, true, window_parts, ℕ, ◌++◌, ◌+◌, ◌<◌, ◌∙◌, ◌∷◌, ◌≡◌, ◌≤◌}
-use Rattle.dv_form.specs.StoredHeads.{are_feeds, head_flaw, head_rule, is_head, is_later, is_stage, last_sealed}
+use Rattle.dv_form.proofs.Vocabulary.{Contains, IsStrictlySortedBy, Less, List, Mapping, None, Staged, Window, [], all_pass, and_from, ap, arith, ascends, head_of, is_staged, is_window, length, length-append, length-map, list_all, lt-ltb}
+use Rattle.dv_form.proofs.Vocabulary.{map, map-append, map-map, map_member, most_windows, nat_cmp, nat_lt, passes_at, ranked, refl, slice_get_within, staged_rows, subst, suc, sym, true, window_parts, ℕ, ◌++◌, ◌+◌, ◌<◌, ◌∙◌, ◌∷◌, ◌≡◌, ◌≤◌}
+use Rattle.dv_form.specs.StoredHeads.{are_feeds, head_flaw, head_rule, is_head, is_stage}
 use Rattle.dv_records.proofs.WindowRows.{in_order}
 use Rattle.dv_text.specs.declared.rows.WindowHead.{WindowHead}
 use Rattle.dv_form.proofs.Flawless.{flawless}
-use Rattle.dv_form.proofs.Splits.{item_in, last_in, less_before}
+use Rattle.dv_form.proofs.Splits.{item_in, last_less, less_before}
 
 -- ---- sealed windows
-
--- a load date behind those of other windows is later than the last of them
-later_than : (heads : List WindowHead) (load : ℕ) → ((earlier : ℕ) → Contains (map (λ (head : WindowHead). head.load) heads) earlier → earlier < load) → is_later heads load ≡ true
-later_than heads load each = by (last_sealed heads) refl
-  where
-    by : (o : Option ℕ) → last_sealed heads ≡ o → option_map_or (λ last. nat_lt last load) o true ≡ true
-    by None e = refl
-    by (Some last) e = lt-ltb last load (each last (last_in (map (λ (head : WindowHead). head.load) heads) last e))
 
 -- the feeds of a window are those of the mapping
 feeds_there : (mapping : Mapping) (window : Window) → is_window mapping window ≡ true → are_feeds mapping (head_of window).feeds ≡ true
@@ -44,7 +36,7 @@ module _ (mapping : Mapping) (windows : List Window) (ordered : ascends (map (λ
       let (window, there, same) = map_member head_of windows head (subst (λ heads. Contains heads head) (sym e) (item_in before head after)) in
       let count : length windows ≡ length before + length (head ∷ after) = sym (length-map windows head_of) ∙ ap length e ∙ length-append before (head ∷ after) in
       let some : length (head ∷ after) ≡ suc (length after) = refl in
-      and_from _ _ (and_from _ _ (later_than before head.load (earlier_heads before head after e))
+      and_from _ _ (and_from _ _ (last_less (map load_of before) head.load (earlier_heads before head after e))
       (subst (λ (h : WindowHead). are_feeds mapping h.feeds ≡ true) same (feeds_there mapping window (passes_at (is_window mapping) windows window whole there))))
       (lt-ltb (length before) most_windows (omega (arith, few, count, some)))
 
@@ -56,7 +48,7 @@ module _ (mapping : Mapping) (windows : List Window) (ordered : ascends (map (λ
 
 -- a window that is open behind them
 pub sound_stage : (mapping : Mapping) (sealed : List Window) (window : Window) → ascends (map (λ window. window.load) (sealed ++ window ∷ [])) ≡ true → is_window mapping window ≡ true → is_stage mapping (map head_of sealed) window ≡ true
-sound_stage mapping sealed window ordered whole = and_from _ _ (later_than (map head_of sealed) window.load earlier) whole
+sound_stage mapping sealed window ordered whole = and_from _ _ (last_less (map (λ (head : WindowHead). head.load) (map head_of sealed)) window.load earlier) whole
   where
     load_of : Window → ℕ
     load_of other = other.load

@@ -1,6 +1,6 @@
 -- What stands before an item of a list, where the list is parted there.
 use Rattle.dv_form.proofs.Vocabulary.{Contains, Contains-append_left, Contains-append_right, Contains-cons_cases, Contains-cons_here, Contains-cons_there, Contains-nil, IsStrictlySortedBy, Less, List, None, Option, Ordering, Some, [], ap, inl, inr}
-use Rattle.dv_form.proofs.Vocabulary.{last_or, member_of_all, refl, subst, sym, ◌++◌, ◌∷◌, ◌≡◌, ◌⊎◌}
+use Rattle.dv_form.proofs.Vocabulary.{last_or, lt-ltb, member_of_all, nat_lt, option_map_or, refl, true, ℕ, ◌<◌, subst, sym, ◌++◌, ◌∷◌, ◌≡◌, ◌⊎◌}
 
 -- ---- a list that is parted
 
@@ -70,3 +70,11 @@ module _ {X : Type 0} where
     | inl is ↦ cc
     | inr has ↦ has
   ]
+
+-- a number behind others is more than the last of them
+pub last_less : (numbers : List ℕ) (n : ℕ) → ((earlier : ℕ) → Contains numbers earlier → earlier < n) → option_map_or (λ last. nat_lt last n) (last_or None numbers) true ≡ true
+last_less numbers n each = by (last_or None numbers) refl
+  where
+    by : (o : Option ℕ) → last_or None numbers ≡ o → option_map_or (λ last. nat_lt last n) o true ≡ true
+    by None e = refl
+    by (Some last) e = lt-ltb last n (each last (last_in numbers last e))

@@ -1,11 +1,14 @@
 -- A store that stands for a state of the warehouse has no damage where its mapping is valid.
 use Rattle.dv_form.proofs.Vocabulary.{Contains, Contains-append_left, Contains-map, Effect, Hashes, List, Mapping, Multi, None, Option, Sat, Some, Status, Store, TableId, Window, [], and_parts, ap, append-nil, are_windows_valid, backwards, codes}
-use Rattle.dv_form.proofs.Vocabulary.{first_of, hashes_of, head_of, is_valid, is_window, length, map, map-append, most_weight, option_map, option_to_list, passes_at, refl, rows_weight, subst, sym, table_after, table_name, tables, tables_weight, true, ℕ}
+use Rattle.dv_form.proofs.Vocabulary.{first_of, hashes_of, head_of, is_valid, is_window, length, map, map-append, map-map, most_weight, option_map, option_to_list, passes_at, refl, rows_weight, subst, sym, table_after, table_name, tables, tables_weight, true, ℕ}
 use Rattle.dv_form.proofs.Vocabulary.{◌++◌, ◌+◌, ◌∙◌, ◌∷◌, ◌≡◌, ◌≤◌}
-use Rattle.dv_form.specs.Damages.{damage_at, damage_in, form_damage, head_damage, known_before, raw_damage, stage_damage, stage_damage_by, stored_entries}
+use Rattle.dv_form.specs.Damages.{damage_at, damage_in, form_damage, head_damage, known_before, raw_damage, snapshot_damage, stage_damage, stage_damage_by, stored_entries}
 use Rattle.dv_form.specs.Flaws.{if_broken}
 use Rattle.dv_form.specs.FormRules.{Known}
+use Rattle.dv_form.specs.SnapshotHeads.{snapshot_flaw, snapshot_heads}
 use Rattle.dv_form.specs.StoredHeads.{head_flaw, is_stage}
+use Rattle.dv_records.specs.declared.snapshots.Snap.{Snap}
+use Rattle.dv_records.specs.Snapshots.{snapshot}
 use Rattle.dv_form.specs.StoredRows.{flaw_in}
 use Rattle.dv_catalog.specs.declared.tables.TableId.TheVariants.{Hub as HubTable, Link as LinkTable}
 use Rattle.dv_records.specs.Standing.{Stands, TablesStand}
@@ -22,6 +25,7 @@ use Rattle.dv_form.proofs.SoundHubs.{sound_hub}
 use Rattle.dv_form.proofs.SoundLinks.{sound_link}
 use Rattle.dv_form.proofs.SoundMultis.{sound_multi}
 use Rattle.dv_form.proofs.SoundSats.{sound_sat}
+use Rattle.dv_form.proofs.SoundSnapshots.{sound_snapshots}
 use Rattle.dv_form.proofs.SoundStatuses.{sound_status}
 use Rattle.dv_form.proofs.Splits.{item_in}
 use Rattle.dv_form.proofs.Widths.{AreOfWidth, of_width}
@@ -66,12 +70,20 @@ module _ (mapping : Mapping) (hashes : Hashes) (width : ℕ) (store : Store) (wi
       let held = holds.rows id (subst (λ l. Contains l id) (sym e) (item_in before id after)) in
       ap (option_map (damage_at (table_name mapping id))) (ap (flaw_in (known_before mapping hashes width store before) id) held ∙ sound_table before id after e))
 
--- ---- sealed windows, the open one, and raw tables
+-- ---- sealed windows, the open one, raw tables, and snapshots
 
-none_of_three : {R : Type 0} (a b c : Option R) → a ≡ None → b ≡ None → c ≡ None → first_of (a ∷ b ∷ c ∷ []) ≡ None
-none_of_three a b c no_a no_b no_c = rw (no_a, no_b, no_c) refl
+none_of_four : {R : Type 0} (a b c d : Option R) → a ≡ None → b ≡ None → c ≡ None → d ≡ None → first_of (a ∷ b ∷ c ∷ d ∷ []) ≡ None
+none_of_four a b c d no_a no_b no_c no_d = rw (no_a, no_b, no_c, no_d) refl
 
-module _ (mapping : Mapping) (hashes : Hashes) (width : ℕ) (mapping_valid : is_valid mapping ≡ true) (wide : AreOfWidth hashes width) (store : Store) (sealed : List Window) (windows : store.windows ≡ map head_of sealed) where
+-- no snapshot of a state has damage
+no_snapshot : (mapping : Mapping) (hashes : Hashes) (state : State) (store : Store) → are_dates_valid mapping hashes state ≡ true → store.windows ≡ map head_of state.sealed → store.snapshots ≡ map (snapshot mapping hashes state.sealed) state.dates → snapshot_damage store ≡ None
+no_snapshot mapping hashes state store valid windows snapshots =
+    let heads : snapshot_heads store ≡ map (λ date. (snapshot mapping hashes state.sealed date).head) state.dates =
+    ap (map (λ (snap : Snap). snap.head)) snapshots ∙ map-map (λ (snap : Snap). snap.head) (snapshot mapping hashes state.sealed) state.dates in
+    (λ i. option_map (damage_at (codes "snapshots")) (snapshot_flaw (windows i) (heads i)))
+    ∙ ap (option_map (damage_at (codes "snapshots"))) (sound_snapshots mapping hashes state valid)
+
+module _ (mapping : Mapping) (hashes : Hashes) (width : ℕ) (mapping_valid : is_valid mapping ≡ true) (wide : AreOfWidth hashes width) (store : Store) (sealed : List Window) (windows : store.windows ≡ map head_of sealed) (no_snap : snapshot_damage store ≡ None) where
   -- no sealed window has damage
   sound_sealed : are_windows_valid mapping hashes sealed ≡ true → head_damage mapping store ≡ None
   sound_sealed valid =
@@ -89,8 +101,8 @@ module _ (mapping : Mapping) (hashes : Hashes) (width : ℕ) (mapping_valid : is
       let sealed_valid : are_windows_valid mapping hashes sealed ≡ true = rw append-nil at valid in
       let holds = vault_holds_all mapping hashes store sealed sealed_valid stand in
       let not_staged : stage_damage mapping store ≡ None = λ i. stage_damage_by (λ window. if_broken 3 (is_stage mapping store.windows window)) (stage i) in
-      none_of_three (head_damage mapping store) (stage_damage mapping store) (raw_damage mapping hashes width store) (sound_sealed sealed_valid) not_staged
-      (sound_tables mapping hashes width store sealed mapping_valid wide sealed_valid holds (λ window has. all_headed None stage window (Contains-append_left sealed [] window has)))
+      none_of_four (head_damage mapping store) (stage_damage mapping store) (raw_damage mapping hashes width store) (snapshot_damage store) (sound_sealed sealed_valid) not_staged
+      (sound_tables mapping hashes width store sealed mapping_valid wide sealed_valid holds (λ window has. all_headed None stage window (Contains-append_left sealed [] window has))) no_snap
   sound_store (Some window) stage valid (k, within, stand) =
       let parts = parts_of_valid mapping hashes (sealed ++ window ∷ []) valid in
       let holds = partial_holds mapping hashes store sealed window k valid stand in
@@ -98,8 +110,8 @@ module _ (mapping : Mapping) (hashes : Hashes) (width : ℕ) (mapping_valid : is
       let staged : stage_damage mapping store ≡ stage_damage_by (λ window. if_broken 3 (is_stage mapping (map head_of sealed) window)) (Some window) =
       λ i. stage_damage_by (λ window. if_broken 3 (is_stage mapping (windows i) window)) (stage i) in
       let in_form = ap (λ b. option_map (λ rule. damage_at (codes "stage") (record { row = 1; rule = rule })) (if_broken 3 b)) (sound_stage mapping sealed window parts.ordered whole) in
-      none_of_three (head_damage mapping store) (stage_damage mapping store) (raw_damage mapping hashes width store) (sound_sealed (fewer_valid mapping hashes sealed window valid)) (staged ∙ in_form)
-      (sound_tables mapping hashes width store (sealed ++ window ∷ []) mapping_valid wide valid holds (all_headed (Some window) stage))
+      none_of_four (head_damage mapping store) (stage_damage mapping store) (raw_damage mapping hashes width store) (snapshot_damage store) (sound_sealed (fewer_valid mapping hashes sealed window valid)) (staged ∙ in_form)
+      (sound_tables mapping hashes width store (sealed ++ window ∷ []) mapping_valid wide valid holds (all_headed (Some window) stage)) no_snap
 
 -- a store that stands for a state has no damage, where the mapping is valid
 pub undamaged_if_valid : (mapping : Mapping) (digest : List ℕ → List ℕ) (size : ℕ) → ((text : List ℕ) → length (digest text) ≡ size) → is_valid mapping ≡ true → (state : State) (store : Store) → Stands mapping (hashes_of digest size) state store
@@ -107,4 +119,4 @@ pub undamaged_if_valid : (mapping : Mapping) (digest : List ℕ → List ℕ) (s
 undamaged_if_valid mapping digest size is mapping_valid state store stands =
     let hashes = hashes_of digest size in
     let (valid, dates) = and_parts (are_windows_valid mapping hashes (all_windows state)) (are_dates_valid mapping hashes state) stands.valid in
-    sound_store mapping hashes size mapping_valid (of_width digest size is) store state.sealed stands.windows state.begun stands.stage valid stands.tables_stand
+    sound_store mapping hashes size mapping_valid (of_width digest size is) store state.sealed stands.windows (no_snapshot mapping hashes state store dates stands.windows stands.snapshots) state.begun stands.stage valid stands.tables_stand

@@ -1,5 +1,5 @@
--- The first row of a store that breaks a rule of form of its sealed windows, its open window or its raw tables: where the
--- store can't stand for a state of the warehouse.
+-- The first row of a store that breaks a rule of form of its sealed windows, its open window, its raw tables or its
+-- snapshots: where the store can't stand for a state of the warehouse.
 use Rattle.std.specs.Option.{option_map, option_to_list}
 use Rattle.std.specs.Prelude.{ℕ, List, [], ◌∷◌, ◌++◌, Option, Some, None, codes, map}
 use Rattle.dv_text.specs.declared.rows.Window.{Window}
@@ -16,6 +16,7 @@ use Rattle.dv_records.specs.Stores.{rows_in}
 use Rattle.dv_form.specs.declared.flaws.Flaw.{Flaw}
 use Rattle.dv_form.specs.Flaws.{if_broken}
 use Rattle.dv_form.specs.FormRules.{Known}
+use Rattle.dv_form.specs.SnapshotHeads.{snapshot_flaw, snapshot_heads}
 use Rattle.dv_form.specs.StoredHeads.{head_flaw, is_stage}
 use Rattle.dv_form.specs.StoredRows.{flaw_in}
 
@@ -63,9 +64,17 @@ damage_in mapping hashes width store before id =
 abbrev pub raw_damage : Mapping → Hashes → ℕ → Store → Option Damage
 raw_damage mapping hashes width store = first_along (damage_in mapping hashes width store) [] (tables mapping)
 
+-- ---- the snapshots
+
+-- the first snapshot of a store whose head breaks a rule
+abbrev pub snapshot_damage : Store → Option Damage
+snapshot_damage store =
+    option_map (damage_at (codes "snapshots")) (snapshot_flaw store.windows (snapshot_heads store))
+
 -- ---- all of these
 
--- the first damage of the sealed windows, the open window and the raw tables in table order
+-- the first damage of the sealed windows, the open window, the raw tables in table order, and the snapshots
 abbrev pub form_damage : Mapping → Hashes → ℕ → Store → Option Damage
 form_damage mapping hashes width store =
-    first_of (head_damage mapping store ∷ stage_damage mapping store ∷ raw_damage mapping hashes width store ∷ [])
+    first_of
+    (head_damage mapping store ∷ stage_damage mapping store ∷ raw_damage mapping hashes width store ∷ snapshot_damage store ∷ [])

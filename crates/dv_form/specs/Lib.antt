@@ -5,5 +5,6 @@ pub mod KnownTables
 pub mod OwnRules
 pub mod Pages
 pub mod RowWalks
+pub mod SnapshotHeads
 pub mod StoredHeads
 pub mod StoredRows

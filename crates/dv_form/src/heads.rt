@@ -38,8 +38,8 @@ fn are_feeds(catalog: &Catalog, feeds: &[u32]) -> bool
     !feeds.is_empty() && ascend(feeds) && are_below(feeds, catalog.feed_count())
 }
 
-// Whether a load date is later than that of the last of these windows, if there is one.
-fn is_later(heads: &[WindowHead], load: Stamp) -> bool
+/// Whether a date is later than that of the last of these windows, if there is one.
+pub(crate) fn is_later(heads: &[WindowHead], load: Stamp) -> bool
     ensures { result ≡ spec.is_later heads.now load }
 {
     match heads.last() {

@@ -1,4 +1,5 @@
-//! The rules of form of what a keeper has stored: the sealed windows, the open window and the rows of the raw tables.
+//! The rules of form of what a keeper has stored: the sealed windows, the open window, the rows of the raw tables and the
+//! heads of the snapshots.
 #![tactic(auto)]
 
 mod effects;
@@ -19,6 +20,7 @@ mod parents;
 mod row_checks;
 mod row_walks;
 mod sats;
+mod snapshots;
 mod statuses;
 mod texts;
 
@@ -32,4 +34,5 @@ pub use links::checked_link;
 pub use multis::checked_multi;
 pub use pages::{Read, read_rows};
 pub use sats::checked_sat;
+pub use snapshots::snapshot_flaw;
 pub use statuses::checked_status;

@@ -26,7 +26,7 @@ last_two_ways (x ∷ xs) =
 pub last_sealed_is : (heads : List WindowHead) → last_sealed heads ≡ option_map (λ (head : WindowHead). head.load) (slice_get heads (length heads - 1))
 last_sealed_is heads = last_map (λ (head : WindowHead). head.load) None heads ∙ ap (option_map (λ (head : WindowHead). head.load)) (last_two_ways heads)
 
-last_or_pushed : {X : Type 0} (o : Option X) (xs : List X) (x : X) → last_or o (xs ++ x ∷ []) ≡ Some x
+pub last_or_pushed : {X : Type 0} (o : Option X) (xs : List X) (x : X) → last_or o (xs ++ x ∷ []) ≡ Some x
 last_or_pushed o [] x = refl
 last_or_pushed o (first ∷ xs) x = last_or_pushed (Some first) xs x
 

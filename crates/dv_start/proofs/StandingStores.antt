@@ -7,6 +7,10 @@ use Rattle.dv_form.proofs.FewerWindows.{fewer_valid, parts_of_valid}
 use Rattle.dv_form.proofs.Splits.{item_in, last_in}
 use Rattle.dv_form.proofs.Undamaged.{undamaged_if_valid}
 use Rattle.dv_form.specs.Damages.{stored_entries}
+use Rattle.dv_form.specs.SnapshotHeads.{snapshot_heads}
+use Rattle.dv_records.specs.declared.snapshots.Snap.{Snap}
+use Rattle.dv_records.specs.declared.snapshots.SnapHead.{SnapHead}
+use Rattle.dv_records.specs.Snapshots.{snapshot}
 use Rattle.dv_records.proofs.Reversing.{AllBefore, newest_first}
 use Rattle.dv_records.specs.Backwards.{Backwards, with_newest}
 use Rattle.dv_records.specs.Outcomes.{full_at, late_after}
@@ -24,7 +28,7 @@ use Rattle.dv_start.proofs.StoredTables.{read_partial, read_vault}
 use Rattle.dv_start.proofs.VaultsApart.{vault_is_apart}
 use Rattle.dv_start.specs.Completions.{IsBegunAs, MayBeCompleted, MayGoOn}
 use Rattle.dv_start.specs.Damages.{BreaksRule, IsFirstDamage, IsInForm, IsNotRead, IsReadAs, KeepsF15}
-use Rattle.dv_start.specs.Restored.{IsOfState}
+use Rattle.dv_start.specs.Restored.{IsOfState, heads_of_state}
 use Rattle.dv_start.specs.Sealed.{sealed_entry, sealed_of}
 use Rattle.dv_start.specs.declared.restored.Begun.{Begun}
 
@@ -143,11 +147,15 @@ module _ (mapping : Mapping) (hashes : Hashes) (state : State) (store : Store) (
   has_sealed = sealed_there mapping hashes store state.sealed stands.windows state.begun stands.stage (windows_valid mapping hashes state stands.valid) stands.tables_stand
 
   -- what is restored of it is of the state
-  pub of_state : (raw : RawVault) → raw ≡ sealed_of mapping store → (begun : Option Begun) → IsBegunAs hashes raw store.stage begun → IsOfState hashes state raw begun
-  of_state raw is begun begun_as = record {
+  pub of_state : (raw : RawVault) → raw ≡ sealed_of mapping store → (begun : Option Begun) → IsBegunAs hashes raw store.stage begun → (snapshots : List SnapHead) → snapshots ≡ snapshot_heads store → IsOfState hashes state raw begun snapshots
+  of_state raw is begun begun_as snapshots are = record {
     valid = ap (λ (raw : RawVault). is_valid_state raw.mapping hashes state) is ∙ stands.valid;
     sealed_are = subst (HasSealed hashes state.sealed) (sym is) has_sealed;
     begun_is = subst (λ (stage : Option Window). IsBegunAs hashes raw stage begun) stands.stage begun_as;
+    snapshots_are = are
+        ∙ ap (map (λ (snap : Snap). snap.head)) stands.snapshots
+        ∙ map-map (λ (snap : Snap). snap.head) (snapshot mapping hashes state.sealed) state.dates
+        ∙ ap (λ (raw : RawVault). heads_of_state raw.mapping hashes state) (sym is);
   }
 
   module _ (built : IsBuilt mapping) where

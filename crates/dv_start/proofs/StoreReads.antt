@@ -3,33 +3,53 @@ use Rattle.dv_form.proofs.Vocabulary.{List, None, Option, Some, [], ap, map, opt
 use Rattle.dv_form.proofs.Vocabulary.{Hashes, Mapping, Store, Window, first_of, head_of}
 use Rattle.std.specs.Option.{option_map}
 use Rattle.dv_records.specs.declared.answers.Damage.{Damage}
-use Rattle.std.specs.Prelude.{Err, IfOk, IfSome, Ok, Result, codes, true}
+use Rattle.std.specs.Prelude.{IfSome, codes, true}
 use Rattle.dv_text.specs.declared.rows.WindowHead.{WindowHead}
 use Rattle.dv_catalog.specs.Tables.{tables}
 use Rattle.dv_records.specs.declared.stores.TableRows.{TableRows}
-use Rattle.dv_form.specs.Damages.{damage_at, form_damage, head_damage, raw_damage, stage_damage, stage_damage_by, stored_entries}
+use Rattle.dv_form.specs.Damages.{damage_at, form_damage, head_damage, raw_damage, snapshot_damage, stage_damage, stage_damage_by, stored_entries}
 use Rattle.dv_form.specs.Flaws.{if_broken}
+use Rattle.dv_form.specs.SnapshotHeads.{snapshot_flaw, snapshot_heads}
 use Rattle.dv_form.specs.StoredHeads.{head_flaw, is_stage}
+use Rattle.dv_records.specs.declared.snapshots.SnapHead.{SnapHead}
 use Rattle.dv_vault.specs.Vaults.{RawVault}
 use Rattle.dv_start.specs.Completions.{IsBegunAs, MayGoOn}
 use Rattle.dv_start.specs.Damages.{KeepsF15}
 use Rattle.dv_start.specs.Sealed.{sealed_of, sealed_vault}
 use Rattle.dv_start.specs.declared.restored.Begun.{Begun}
 
+-- the first of some answers
+module _ {R : Type 0} (test : Option R) (tests : List (Option R)) where
+  first_is : (answer : R) → test ≡ Some answer → first_of (test ∷ tests) ≡ Some answer
+  first_is answer e = ap (λ first. first_of (first ∷ tests)) e
+
+  later_is : test ≡ None → first_of (test ∷ tests) ≡ first_of tests
+  later_is e = ap (λ first. first_of (first ∷ tests)) e
+
+-- the damages that are looked for behind the first ones
+module _ (mapping : Mapping) (hashes : Hashes) (width : ℕ) (store : Store) where
+  abbrev behind_rows : List (Option Damage)
+  behind_rows = snapshot_damage store ∷ []
+
+  abbrev behind_stage : List (Option Damage)
+  behind_stage = raw_damage mapping hashes width store ∷ behind_rows
+
+  abbrev behind_heads : List (Option Damage)
+  behind_heads = stage_damage mapping store ∷ behind_stage
+
 module _ (mapping : Mapping) (hashes : Hashes) (width : ℕ) (store : Store) (damage : Damage) where
   pub head_first : head_damage mapping store ≡ Some damage → form_damage mapping hashes width store ≡ Some damage
-  head_first e = ap (λ (first : Option Damage). first_of (first ∷ stage_damage mapping store ∷ raw_damage mapping hashes width store ∷ [])) e
+  head_first e = first_is (head_damage mapping store) (behind_heads mapping hashes width store) damage e
 
   pub stage_first : head_damage mapping store ≡ None → stage_damage mapping store ≡ Some damage → form_damage mapping hashes width store ≡ Some damage
   stage_first none e =
-      ap (λ (first : Option Damage). first_of (first ∷ stage_damage mapping store ∷ raw_damage mapping hashes width store ∷ [])) none
-      ∙ ap (λ (second : Option Damage). first_of (None ∷ second ∷ raw_damage mapping hashes width store ∷ [])) e
+      later_is (head_damage mapping store) (behind_heads mapping hashes width store) none ∙ first_is (stage_damage mapping store) (behind_stage mapping hashes width store) damage e
 
   pub rows_first : head_damage mapping store ≡ None → stage_damage mapping store ≡ None → raw_damage mapping hashes width store ≡ Some damage → form_damage mapping hashes width store ≡ Some damage
   rows_first none none_open e =
-      ap (λ (first : Option Damage). first_of (first ∷ stage_damage mapping store ∷ raw_damage mapping hashes width store ∷ [])) none
-      ∙ ap (λ (second : Option Damage). first_of (None ∷ second ∷ raw_damage mapping hashes width store ∷ [])) none_open
-      ∙ ap (λ (third : Option Damage). first_of (None ∷ None ∷ third ∷ [])) e
+      later_is (head_damage mapping store) (behind_heads mapping hashes width store) none
+      ∙ later_is (stage_damage mapping store) (behind_stage mapping hashes width store) none_open
+      ∙ first_is (raw_damage mapping hashes width store) (behind_rows mapping hashes width store) damage e
 
 -- ---- what is read of a store before its raw tables
 
@@ -55,11 +75,22 @@ module _ (mapping : Mapping) (hashes : Hashes) (width : ℕ) (store : Store) (he
     pub rows_damaged : (damage : Damage) → raw_damage mapping hashes width store ≡ Some damage → form_damage mapping hashes width store ≡ Some damage
     rows_damaged damage e = rows_first mapping hashes width store damage (head_none clear) stage_none e
 
-    pub none_damaged : raw_damage mapping hashes width store ≡ None → form_damage mapping hashes width store ≡ None
-    none_damaged e =
-        ap (λ (first : Option Damage). first_of (first ∷ stage_damage mapping store ∷ raw_damage mapping hashes width store ∷ [])) (head_none clear)
-        ∙ ap (λ (second : Option Damage). first_of (None ∷ second ∷ raw_damage mapping hashes width store ∷ [])) stage_none
-        ∙ ap (λ (third : Option Damage). first_of (None ∷ None ∷ third ∷ [])) e
+    -- behind rows that break no rule
+    module _ (none : raw_damage mapping hashes width store ≡ None) where
+      snapshots_first : form_damage mapping hashes width store ≡ first_of (snapshot_damage store ∷ [])
+      snapshots_first =
+          later_is (head_damage mapping store) (behind_heads mapping hashes width store) (head_none clear)
+          ∙ later_is (stage_damage mapping store) (behind_stage mapping hashes width store) stage_none
+          ∙ later_is (raw_damage mapping hashes width store) (behind_rows mapping hashes width store) none
+
+      pub snapshots_damaged : (damage : Damage) → snapshot_damage store ≡ Some damage → form_damage mapping hashes width store ≡ Some damage
+      snapshots_damaged damage e = snapshots_first ∙ first_is (snapshot_damage store) [] damage e
+
+      pub none_damaged : (snapshots : List SnapHead) → snapshots ≡ snapshot_heads store → snapshot_flaw heads snapshots ≡ None → form_damage mapping hashes width store ≡ None
+      none_damaged snapshots are flawless =
+          snapshots_first
+          ∙ later_is (snapshot_damage store) []
+          ((λ i. option_map (damage_at (codes "snapshots")) (snapshot_flaw (sym windows i) (sym are i))) ∙ ap (option_map (damage_at (codes "snapshots"))) flawless)
 
   -- ---- and with them
 
@@ -72,12 +103,6 @@ module _ (mapping : Mapping) (hashes : Hashes) (width : ℕ) (store : Store) (he
         subst (λ entries. MayGoOn hashes (sealed_vault mapping heads stage entries) entries stage) (sym read)
         (subst (λ stage. MayGoOn hashes (sealed_vault mapping heads stage (stored_entries store (tables mapping))) (stored_entries store (tables mapping)) stage) (sym staged)
         (subst (λ heads. MayGoOn hashes (sealed_vault mapping heads store.stage (stored_entries store (tables mapping))) (stored_entries store (tables mapping)) store.stage) (sym windows) keeps))
-
--- ---- what holds of an answer
-
-pub all_ok : {T E : Type 0} {P Q R S : T → Type 0} (r : Result T E) → ((x : T) → P x → Q x → R x → S x) → IfOk r P → IfOk r Q → IfOk r R → IfOk r S
-all_ok (Ok x) f p q s = f x p q s
-all_ok (Err e) f p q s = tt
 
 -- the open window that is begun
 pub staged_is : (hashes : Hashes) (raw : RawVault) (stage : Option Window) (begun : Option Begun) → IsBegunAs hashes raw stage begun → option_map (λ (b : Begun). b.addition.window) begun ≡ stage

@@ -37,7 +37,7 @@ pub record IsNotRead (store : Store) (damage : Damage) : Type 0 where
   pub refused : (mapping : Mapping) → built_mapping text ≡ Ok mapping → ⊥
   pub is : damage ≡ mapping_damage
 
--- the first of the rules of the sealed windows, the open one and the raw tables that a store breaks
+-- the first of the rules of the sealed windows, the open one, the raw tables and the snapshots that a store breaks
 abbrev pub BreaksForm : Hashes → ℕ → Mapping → Store → Damage → Type 0
 BreaksForm hashes width mapping store damage = form_damage mapping hashes width store ≡ Some damage
 
@@ -47,8 +47,7 @@ pub record BreaksOpen (hashes : Hashes) (width : ℕ) (mapping : Mapping) (store
   pub stops : KeepsF15 hashes mapping store → ⊥
   pub is : damage ≡ broken_window
 
--- the first rule behind that of the mapping that a store breaks. The stored snapshots (F14), which no rule asks yet, come
--- before F15.
+-- the first rule behind that of the mapping that a store breaks
 abbrev pub BreaksRule : Hashes → ℕ → Mapping → Store → Damage → Type 0
 BreaksRule hashes width mapping store damage = BreaksForm hashes width mapping store damage ⊎ BreaksOpen hashes width mapping store damage
 

@@ -18,7 +18,7 @@ ghost use Rattle.dv_start.specs.Sealed.{sealed_vault};
 
 use crate::faults::StartFault;
 use crate::parts::in_parts;
-use crate::restored::{Begun, Restored};
+use crate::restored::{Begun, Reopened};
 use dv_catalog::Catalog;
 use dv_judge::full;
 use dv_records::{Damage, Rows};
@@ -141,7 +141,7 @@ fn reopened<H: KeyDigest>(
     tables: Vec<Table>,
     weight: u64,
     digest: &H,
-) -> Result<Restored, StartFault>
+) -> Result<Reopened, StartFault>
     requires built { IsBuilt catalog }
     requires heads { head_flaw catalog heads ≡ None }
     requires stage { IsTrue (is_stage catalog heads window) }
@@ -160,7 +160,7 @@ fn reopened<H: KeyDigest>(
     let parts = in_parts(heads.allocator(), tables, window.load, weight)?;
     let vault = Vault::from_tables(catalog, parts.sealed, heads, parts.weight);
     let begun = begun(&vault, window, parts.opened.items(), digest)?;
-    Ok(Restored {
+    Ok(Reopened {
         vault,
         begun: Some(begun),
     })
@@ -176,7 +176,7 @@ pub(crate) fn restored<H: KeyDigest>(
     tables: Vec<Table>,
     weight: u64,
     digest: &H,
-) -> Result<Restored, StartFault>
+) -> Result<Reopened, StartFault>
     requires built { IsBuilt catalog }
     requires heads { head_flaw catalog heads ≡ None }
     requires stage { IfSome stage (λ window. IsTrue (is_stage catalog heads window)) }
@@ -196,5 +196,5 @@ pub(crate) fn restored<H: KeyDigest>(
         return reopened(catalog, heads, window, tables, weight, digest);
     }
     let vault = Vault::from_tables(catalog, tables, heads, weight);
-    Ok(Restored { vault, begun: None })
+    Ok(Reopened { vault, begun: None })
 }

@@ -1,3 +1,5 @@
+use dv_records::SnapHead;
+use dv_text::List;
 use dv_vault::{Addition, Vault};
 
 /// A window that is begun: what it adds to the vault of the sealed windows, and how many first tables, in table order,
@@ -8,9 +10,18 @@ pub struct Begun {
     pub there: usize,
 }
 
-/// What is read of a keeper: the vault of the sealed windows, and the open window, if there is one.
+/// The vault of the sealed windows, and the open window, if there is one.
+#[derive(Drop)]
+pub(crate) struct Reopened {
+    pub vault: Vault,
+    pub begun: Option<Begun>,
+}
+
+/// What is read of a keeper: the vault of the sealed windows, the open window, if there is one, and the heads of the
+/// snapshots.
 #[derive(Drop)]
 pub struct Restored {
     pub vault: Vault,
     pub begun: Option<Begun>,
+    pub snapshots: List<SnapHead>,
 }

@@ -10,6 +10,7 @@ ghost use Rattle.dv_records.specs.Standing.{Stands};
 ghost use Rattle.dv_records.specs.States.{State, head_of};
 ghost use Rattle.dv_form.specs.Damages as damages;
 ghost use Rattle.dv_form.specs.Damages.{damage_at};
+ghost use Rattle.dv_form.specs.SnapshotHeads.{KeepLimits, snapshot_flaw, snapshot_heads};
 ghost use Rattle.dv_form.specs.StoredHeads as spec;
 ghost use Rattle.dv_vault.specs.Vaults.{IsBuilt};
 ghost use Rattle.dv_start.specs.Completions.{MayBeTaken};
@@ -21,8 +22,8 @@ use crate::faults::StartFault;
 use crate::readings::read_tables;
 use crate::restored::Restored;
 use dv_catalog::Catalog;
-use dv_form::{Flaw, head_flaw, is_stage};
-use dv_records::{Damage, Keeper};
+use dv_form::{Flaw, head_flaw, is_stage, snapshot_flaw};
+use dv_records::{Damage, Keeper, SnapHead};
 use dv_text::{Duplicate, KeyDigest, List, Memory, Text, Window, WindowHead};
 use dv_vault::head;
 use std::alloc::Global;
@@ -32,7 +33,7 @@ fn note_sized<H: KeyDigest>(_digest: &H)
     ensures { (text : List ℕ) → length (H.digest_of text) ≡ H.size }
 {}
 
-// A flaw of what stands before the raw tables.
+// A flaw of what stands before the raw tables, or behind them.
 fn damage(alloc: Global, table: &[u8], flaw: Flaw) -> Result<Damage, Memory>
     ensures { IfOk result (λ damage. damage ≡ damage_at table.now flaw) }
 {
@@ -102,6 +103,27 @@ fn stored_stage<K: Keeper>(
     Err(StartFault::Damaged(damage(alloc, b"stage", flaw)?))
 }
 
+// The heads of the snapshots, all in form, behind sealed windows with these heads.
+fn stored_snapshots<K: Keeper>(
+    alloc: Global,
+    keeper: &mut K,
+    heads: &[WindowHead],
+) -> Result<List<SnapHead>, StartFault>
+    ensures told { IfOk result (λ snapshots. Told (K.store keeper.old) (λ s. snapshots ≡ snapshot_heads s)) }
+    ensures clear { IfOk result (λ snapshots. snapshot_flaw heads.now snapshots ≡ None) }
+    ensures mapped { IsErrOf result StartFault.NoMapping → ⊥ }
+    ensures damaged { (damage : Damaged) → IsErrOf result (StartFault.Damaged damage) → Told (K.store keeper.old) (λ s. s.windows ≡ heads.now → damages.snapshot_damage s ≡ Some damage) }
+    ensures store { K.store keeper.new ≡ K.store keeper.old }
+    ensures cause { IsErrOf result StartFault.KeeperFault → Rose (K.faults keeper.old) (K.faults keeper.new) }
+    ensures later { K.faults keeper.old ≤ K.faults keeper.new }
+{
+    let snapshots = keeper.snapshots(alloc)?;
+    match snapshot_flaw(heads, snapshots.items()) {
+        Some(flaw) => Err(StartFault::Damaged(damage(alloc, b"snapshots", flaw)?)),
+        None => Ok(snapshots),
+    }
+}
+
 // The heads of the sealed windows, and behind them that of the open one, if there is one.
 fn all_heads(
     alloc: Global,
@@ -117,8 +139,8 @@ fn all_heads(
     Ok(all)
 }
 
-/// Reads the store of a keeper whose mapping is this: the sealed windows, the open one, and the raw tables in table
-/// order, each in pages. `Damaged` comes exactly where a row breaks a rule of form, with the first such row and its
+/// Reads the store of a keeper whose mapping is this: the sealed windows, the open one, the raw tables in table order,
+/// each in pages, and the heads of the snapshots. `Damaged` comes exactly where a row breaks a rule of form, with the first such row and its
 /// first rule; so never where the store stands for a state. `KeeperFault` comes only where the keeper's count of faults
 /// rose. The store is as before. Condition: every form in the mapping is built.
 pub fn read_store<K: Keeper, H: KeyDigest>(
@@ -129,10 +151,11 @@ pub fn read_store<K: Keeper, H: KeyDigest>(
 ) -> Result<Restored, StartFault>
     requires built { IsBuilt catalog }
     ensures mapping { IfOk result (λ restored. restored.vault.mapping ≡ catalog) }
-    ensures kept { IfOk result (λ restored. Told (K.store keeper.old) (HasKept restored.vault restored.begun)) }
+    ensures kept { IfOk result (λ restored. Told (K.store keeper.old) (HasKept restored.vault restored.begun restored.snapshots)) }
     ensures taken { IfOk result (λ restored. IfSome restored.begun (MayBeTaken restored.vault)) }
     ensures in_form { IfOk result (λ restored. Told (K.store keeper.old) (IsInForm (hashes_of H.digest_of H.size) H.size catalog)) }
-    ensures stands { IfOk result (λ restored. (state : State) → (store : Store) → K.store keeper.old ≡ Some store → Stands catalog (hashes_of H.digest_of H.size) state store → IsOfState (hashes_of H.digest_of H.size) state restored.vault restored.begun) }
+    ensures stands { IfOk result (λ restored. (state : State) → (store : Store) → K.store keeper.old ≡ Some store → Stands catalog (hashes_of H.digest_of H.size) state store → IsOfState (hashes_of H.digest_of H.size) state restored.vault restored.begun restored.snapshots) }
+    ensures limits { IfOk result (λ restored. KeepLimits restored.snapshots) }
     ensures mapped { IsErrOf result StartFault.NoMapping → ⊥ }
     ensures damaged { (damage : Damaged) → IsErrOf result (StartFault.Damaged damage) → Told (K.store keeper.old) (λ s. BreaksRule (hashes_of H.digest_of H.size) H.size catalog s damage) }
     ensures undamaged { (damage : Damaged) → IsErrOf result (StartFault.Damaged damage) → (state : State) → (store : Store) → K.store keeper.old ≡ Some store → Stands catalog (hashes_of H.digest_of H.size) state store → ⊥ }
@@ -145,5 +168,11 @@ pub fn read_store<K: Keeper, H: KeyDigest>(
     let stage = stored_stage(alloc, keeper, &catalog, heads.items())?;
     let known = all_heads(alloc, &heads, &stage)?;
     let read = read_tables(alloc, keeper, &catalog, known.items(), digest)?;
-    restored(catalog, heads, stage, read.tables, read.weight, digest)
+    let snapshots = stored_snapshots(alloc, keeper, heads.items())?;
+    let reopened = restored(catalog, heads, stage, read.tables, read.weight, digest)?;
+    Ok(Restored {
+        vault: reopened.vault,
+        begun: reopened.begun,
+        snapshots,
+    })
 }
