@@ -1,13 +1,14 @@
 //! Stores that are changed in some of their parts, and a keeper that gives one as it is.
 use crate::rows::{Fields, rows_of};
 use dv_catalog::TableId;
-use dv_records::{Keeper, KeeperError, Rows, Store, TableRows};
+use dv_records::{Keeper, KeeperError, Rows, Snap, SnapHead, SnapId, SnapTable, Store, TableRows};
 use dv_table_samples::{day, key, pieces, texts};
 use dv_text::{Duplicate, Key, List, Memory, NRow, Staged, Stamp, Text, Window, WindowHead};
 use std::alloc::Global;
 use std::test::Fail;
 
-/// A keeper that gives a store as it is, and tells nothing of it. No table of the store has a thousand rows.
+/// A keeper that gives a store as it is, and tells nothing of it. No table of the store, and none
+/// of a snapshot, has a thousand rows.
 #[derive(Drop)]
 pub(crate) struct Given {
     pub(crate) store: Store,
@@ -19,6 +20,12 @@ fn some<T: Duplicate>(option: &Option<T>) -> Result<Option<T>, Memory> {
         Some(value) => Ok(Some(value.copy()?)),
         None => Ok(None),
     }
+}
+
+// The entry of a table of the snapshot at a date.
+fn table_at(snaps: &[Snap], date: Stamp, id: SnapId) -> Option<&SnapTable> {
+    let snap = snaps.iter().find(|snap| snap.head.date == date)?;
+    snap.tables.items().iter().find(|entry| entry.id == id)
 }
 
 impl Keeper for Given {
@@ -75,6 +82,37 @@ impl Keeper for Given {
 
     fn seal(&mut self, _alloc: Global, _head: &WindowHead) -> Result<(), KeeperError> {
         Ok(())
+    }
+
+    fn snapshots(&mut self, alloc: Global) -> Result<List<SnapHead>, KeeperError> {
+        let mut heads = List::new(alloc);
+        for snap in self.store.snapshots.items() {
+            heads.push(snap.head)?;
+        }
+        Ok(heads)
+    }
+
+    fn put_snapshot(
+        &mut self,
+        _alloc: Global,
+        _head: &SnapHead,
+        _tables: &List<SnapTable>,
+    ) -> Result<(), KeeperError> {
+        Ok(())
+    }
+
+    fn snapshot_rows(
+        &mut self,
+        alloc: Global,
+        date: Stamp,
+        id: SnapId,
+        from: u64,
+        _most: u32,
+    ) -> Result<Rows, KeeperError> {
+        match table_at(self.store.snapshots.items(), date, id) {
+            Some(entry) if from == 0 => Ok(entry.rows.copy()?),
+            _ => Ok(Rows::Pits(List::new(alloc))),
+        }
     }
 }
 

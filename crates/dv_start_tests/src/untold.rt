@@ -3,8 +3,8 @@ ghost use Rattle.std.specs.Prelude.{◌≡◌};
 ghost use Rattle.dv_records.specs.Stores as stores;
 
 use dv_catalog::TableId;
-use dv_records::{Keeper, KeeperError, MemoryKeeper, Rows, Store};
-use dv_text::{List, Text, Window, WindowHead};
+use dv_records::{Keeper, KeeperError, MemoryKeeper, Rows, SnapHead, SnapId, SnapTable, Store};
+use dv_text::{List, Stamp, Text, Window, WindowHead};
 use std::alloc::Global;
 
 /// Every call is passed on to the keeper in memory. One that this doesn't take changes nothing.
@@ -93,5 +93,30 @@ impl Keeper for Untold {
             Some(window) if window.load == head.load => self.keeper.seal(alloc, head),
             _ => Err(KeeperError::Memory),
         }
+    }
+
+    fn snapshots(&mut self, alloc: Global) -> Result<List<SnapHead>, KeeperError> {
+        self.keeper.snapshots(alloc)
+    }
+
+    // No test stores a snapshot.
+    fn put_snapshot(
+        &mut self,
+        _alloc: Global,
+        _head: &SnapHead,
+        _tables: &List<SnapTable>,
+    ) -> Result<(), KeeperError> {
+        Err(KeeperError::Memory)
+    }
+
+    fn snapshot_rows(
+        &mut self,
+        alloc: Global,
+        date: Stamp,
+        id: SnapId,
+        from: u64,
+        most: u32,
+    ) -> Result<Rows, KeeperError> {
+        self.keeper.snapshot_rows(alloc, date, id, from, most)
     }
 }

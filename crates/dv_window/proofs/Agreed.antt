@@ -1,5 +1,6 @@
 -- A keeper's store agrees with an office again after an addition, or as far as this got.
-use Rattle.dv_window.proofs.Vocabulary.{List, None, Option, Some, [], ap, false, option_map, refl, subst, sym, true, ℕ, ◌++◌, ◌∙◌, ◌∷◌, ◌≡◌, Result, Ok, Err, Told}
+use Rattle.dv_records.specs.declared.snapshots.Snap.{Snap}
+use Rattle.dv_window.proofs.Vocabulary.{List, None, Option, Some, [], ap, false, map, option_map, refl, subst, sym, true, ℕ, ◌++◌, ◌∙◌, ◌∷◌, ◌≡◌, Result, Ok, Err, Told}
 use Rattle.dv_window.proofs.Vocabulary.{Addition, Agrees, AgreesUnlessStale, Begun, HasKept, Held, IsAsFar, IsMappedBy, KeeperError, StaleAfter, StaleThen, Store, TakesWindow, TookOrBroke, WindowHead, head_of, held_broken, held_with, load_answer, resume_answer, staged}
 use Rattle.dv_window.proofs.Vocabulary.{Became, HasRows}
 use Rattle.dv_records.specs.declared.keepers.KeeperError.TheVariants.{Failed, Memory}
@@ -14,6 +15,7 @@ agrees_taken held addition before after told takes now e =
         windows = took.windows ∙ ap (λ (windows : List WindowHead). windows ++ head_of addition.window ∷ []) agreed.kept.windows;
         stage = took.none_open;
         tables_are = took.tables_are;
+        snapshots_are = agreed.kept.snapshots_are ∙ ap (map (λ (snap : Snap). snap.head)) (sym took.snapshots);
       };
     }
 
@@ -29,7 +31,12 @@ agrees_so_far held addition (Some k) before after told none far now e =
     let agreed = told was at in
     record {
       mapped = subst (IsMappedBy held.vault.mapping) (sym is_open.mapping) agreed.mapped;
-      kept = record { windows = is_open.windows ∙ agreed.kept.windows; stage = is_open.stage; tables_are = is_open.tables_are };
+      kept = record {
+        windows = is_open.windows ∙ agreed.kept.windows;
+        stage = is_open.stage;
+        tables_are = is_open.tables_are;
+        snapshots_are = agreed.kept.snapshots_are ∙ ap (map (λ (snap : Snap). snap.head)) (sym is_open.snapshots);
+      };
     }
 
 pub agrees_then : (held : Held) (addition : Addition) (begun : Option ℕ) (held' : Held) (before after : Option Store) → Told before (Agrees held) → (begun ≡ None → held.begun ≡ None) → (result : Result ℕ KeeperError)
@@ -76,5 +83,5 @@ none_staged held e = by held.begun e
 
 pub agrees_closed : (held : Held) (store : Store) → Agrees held store → held.begun ≡ None → (store.stage ≡ None) × HasRows store held.vault.tables
 agrees_closed held store agrees none =
-    let kept = subst (λ (begun : Option Begun). HasKept held.vault begun store) none agrees.kept in
+    let kept = subst (λ (begun : Option Begun). HasKept held.vault begun held.snapshots store) none agrees.kept in
     (kept.stage, kept.tables_are)

@@ -1,9 +1,13 @@
 -- An office and a store with what a window adds, whole or in part: the states that they stand for then.
-use Rattle.dv_window.proofs.Vocabulary.{Bool, List, None, Option, Some, [], and_from, ap, drop, map-id, map-map, take-append-drop, table_entry, length, map, map-append, nat_le, refl, subst, sym, take, true, ℕ, ◌++◌, ◌∙◌, ◌∷◌, ◌≡◌, ◌≤◌, ◌&&◌, append-nil, arith}
-use Rattle.dv_window.proofs.Vocabulary.{Hashes, Mapping, Rows, TableRows, Window, WindowHead, HasSealed, IsAddition, IsBuilt, RawVault, are_windows_valid, ascends, full_at, head_of, is_window, last_head, last_load, late_after, snapshot, snapshots_weight, tables}
-use Rattle.dv_window.proofs.Vocabulary.{HasTables, IsMappedBy, Stands, State, Store, are_dates_valid, are_not_later, is_valid_state, opened, sealed_with, Addition, Held, StandsFor, held_with, raw_with}
+use Rattle.dv_window.proofs.Vocabulary.{Bool, List, None, Option, Some, [], and_from, and_parts, ap, drop, map-id, map-map, take-append-drop, table_entry, length, map, map-append, subst, sym, take, true, ℕ, ◌++◌, ◌∙◌, ◌∷◌, ◌≡◌, ◌≤◌, append-nil, arith}
+use Rattle.dv_window.proofs.Vocabulary.{Hashes, Mapping, Rows, TableRows, Window, WindowHead, HasSealed, IsAddition, IsBuilt, RawVault, are_windows_valid, full_at, head_of, is_window, last_head, last_load, late_after, snapshot, tables}
+use Rattle.dv_window.proofs.Vocabulary.{HasTables, IsMappedBy, Stands, State, Store, are_dates_valid, is_valid_state, opened, sealed_with, Addition, Held, StandsFor, held_with, raw_with}
 use Rattle.dv_window.proofs.Vocabulary.{batch_count, partly_after, sealed_after, entries_with, reached, HasRows, IsOpen, KeepsOthers, TookWindow, has_all, same_tables}
 use Rattle.dv_records.specs.Backwards.{backwards, with_newest}
+use Rattle.dv_records.specs.States.{all_windows}
+use Rattle.dv_start.specs.Restored.{heads_of_state}
+use Rattle.dv_vault.proofs.AddedWindows.{last_same}
+use Rattle.dv_window.proofs.StoredDates.{dates_still_valid, stored_heads_stay, stored_stay}
 use Rattle.dv_records.specs.Standing.{TablesStand}
 use Rattle.dv_records.specs.Vault.{partial, vault}
 
@@ -13,20 +17,6 @@ pub record CanAdd (hashes : Hashes) (raw : RawVault) (window : Window) (addition
   pub late : late_after (last_head raw.heads) window.load ≡ None
   pub adds : IsAddition hashes raw window addition
   pub room : full_at addition.weight (length raw.heads) ≡ None
-
--- no snapshots are in order
-no_dates_valid : (mapping : Mapping) (hashes : Hashes) (state : State) → state.dates ≡ [] → are_dates_valid mapping hashes state ≡ true
-no_dates_valid mapping hashes state e =
-    ap (λ (dates : List ℕ). ascends dates && are_not_later (last_load state.sealed) dates && nat_le (length dates) 1000 && nat_le (snapshots_weight mapping hashes state.sealed dates) 268435456) e
-    ∙ by (last_load state.sealed)
-  where
-    by : (last : Option ℕ) → (ascends [] && are_not_later last [] && true && nat_le (snapshots_weight mapping hashes state.sealed []) 268435456) ≡ true
-    by None = refl
-    by (Some last) = refl
-
--- no snapshots are stored
-none_stored : (mapping : Mapping) (hashes : Hashes) (dates : List ℕ) → dates ≡ [] → (sealed sealed' : List Window) → map (snapshot mapping hashes sealed) dates ≡ map (snapshot mapping hashes sealed') dates
-none_stored mapping hashes dates e sealed sealed' = ap (map (snapshot mapping hashes sealed)) e ∙ ap (map (snapshot mapping hashes sealed')) (sym e)
 
 -- the tables of a vault are those of the mapping
 vault_ids : (mapping : Mapping) (hashes : Hashes) (sealed : List Window) → map (λ (entry : TableRows). entry.table) (vault mapping hashes sealed) ≡ tables mapping
@@ -46,7 +36,7 @@ stood : (mapping : Mapping) (hashes : Hashes) (sealed : List Window) (begun : Op
 stood mapping hashes sealed None store stand = (_, stand, vault_ids mapping hashes sealed)
 stood mapping hashes sealed (Some window) store (k, within, stand) = (_, stand, partial_ids mapping hashes sealed window k)
 
-module _ (hashes : Hashes) (state : State) (held : Held) (stands : StandsFor hashes state held) (no_dates : state.dates ≡ []) (built : IsBuilt held.vault.mapping) (window : Window) (addition : Addition)
+module _ (hashes : Hashes) (state : State) (held : Held) (stands : StandsFor hashes state held) (built : IsBuilt held.vault.mapping) (window : Window) (addition : Addition)
     (can : CanAdd hashes held.vault window addition) where
   abbrev raw : RawVault
   raw = held.vault
@@ -57,16 +47,29 @@ module _ (hashes : Hashes) (state : State) (held : Held) (stands : StandsFor has
   windows_valid : are_windows_valid raw.mapping hashes (state.sealed ++ window ∷ []) ≡ true
   windows_valid = grown.valid
 
+  dates_valid : are_dates_valid raw.mapping hashes state ≡ true
+  dates_valid = (and_parts (are_windows_valid raw.mapping hashes (all_windows state)) (are_dates_valid raw.mapping hashes state) stands.valid).1
+
+  late : late_after (last_load state.sealed) window.load ≡ None
+  late = ap (λ last. late_after last window.load) (last_same state.sealed ∙ ap last_head (sym stands.sealed_are.heads_are)) ∙ can.late
+
+  -- the stored snapshots stay what they are
+  snapshots_stay : map (snapshot raw.mapping hashes (state.sealed ++ window ∷ [])) state.dates ≡ map (snapshot raw.mapping hashes state.sealed) state.dates
+  snapshots_stay = stored_stay raw.mapping hashes state window late dates_valid
+
+  heads_stay : heads_of_state raw.mapping hashes (sealed_with window state) ≡ heads_of_state raw.mapping hashes state
+  heads_stay = stored_heads_stay raw.mapping hashes state window late dates_valid
+
   sealed_valid : is_valid_state raw.mapping hashes (sealed_with window state) ≡ true
   sealed_valid =
-      and_from _ _ (ap (are_windows_valid raw.mapping hashes) (append-nil (state.sealed ++ window ∷ [])) ∙ windows_valid) (no_dates_valid raw.mapping hashes (sealed_with window state) no_dates)
+      and_from _ _ (ap (are_windows_valid raw.mapping hashes) (append-nil (state.sealed ++ window ∷ [])) ∙ windows_valid) (dates_still_valid raw.mapping hashes state window late dates_valid)
 
   opened_valid : is_valid_state raw.mapping hashes (opened window state) ≡ true
-  opened_valid = and_from _ _ windows_valid (no_dates_valid raw.mapping hashes (opened window state) no_dates)
+  opened_valid = and_from _ _ windows_valid dates_valid
 
   -- the office with the window sealed
   pub sealed_stands_for : StandsFor hashes (sealed_with window state) (held_with addition held)
-  sealed_stands_for = record { valid = sealed_valid; sealed_are = grown; begun_is = tt; dates_are = stands.dates_are }
+  sealed_stands_for = record { valid = sealed_valid; sealed_are = grown; begun_is = tt; snapshots_are = stands.snapshots_are ∙ sym heads_stay }
 
   -- and with it open
   pub opened_stands_for : (there : ℕ) (stale : Bool) → StandsFor hashes (opened window state) (record held { begun = Some (record { addition = addition; there = there }); stale = stale })
@@ -74,7 +77,7 @@ module _ (hashes : Hashes) (state : State) (held : Held) (stands : StandsFor has
     valid = opened_valid;
     sealed_are = stands.sealed_are;
     begun_is = record { adds = can.adds; room = can.room };
-    dates_are = stands.dates_are;
+    snapshots_are = stands.snapshots_are;
   }
 
   module _ (was : Store) (before : Stands raw.mapping hashes state was) where
@@ -95,7 +98,7 @@ module _ (hashes : Hashes) (state : State) (held : Held) (stands : StandsFor has
           ∙ sym (map-append head_of state.sealed (window ∷ []));
       stage = took.none_open;
       tables_stand = subst (HasTables now) grown.tables_are (all_rows addition.batches now took.tables_are took.others);
-      snapshots = took.snapshots ∙ before.snapshots ∙ none_stored raw.mapping hashes state.dates no_dates state.sealed (state.sealed ++ window ∷ []);
+      snapshots = took.snapshots ∙ before.snapshots ∙ sym snapshots_stay;
     }
 
     pub open_stands : (now : Store) (k : ℕ) → k ≤ length addition.batches → IsOpen addition.window (reached raw.tables addition.batches k) was now → Stands raw.mapping hashes (opened window state) now

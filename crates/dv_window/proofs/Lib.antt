@@ -3,10 +3,12 @@ pub mod Answered
 pub mod BegunRows
 pub mod BrokenOff
 pub mod Growths
+pub mod KeptSnapshots
 pub mod OutcomeSteps
 pub mod PlanFacts
 pub mod Refreshed
 pub mod SealedAgain
 pub mod StartFacts
 pub mod Stepped
+pub mod StoredDates
 pub mod Vocabulary

@@ -2,7 +2,7 @@
 use Rattle.dv_window.proofs.Vocabulary.{[], and_from, ap, map, refl, subst, sym, ◌∙◌, ◌≡◌, Hashes, IsBegunAs, Mapping, State, beginning, no_rows, none_sealed, none_valid, tables, Held, IsMappedBy, IsOfState, IsReadAs, StandsFor, Store, built_parts, None}
 
 module _ (mapping : Mapping) (held : Held) (mapping_is : held.vault.mapping ≡ mapping) (tables_are : held.vault.tables ≡ map (λ id. record { table = id; rows = no_rows id }) (tables mapping))
-    (no_heads : held.vault.heads ≡ []) (none_open : held.begun ≡ None) (no_dates : held.dates ≡ []) where
+    (no_heads : held.vault.heads ≡ []) (none_open : held.begun ≡ None) (no_snapshots : held.snapshots ≡ []) where
   own_tables : held.vault.tables ≡ map (λ id. record { table = id; rows = no_rows id }) (tables held.vault.mapping)
   own_tables = tables_are ∙ ap (λ (m : Mapping). map (λ id. record { table = id; rows = no_rows id }) (tables m)) (sym mapping_is)
 
@@ -11,12 +11,12 @@ module _ (mapping : Mapping) (held : Held) (mapping_is : held.vault.mapping ≡ 
     valid = and_from _ _ (none_valid held.vault.mapping hashes) refl;
     sealed_are = none_sealed hashes held.vault own_tables no_heads;
     begun_is = subst (IsBegunAs hashes held.vault None) (sym none_open) tt;
-    dates_are = no_dates;
+    snapshots_are = no_snapshots;
   }
 
--- an office of what is of a state, which has no snapshots
-pub stands_as : (hashes : Hashes) (state : State) (held : Held) → IsOfState hashes state held.vault held.begun → held.dates ≡ [] → state.dates ≡ [] → StandsFor hashes state held
-stands_as hashes state held is none none_there = record { valid = is.valid; sealed_are = is.sealed_are; begun_is = is.begun_is; dates_are = none ∙ sym none_there }
+-- an office of what is of a state
+pub stands_as : (hashes : Hashes) (state : State) (held : Held) → IsOfState hashes state held.vault held.begun held.snapshots → StandsFor hashes state held
+stands_as hashes state held is = record { valid = is.valid; sealed_are = is.sealed_are; begun_is = is.begun_is; snapshots_are = is.snapshots_are }
 
 -- a store whose text is read as a mapping in which every form is built has that mapping
 pub mapped_by : (mapping : Mapping) (store : Store) → IsReadAs mapping store → IsMappedBy mapping store.mapping

@@ -65,13 +65,13 @@ module _ (hashes : Hashes) (state : State) (held : Held) (built : IsBuilt held.v
     new_step held' after (Ok count) (rows_are, is, took) = (
       sealed_with window state,
       (to_load, refl, rows_are ∙ rows hashes state held stands built given addition plan_here),
-      taken hashes state held stands is_in.no_dates built window addition can before is_in.store_stands held' after is took,
+      taken hashes state held stands built window addition can before is_in.store_stands held' after is took,
     )
     new_step held' after (Err Failed) broke =
-        let (state', left, is_left) = broken hashes state held stands is_in.no_dates built window addition can before is_in.store_stands None Failed held' after fresh broke (λ e. none_begun) in
+        let (state', left, is_left) = broken hashes state held stands built window addition can before is_in.store_stands None Failed held' after fresh broke (λ e. none_begun) in
         (state', broke_load state' left, is_left)
     new_step held' after (Err Memory) broke =
-        let (state', left, is_left) = broken hashes state held stands is_in.no_dates built window addition can before is_in.store_stands None Memory held' after fresh broke (λ e. none_begun) in
+        let (state', left, is_left) = broken hashes state held stands built window addition can before is_in.store_stands None Memory held' after fresh broke (λ e. none_begun) in
         (state', broke_load state' left, is_left)
 
   -- ---- the open window
@@ -106,9 +106,9 @@ module _ (hashes : Hashes) (state : State) (held : Held) (built : IsBuilt held.v
 
     resumed : (result : Result ℕ KeeperError) → TookOrBroke (Some begun.there) begun.addition held held' before after result → (state' : State) × Resumed result state' × IsLeftIn hashes state' held' after
     resumed (Ok count) (rows_are, is, took) =
-        (sealed_with open_window state, (refl, rows_are ∙ open_rows), taken hashes state held stands is_in.no_dates built open_window begun.addition adds.2 before is_in.store_stands held' after is took)
+        (sealed_with open_window state, (refl, rows_are ∙ open_rows), taken hashes state held stands built open_window begun.addition adds.2 before is_in.store_stands held' after is took)
     resumed (Err error) broke =
-        let (state', left, is_left) = broken hashes state held stands is_in.no_dates built open_window begun.addition adds.2 before is_in.store_stands (Some begun.there) error held' after fresh broke (λ no. cc) in
+        let (state', left, is_left) = broken hashes state held stands built open_window begun.addition adds.2 before is_in.store_stands (Some begun.there) error held' after fresh broke (λ no. cc) in
         (state', left_so state' left, is_left)
 
     pub open_completes : CompletesTo held.vault.mapping hashes state (resume_answer result) held' after

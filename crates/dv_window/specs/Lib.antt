@@ -1,4 +1,5 @@
 pub mod Offices
 pub mod Plans
+pub mod Snapshots
 pub mod Stopping
 pub mod Takings

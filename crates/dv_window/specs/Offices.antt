@@ -1,6 +1,6 @@
 -- An office: what it holds of the warehouse, the state that it stands for, and what a call leaves of both.
 use Rattle.std.specs.Option.{option_map}
-use Rattle.std.specs.Prelude.{◌≡◌, ◌⊎◌, ℕ, Bool, true, false, List, [], Option, Some, None}
+use Rattle.std.specs.Prelude.{◌≡◌, ◌⊎◌, ℕ, Bool, true, false, List, Option, Some, None}
 use Rattle.dv_text.specs.declared.rows.Window.{Window}
 use Rattle.dv_text.specs.Keys.{Hashes}
 use Rattle.dv_text.specs.Told.{Told}
@@ -11,6 +11,7 @@ use Rattle.dv_records.specs.declared.answers.LoadAnswer.{LoadAnswer}
 use Rattle.dv_records.specs.declared.answers.LoadAnswer.TheVariants as load
 use Rattle.dv_records.specs.declared.answers.ResumeAnswer.{ResumeAnswer}
 use Rattle.dv_records.specs.declared.answers.ResumeAnswer.TheVariants as resume
+use Rattle.dv_records.specs.declared.snapshots.SnapHead.{SnapHead}
 use Rattle.dv_records.specs.declared.stores.Rows.{Rows}
 use Rattle.dv_records.specs.declared.stores.Store.{Store}
 use Rattle.dv_records.specs.Standing.{IsMappedBy, Stands}
@@ -20,15 +21,15 @@ use Rattle.dv_records.specs.Stores.{rows_then}
 use Rattle.dv_start.specs.declared.restored.Begun.{Begun}
 use Rattle.dv_start.specs.Completions.{IsBegunAs}
 use Rattle.dv_start.specs.Damages.{IsFirstDamage, IsReadAs, mapping_damage}
-use Rattle.dv_start.specs.Restored.{HasKept}
+use Rattle.dv_start.specs.Restored.{HasKept, heads_of_state}
 use Rattle.dv_vault.specs.Vaults.{HasSealed, RawVault}
 
--- what an office holds: the vault of the sealed windows, the open window with what it adds, the dates of the snapshots,
+-- what an office holds: the vault of the sealed windows, the open window with what it adds, the heads of the snapshots,
 -- whether its keeper may have more than it knows, and the width of the digests with which it was read
 pub record Held : Type 0 where
   pub vault : RawVault
   pub begun : Option Begun
-  pub dates : List ℕ
+  pub snapshots : List SnapHead
   pub stale : Bool
   pub width : ℕ
 
@@ -46,12 +47,12 @@ pub record StandsFor (hashes : Hashes) (state : State) (held : Held) : Type 0 wh
   pub valid : is_valid_state held.vault.mapping hashes state ≡ true
   pub sealed_are : HasSealed hashes state.sealed held.vault
   pub begun_is : IsBegunAs hashes held.vault state.begun held.begun
-  pub dates_are : held.dates ≡ state.dates
+  pub snapshots_are : held.snapshots ≡ heads_of_state held.vault.mapping hashes state
 
 -- a store has what an office holds
 pub record Agrees (held : Held) (store : Store) : Type 0 where
   pub mapped : IsMappedBy held.vault.mapping store.mapping
-  pub kept : HasKept held.vault held.begun store
+  pub kept : HasKept held.vault held.begun held.snapshots store
 
 -- an office that isn't stale agrees with its keeper's store, where this is told
 abbrev pub AgreesUnlessStale : Held → Option Store → Type 0
@@ -60,11 +61,10 @@ AgreesUnlessStale held store = held.stale ≡ false → Told store (Agrees held)
 -- ---- a state, an office and its keeper's store
 
 -- an office that isn't stale stands for the state; for a stale one its keeper tells the store. The store, where it is
--- told, stands for the state, which so far has no snapshots.
+-- told, stands for the state.
 pub record IsIn (hashes : Hashes) (state : State) (held : Held) (store : Option Store) : Type 0 where
   pub stands : held.stale ≡ false → StandsFor hashes state held
   pub told : held.stale ≡ true → (s : Store) × (store ≡ Some s)
-  pub no_dates : state.dates ≡ []
   pub store_stands : Told store (Stands held.vault.mapping hashes state)
 
 -- what a call leaves: an office that stands for the state unless it is stale, and a store that does where it is told

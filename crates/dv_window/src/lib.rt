@@ -8,6 +8,7 @@ mod plans;
 mod refreshes;
 mod refusals;
 mod resumes;
+mod snapshots;
 mod starts;
 mod stops;
 mod takings;

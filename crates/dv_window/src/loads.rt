@@ -1,5 +1,5 @@
 // The load of a window.
-ghost use Rattle.std.specs.Prelude.{◌≡◌, ◌≤◌, [], None, false, true};
+ghost use Rattle.std.specs.Prelude.{◌≡◌, ◌≤◌, None, false, true};
 ghost use Rattle.dv_text.specs.Causes.{Rose};
 ghost use Rattle.dv_text.specs.Keys.{hashes_of};
 ghost use Rattle.dv_text.specs.Told.{Told};
@@ -26,7 +26,7 @@ impl Office {
         requires fresh { self.old.stale ≡ false }
         requires agrees { AgreesUnlessStale self.old (K.store keeper.old) }
         ensures step { (state : State) → IsIn (hashes_of H.digest_of H.size) state self.old (K.store keeper.old) → StepsTo self.old.vault.mapping (hashes_of H.digest_of H.size) state given.now result self.new (K.store keeper.new) }
-        ensures answer { (state : State) → StandsFor (hashes_of H.digest_of H.size) state self.old → state.dates ≡ [] → StepsTo self.old.vault.mapping (hashes_of H.digest_of H.size) state given.now result self.new None }
+        ensures answer { (state : State) → StandsFor (hashes_of H.digest_of H.size) state self.old → StepsTo self.old.vault.mapping (hashes_of H.digest_of H.size) state given.now result self.new None }
         ensures kept { LeavesOffice result self.old self.new }
         ensures agrees { AgreesUnlessStale self.new (K.store keeper.new) }
         ensures mapping { self.new.vault.mapping ≡ self.old.vault.mapping }
@@ -72,7 +72,7 @@ impl Office {
     ) -> LoadAnswer
         requires { AgreesUnlessStale self.old (K.store keeper.old) }
         ensures step { (state : State) → IsIn (hashes_of H.digest_of H.size) state self.old (K.store keeper.old) → StepsTo self.old.vault.mapping (hashes_of H.digest_of H.size) state given.now result self.new (K.store keeper.new) }
-        ensures answer { self.old.stale ≡ false → (state : State) → StandsFor (hashes_of H.digest_of H.size) state self.old → state.dates ≡ [] → StepsTo self.old.vault.mapping (hashes_of H.digest_of H.size) state given.now result self.new None }
+        ensures answer { self.old.stale ≡ false → (state : State) → StandsFor (hashes_of H.digest_of H.size) state self.old → StepsTo self.old.vault.mapping (hashes_of H.digest_of H.size) state given.now result self.new None }
         ensures kept { self.old.stale ≡ false → LeavesOffice result self.old self.new }
         ensures agrees { AgreesUnlessStale self.new (K.store keeper.new) }
         ensures mapping { self.new.vault.mapping ≡ self.old.vault.mapping }

@@ -1,5 +1,6 @@
 ghost use Rattle.std.specs.Option.{option_map};
 ghost use Rattle.std.specs.Prelude.{◌≡◌, ◌<◌, IfOk, IfSome, IsTrue, length, slice_get, true};
+ghost use Rattle.dv_form.specs.SnapshotHeads.{KeepLimits};
 ghost use Rattle.dv_records.specs.ReadBack.{any_content_read};
 ghost use Rattle.dv_records.specs.Stores.{is_of_kind, rows_in};
 ghost use Rattle.dv_start.specs.Completions.{rows_there};
@@ -7,35 +8,35 @@ ghost use Rattle.dv_vault.specs.Vaults.{IsBuilt, IsVaultOf, are_heads_of, last_h
 ghost use Rattle.dv_window.specs.Offices as spec;
 
 use dv_catalog::{Catalog, TableId};
-use dv_records::Rows;
+use dv_records::{Rows, SnapHead};
 use dv_start::Begun;
 use dv_text::{List, Memory, NRow, Stamp, Window, WindowHead};
 use dv_vault::Vault;
 use std::alloc::Global;
 use std::marker::Model;
 
-/// What loads windows: the vault of the sealed ones, the open one with what it adds, the dates of the snapshots, whether
-/// its keeper may have more than it knows, and the width of the digests with which it was read. Contracts see these. So
-/// far there are no snapshots.
+/// What loads windows: the vault of the sealed ones, the open one with what it adds, the heads of the snapshots, whether
+/// its keeper may have more than it knows, and the width of the digests with which it was read. Contracts see these.
 #[derive(Drop)]
 pub struct Office {
     pub(crate) vault: Vault,
     pub(crate) begun: Option<Begun>,
-    pub(crate) dates: List<Stamp>,
+    pub(crate) snapshots: List<SnapHead>,
     pub(crate) stale: bool,
     pub(crate) width: u8,
 }
 
 impl Model for Office {
-    ghost use Rattle.std.specs.Prelude.{◌≡◌, [], IfSome};
+    ghost use Rattle.std.specs.Prelude.{IfSome};
+    ghost use Rattle.dv_form.specs.SnapshotHeads.{KeepLimits};
     ghost use Rattle.dv_start.specs.Completions.{MayBeTaken};
     ghost use Rattle.dv_window.specs.Offices.{Held};
 
     ghost Value = { Held };
 
-    ghost view = { λ o. record { vault = o.vault; begun = o.begun; dates = o.dates; stale = o.stale; width = o.width } };
+    ghost view = { λ o. record { vault = o.vault; begun = o.begun; snapshots = o.snapshots; stale = o.stale; width = o.width } };
 
-    ghost invariant = { λ o. (o.dates ≡ []) × IfSome o.begun (MayBeTaken o.vault) };
+    ghost invariant = { λ o. KeepLimits o.snapshots × IfSome o.begun (MayBeTaken o.vault) };
 }
 
 /// The order in which the tasks of a window are worked through.
@@ -77,7 +78,7 @@ impl Office {
 
     /// The allocator that the office keeps: there is one, so no clause says which.
     pub(crate) fn allocator(&self) -> Global {
-        self.dates.allocator()
+        self.snapshots.allocator()
     }
 
     /// The heads of the sealed windows, in order. Takes no memory.
@@ -101,6 +102,15 @@ impl Office {
     {
         let begun = self.begun.as_ref()?;
         Some(&begun.addition.window)
+    }
+
+    /// The heads of the stored snapshots, by date: at most 1,000, which weigh at most 268,435,456 together. Takes no
+    /// memory.
+    pub fn snapshots(&self) -> &List<SnapHead>
+        ensures value { result.now ≡ self.now.snapshots }
+        ensures limits { KeepLimits self.now.snapshots }
+    {
+        &self.snapshots
     }
 
     /// The rows that the open window has in a raw table of the keeper already; none where no window is

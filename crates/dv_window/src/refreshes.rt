@@ -76,7 +76,7 @@ impl Office {
         let catalog = self.same_mapping(keeper)?;
         let alloc = self.allocator();
         let restored = read_store(alloc, keeper, catalog, digest)?;
-        self.change_to(Office::of_restored(alloc, restored, digest.width()));
+        self.change_to(Office::of_restored(restored, digest.width()));
         Ok(())
     }
 }

@@ -1,5 +1,5 @@
 // The completion of an open window.
-ghost use Rattle.std.specs.Prelude.{◌≡◌, ◌≤◌, [], None, false, true};
+ghost use Rattle.std.specs.Prelude.{◌≡◌, ◌≤◌, None, false, true};
 ghost use Rattle.dv_text.specs.Causes.{Rose};
 ghost use Rattle.dv_text.specs.Keys.{Hashes, hashes_of};
 ghost use Rattle.dv_text.specs.Told.{Told};
@@ -18,7 +18,7 @@ impl Office {
         requires fresh { self.old.stale ≡ false }
         requires agrees { AgreesUnlessStale self.old (K.store keeper.old) }
         ensures step { (hashes : Hashes) (state : State) → IsIn hashes state self.old (K.store keeper.old) → CompletesTo self.old.vault.mapping hashes state result self.new (K.store keeper.new) }
-        ensures answer { (hashes : Hashes) (state : State) → StandsFor hashes state self.old → state.dates ≡ [] → CompletesTo self.old.vault.mapping hashes state result self.new None }
+        ensures answer { (hashes : Hashes) (state : State) → StandsFor hashes state self.old → CompletesTo self.old.vault.mapping hashes state result self.new None }
         ensures kept { result ≡ ResumeAnswer.NothingOpen → self.new ≡ self.old }
         ensures agrees { AgreesUnlessStale self.new (K.store keeper.new) }
         ensures mapping { self.new.vault.mapping ≡ self.old.vault.mapping }
@@ -46,7 +46,7 @@ impl Office {
     pub fn resume<K: Keeper, H: KeyDigest>(&mut self, keeper: &mut K, digest: &H) -> ResumeAnswer
         requires { AgreesUnlessStale self.old (K.store keeper.old) }
         ensures step { (state : State) → IsIn (hashes_of H.digest_of H.size) state self.old (K.store keeper.old) → CompletesTo self.old.vault.mapping (hashes_of H.digest_of H.size) state result self.new (K.store keeper.new) }
-        ensures answer { self.old.stale ≡ false → (state : State) → StandsFor (hashes_of H.digest_of H.size) state self.old → state.dates ≡ [] → CompletesTo self.old.vault.mapping (hashes_of H.digest_of H.size) state result self.new None }
+        ensures answer { self.old.stale ≡ false → (state : State) → StandsFor (hashes_of H.digest_of H.size) state self.old → CompletesTo self.old.vault.mapping (hashes_of H.digest_of H.size) state result self.new None }
         ensures kept { self.old.stale ≡ false → result ≡ ResumeAnswer.NothingOpen → self.new ≡ self.old }
         ensures agrees { AgreesUnlessStale self.new (K.store keeper.new) }
         ensures mapping { self.new.vault.mapping ≡ self.old.vault.mapping }

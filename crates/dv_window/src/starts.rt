@@ -1,5 +1,5 @@
 // The start of an office: over a mapping, and over a keeper that has one.
-ghost use Rattle.std.specs.Prelude.{◌≡◌, ◌≤◌, [], IfOk, IfSome, IsErrOf, None, Some, false};
+ghost use Rattle.std.specs.Prelude.{◌≡◌, ◌≤◌, IfOk, IfSome, IsErrOf, None, Some, false};
 ghost use Rattle.dv_text.specs.Causes.{Rose};
 ghost use Rattle.dv_text.specs.Keys.{Hashes, hashes_of};
 ghost use Rattle.dv_text.specs.Told.{Told};
@@ -8,6 +8,7 @@ ghost use Rattle.dv_records.specs.declared.answers.Damage.{Damage};
 ghost use Rattle.dv_records.specs.declared.stores.Store.{Store};
 ghost use Rattle.dv_records.specs.Standing.{Stands};
 ghost use Rattle.dv_records.specs.States.{State, beginning};
+ghost use Rattle.dv_form.specs.SnapshotHeads.{KeepLimits};
 ghost use Rattle.dv_start.specs.Completions.{MayBeTaken};
 ghost use Rattle.dv_start.specs.Damages.{IsFirstDamage, IsInForm};
 ghost use Rattle.dv_vault.specs.Vaults.{IsBuilt};
@@ -35,21 +36,22 @@ impl Office {
         Ok(Office {
             vault,
             begun: None,
-            dates: List::new(alloc),
+            snapshots: List::new(alloc),
             stale: false,
             width,
         })
     }
 
     /// The office of what is read of a store.
-    pub(crate) fn of_restored(alloc: Global, restored: Restored, width: u8) -> Office
-        requires { IfSome restored.begun (MayBeTaken restored.vault) }
-        ensures { result ≡ record { vault = restored.vault; begun = restored.begun; dates = []; stale = false; width = width } }
+    pub(crate) fn of_restored(restored: Restored, width: u8) -> Office
+        requires taken { IfSome restored.begun (MayBeTaken restored.vault) }
+        requires limits { KeepLimits restored.snapshots }
+        ensures { result ≡ record { vault = restored.vault; begun = restored.begun; snapshots = restored.snapshots; stale = false; width = width } }
     {
         Office {
             vault: restored.vault,
             begun: restored.begun,
-            dates: List::new(alloc),
+            snapshots: restored.snapshots,
             stale: false,
             width,
         }
@@ -64,7 +66,7 @@ impl Office {
         keeper: &mut K,
         digest: &H,
     ) -> Result<Office, StartFault>
-        ensures stands { IfOk result (λ office. (state : State) → (store : Store) → K.store keeper.old ≡ Some store → state.dates ≡ [] → Stands office.vault.mapping (hashes_of H.digest_of H.size) state store → StandsFor (hashes_of H.digest_of H.size) state office) }
+        ensures stands { IfOk result (λ office. (state : State) → (store : Store) → K.store keeper.old ≡ Some store → Stands office.vault.mapping (hashes_of H.digest_of H.size) state store → StandsFor (hashes_of H.digest_of H.size) state office) }
         ensures fresh { IfOk result (λ office. office.stale ≡ false) }
         ensures width { IfOk result (λ office. office.width ≡ H.size) }
         ensures agrees { IfOk result (λ office. Told (K.store keeper.new) (Agrees office)) }
@@ -78,6 +80,6 @@ impl Office {
     {
         let catalog = stored_mapping(alloc, keeper)?;
         let restored = read_store(alloc, keeper, catalog, digest)?;
-        Ok(Office::of_restored(alloc, restored, digest.width()))
+        Ok(Office::of_restored(restored, digest.width()))
     }
 }

@@ -14,8 +14,8 @@ use dv_records::{Keeper, KeeperError};
 use dv_start::Begun;
 use dv_vault::Addition;
 
-// Whether a keeper failed.
-fn is_failed(error: KeeperError) -> bool
+/// Whether a keeper failed.
+pub(crate) fn is_failed(error: KeeperError) -> bool
     ensures { result ≡ spec.is_failed error }
 {
     error == KeeperError::Failed

@@ -49,28 +49,28 @@ returns-in-Err-clause-step g c state is_in =
 -- ---- whatever is told of the store
 
 pub returns-in-Ok-New-clause-answer : goal.returns-in-Ok-New-clause-answer
-returns-in-Ok-New-clause-answer g c state stands no_dates =
+returns-in-Ok-New-clause-answer g c state stands =
     let hashes = hashes_of g.H.KeyDigest.digest_of g.H.KeyDigest.size in
     let held = c.args.self.now in
     let plan = subst (IsPlanned hashes held c.args.given.now) c.in-Ok-New.field-0-is c.in-Ok-New.ensures.plan in
     let came = untold None c.in-Ok-New.addition held c.carry_out.new.self (g.K.Keeper.store c.args.keeper.now) (g.K.Keeper.store c.carry_out.new.keeper) c.carry_out.result c.carry_out.ensures.came in
     subst (λ answer. StepsTo held.vault.mapping hashes state c.args.given.now answer c.carry_out.new.self None) (sym c.load_answer.ensures)
-    (new_step hashes state held c.plan.ensures.built None c.requires.fresh (untold_in hashes state held stands c.requires.fresh no_dates) c.args.given.now c.in-Ok-New.addition plan
+    (new_step hashes state held c.plan.ensures.built None c.requires.fresh (untold_in hashes state held stands c.requires.fresh) c.args.given.now c.in-Ok-New.addition plan
     c.carry_out.new.self None c.carry_out.result came)
 
 pub returns-in-Some-clause-answer : goal.returns-in-Some-clause-answer
-returns-in-Some-clause-answer g c state stands no_dates =
+returns-in-Some-clause-answer g c state stands =
     let hashes = hashes_of g.H.KeyDigest.digest_of g.H.KeyDigest.size in
     let held = c.args.self.now in
     let plan = subst (IsPlanned hashes held c.args.given.now) c.in-Ok-Open.field-0-is c.in-Ok-Open.ensures.plan in
     let came = untold_open held c.complete.new.self (g.K.Keeper.store c.args.keeper.now) (g.K.Keeper.store c.complete.new.keeper) c.in-Some.completed (c.in-Some.ensures {u = tt}).some in
     subst (λ answer. StepsTo held.vault.mapping hashes state c.args.given.now answer c.complete.new.self None) (sym c.load_answer-in-Some.ensures)
-    (open_step hashes state held c.plan.ensures.built None c.requires.fresh (untold_in hashes state held stands c.requires.fresh no_dates) c.complete.new.self None c.in-Some.completed came
+    (open_step hashes state held c.plan.ensures.built None c.requires.fresh (untold_in hashes state held stands c.requires.fresh) c.complete.new.self None c.in-Some.completed came
     c.args.given.now plan)
 
 pub returns-in-Err-clause-answer : goal.returns-in-Err-clause-answer
-returns-in-Err-clause-answer g c state stands no_dates =
+returns-in-Err-clause-answer g c state stands =
     let hashes = hashes_of g.H.KeyDigest.digest_of g.H.KeyDigest.size in
     let held = c.args.self.now in
     subst (λ answer. StepsTo held.vault.mapping hashes state c.args.given.now answer held None) (sym c.from.ensures)
-    (stopped_step hashes state held c.plan.ensures.built None c.requires.fresh (untold_in hashes state held stands c.requires.fresh no_dates) c.args.given.now c.in-Err.stop c.in-Err.ensures.stops None refl)
+    (stopped_step hashes state held c.plan.ensures.built None c.requires.fresh (untold_in hashes state held stands c.requires.fresh) c.args.given.now c.in-Err.stop c.in-Err.ensures.stops None refl)

@@ -1,4 +1,4 @@
-use Rattle.dv_window.proofs.Vocabulary.{Some, ap, inr, refl, rules, subst, sym, true, ◌∙◌, ◌≡◌, Agrees, Held, IsIn, IsMappedBy, Mapping, Stands, hashes_of}
+use Rattle.dv_window.proofs.Vocabulary.{Some, ap, inr, rules, subst, sym, true, ◌∙◌, ◌≡◌, Agrees, Held, IsIn, IsMappedBy, Mapping, Stands, hashes_of}
 use Rattle.dv_window.proofs.Refreshed.{not_damaged}
 use Rattle.dv_window.proofs.StartFacts.{mapped_by, stands_as}
 use Rattle.dv_window.proofs.offices.Office.refresh.Goals as goal
@@ -41,8 +41,7 @@ returns-clause-stands g c state is_in =
     let kept : g.K.Keeper.store c.read_store.new.keeper ≡ g.K.Keeper.store c.args.keeper.now = c.read_store.ensures.store ∙ c.same_mapping.ensures.store in
     let same : c.in_ok-restored.restored.vault.mapping ≡ c.args.self.now.vault.mapping = c.in_ok-restored.ensures.mapping ∙ c.in_ok-catalog.ensures.same in
     subst (λ (held : Held). IsIn hashes state held (g.K.Keeper.store c.read_store.new.keeper)) (sym (c.change_to.ensures ∙ c.of_restored.ensures)) (record {
-      stands = λ fresh. stands_as hashes state _ of_state refl is_in.no_dates;
+      stands = λ fresh. stands_as hashes state _ of_state;
       told = λ no. cc;
-      no_dates = is_in.no_dates;
       store_stands = λ other e. subst (λ (mapping : Mapping). Stands mapping hashes state other) (sym same) (is_in.store_stands other (sym kept ∙ e));
     })

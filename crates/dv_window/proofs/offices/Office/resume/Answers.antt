@@ -21,17 +21,17 @@ returns-in-Err-clause-undamaged g c damage is = c.refresh.ensures.undamaged dama
 -- ---- an office that isn't stale is as it was after the refresh
 
 pub returns-in-Err-clause-answer : goal.returns-in-Err-clause-answer
-returns-in-Err-clause-answer g c fresh state stands no_dates = absurd (not_err c.in-Err.fault (sym (c.refresh.ensures.still fresh).0 ∙ c.in-Err.is))
+returns-in-Err-clause-answer g c fresh state stands = absurd (not_err c.in-Err.fault (sym (c.refresh.ensures.still fresh).0 ∙ c.in-Err.is))
 
 pub returns-in-Err-clause-kept : goal.returns-in-Err-clause-kept
 returns-in-Err-clause-kept g c fresh is = absurd (not_err c.in-Err.fault (sym (c.refresh.ensures.still fresh).0 ∙ c.in-Err.is))
 
 pub returns-clause-answer : goal.returns-clause-answer
-returns-clause-answer g c fresh state stands no_dates =
+returns-clause-answer g c fresh state stands =
     let hashes = hashes_of g.H.KeyDigest.digest_of g.H.KeyDigest.size in
     let same = (c.refresh.ensures.still fresh).1 in
     subst (λ (held : Held). CompletesTo held.vault.mapping hashes state c.resume_fresh.result c.resume_fresh.new.self None) same
-    (c.resume_fresh.ensures.answer hashes state (subst (λ (held : Held). StandsFor hashes state held) (sym same) stands) no_dates)
+    (c.resume_fresh.ensures.answer hashes state (subst (λ (held : Held). StandsFor hashes state held) (sym same) stands))
 
 pub returns-clause-kept : goal.returns-clause-kept
 returns-clause-kept g c fresh is = c.resume_fresh.ensures.kept is ∙ (c.refresh.ensures.still fresh).1

@@ -32,14 +32,14 @@ returns-in-None-clause-agrees g c =
 -- ---- whatever is told of the store
 
 pub returns-in-Some-clause-answer : goal.returns-in-Some-clause-answer
-returns-in-Some-clause-answer g c hashes state stands no_dates =
+returns-in-Some-clause-answer g c hashes state stands =
     let held = c.args.self.now in
     let came = untold_open held c.complete.new.self (g.K.Keeper.store c.args.keeper.now) (g.K.Keeper.store c.complete.new.keeper) c.in-Some.completed (c.in-Some.ensures {u = tt}).some in
     subst (λ answer. CompletesTo held.vault.mapping hashes state answer c.complete.new.self None) (sym c.resume_answer.ensures)
-    (open_completes hashes state held c.complete.ensures.built None c.requires.fresh (untold_in hashes state held stands c.requires.fresh no_dates) c.complete.new.self None c.in-Some.completed came)
+    (open_completes hashes state held c.complete.ensures.built None c.requires.fresh (untold_in hashes state held stands c.requires.fresh) c.complete.new.self None c.in-Some.completed came)
 
 pub returns-in-None-clause-answer : goal.returns-in-None-clause-answer
-returns-in-None-clause-answer g c hashes state stands no_dates =
+returns-in-None-clause-answer g c hashes state stands =
     let (none, same, kept) = (c.in-None.ensures {u = tt}).none in
     subst (λ (held : Held). CompletesTo c.args.self.now.vault.mapping hashes state NothingOpen held None) (sym same)
-    (nothing_completes hashes state c.args.self.now c.complete.ensures.built None c.requires.fresh (untold_in hashes state c.args.self.now stands c.requires.fresh no_dates) none None refl)
+    (nothing_completes hashes state c.args.self.now c.complete.ensures.built None c.requires.fresh (untold_in hashes state c.args.self.now stands c.requires.fresh) none None refl)
