@@ -1,11 +1,9 @@
 pub mod DrivenFeeds
-pub mod JoinedNames
+pub mod HubContents
 pub mod NoNames
 pub mod OfferedMarts
 pub mod OfferedTables
-pub mod PartColumns
-pub mod RowTexts
+pub mod PitCells
 pub mod TableRecords
 pub mod VaultMarts
 pub mod Vocabulary
-pub mod WrittenTexts

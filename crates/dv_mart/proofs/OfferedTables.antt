@@ -1,10 +1,14 @@
--- What an offered word can name: a feed of the mapping, one that has an effectivity table, or a table.
-use Rattle.dv_mart.proofs.Vocabulary.{◌≡◌, ℕ, ◌<◌, Bool, true, false, List, [], ◌∷◌, Option, Some, None, refl, ◌∙◌, subst, arith, codes, length, nat_lt, option_map, slice_get, Contains, cond, if◌then◌else◌, option_and_then, position_or_len, bytes_eq, nat_tests, TableId, Effect}
+-- What an offered word can name: a feed or a hub of the mapping, a feed that has an effectivity table, or a table.
+use Rattle.dv_mart.proofs.Vocabulary.{◌≡◌, ℕ, ◌<◌, Bool, true, false, List, [], ◌∷◌, Option, Some, None, refl, subst, arith, codes, length, nat_lt, option_map, slice_get, Contains, cond, if◌then◌else◌, option_and_then, position_or_len, bytes_eq, nat_tests, TableId, Effect}
 use Rattle.dv_mart.proofs.Vocabulary.{Mapping, first_of, table_name, tables, found_member, What, Feed, Period, Table, IsOffered, behind, driver_feed_place, feed_place, feed_word, has_driver, if_driver, period_word, table_named, table_word}
 use Rattle.dv_mart.proofs.DrivenFeeds.{has_effect}
+use Rattle.dv_mart.specs.Whats.{hub_place, hub_word, pit_word}
+use Rattle.dv_mart.specs.declared.whats.What.TheVariants.{Hub, Pit}
 
 abbrev pub CanBe : Mapping → What → Type 0
 CanBe mapping (Feed feed) = feed < length mapping.feeds
+CanBe mapping (Hub hub) = hub < length mapping.hubs
+CanBe mapping (Pit hub) = hub < length mapping.hubs
 CanBe mapping (Period feed) = Contains (tables mapping) (Effect feed)
 CanBe mapping (Table table) = Contains (tables mapping) table
 CanBe mapping what = ⊥
@@ -61,15 +65,37 @@ table_found mapping (Some name) what e = by (table_named mapping name) refl e
         let same : Table table ≡ what = cc in
         subst (CanBe mapping) same (named_among mapping name table at)
 
-only_one : {X : Type 0} (o : Option X) (x : X) → first_of (o ∷ []) ≡ Some x → o ≡ Some x
-only_one None x e = e
-only_one (Some y) x e = e
+-- a hub, as its mart or as its point-in-time table
+hub_named : (mapping : Mapping) (make : ℕ → What) → ((hub : ℕ) → hub < length mapping.hubs → CanBe mapping (make hub)) → (rest : Option (List ℕ)) (what : What)
+    → option_map make (option_and_then (hub_place mapping) rest) ≡ Some what → CanBe mapping what
+hub_named mapping make fits None what e = let no : None ≡ Some what = e in cc
+hub_named mapping make fits (Some name) what e = by (hub_place mapping name) refl e
+  where
+    by : (place : Option ℕ) → hub_place mapping name ≡ place → option_map make place ≡ Some what → CanBe mapping what
+    by None at is = let no : None ≡ Some what = is in cc
+    by (Some hub) at is =
+        let got : Some (make hub) ≡ Some what = is in
+        let same : make hub ≡ what = cc in
+        subst (CanBe mapping) same (fits hub (found_under (position_or_len (λ hub. bytes_eq hub.name name) mapping.hubs) hub (length mapping.hubs) at))
+
+-- the first word that names something
+either : (mapping : Mapping) (first : Option What) (rest : List (Option What)) (what : What) → (first ≡ Some what → CanBe mapping what) → (first_of rest ≡ Some what → CanBe mapping what)
+    → first_of (first ∷ rest) ≡ Some what → CanBe mapping what
+either mapping None rest what this others e = others e
+either mapping (Some named) rest what this others e = this e
+
+nothing : (mapping : Mapping) (what : What) → first_of [] ≡ Some what → CanBe mapping what
+nothing mapping what e = let no : None ≡ Some what = e in cc
 
 pub can_be : (mapping : Mapping) (what : What) → IsOffered mapping what → CanBe mapping what
-can_be mapping what offered = by (feed_word mapping offered.word) refl (period_word mapping offered.word) refl offered.offered
+can_be mapping what offered =
+    either mapping (feed_word mapping word) (hub_word mapping word ∷ period_word mapping word ∷ table_word mapping word ∷ pit_word mapping word ∷ []) what (feed_named mapping (behind (codes "feed:") word) what) (
+    either mapping (hub_word mapping word) (period_word mapping word ∷ table_word mapping word ∷ pit_word mapping word ∷ []) what (hub_named mapping (λ hub. Hub hub) (λ hub fits. fits) (behind (codes "hub:") word) what) (
+    either mapping (period_word mapping word) (table_word mapping word ∷ pit_word mapping word ∷ []) what (period_named mapping (behind (codes "period:") word) what) (
+    either mapping (table_word mapping word) (pit_word mapping word ∷ []) what (table_found mapping (behind (codes "table:") word) what) (
+    either mapping (pit_word mapping word) [] what (hub_named mapping (λ hub. Pit hub) (λ hub fits. fits) (behind (codes "pit:") word) what)
+    (nothing mapping what)))))
+    offered.offered
   where
-    by : (fed : Option What) → feed_word mapping offered.word ≡ fed → (driven : Option What) → period_word mapping offered.word ≡ driven
-        → first_of (fed ∷ driven ∷ table_word mapping offered.word ∷ []) ≡ Some what → CanBe mapping what
-    by (Some named) at driven other is = feed_named mapping (behind (codes "feed:") offered.word) what (at ∙ is)
-    by None at (Some named) other is = period_named mapping (behind (codes "period:") offered.word) what (other ∙ is)
-    by None at None other is = table_found mapping (behind (codes "table:") offered.word) what (only_one (table_word mapping offered.word) what is)
+    word : List ℕ
+    word = offered.word

@@ -1,6 +1,6 @@
+pub mod HubContents
 pub mod MartTexts
 pub mod OfferedMarts
+pub mod PitCells
 pub mod QueryTexts
-pub mod Texts
 pub mod Whats
-pub mod Writers

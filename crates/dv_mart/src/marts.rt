@@ -1,4 +1,4 @@
-//! The marts of feeds and of their periods, over the sealed windows of a vault, and the text of what is offered, at a date.
+//! The marts of feeds and of their periods over the sealed windows of a vault, and the text of what is offered, at a date.
 
 ghost use Rattle.std.specs.Prelude.{◌≡◌, ◌<◌, Contains, Err, IfErr, IfOk, List as list_of, Ok, length, slice_get};
 ghost use Rattle.dv_text.specs.declared.rows.Window.{Window};
@@ -6,18 +6,22 @@ ghost use Rattle.dv_text.specs.Keys.{Hashes};
 ghost use Rattle.dv_catalog.specs.Tables.{tables};
 ghost use Rattle.dv_records.specs.Marts as marts;
 ghost use Rattle.dv_vault.specs.Vaults.{HasSealed};
+ghost use Rattle.dv_records.specs.Snapshots as snapshots;
 ghost use Rattle.dv_mart.specs.MartTexts as spec;
+ghost use Rattle.dv_texts.specs.Texts as texts;
 ghost use Rattle.dv_mart.specs.declared.query_rules.QueryRule.TheVariants as rules;
 ghost use Rattle.dv_mart.specs.OfferedMarts.{IsOffered};
 
-use crate::feed_texts::lent_feed_text;
+use crate::hub_marts::hub_mart;
+use crate::lent_texts::lent_feed_text;
 use crate::mart_faults::MartFault;
-use crate::period_texts::period_text;
+use crate::pits::pit_rows;
 use crate::vault_tables::table_text;
 use crate::whats::What;
 use dv_catalog::TableId;
 use dv_records::PeriodRow;
 use dv_text::{List, Memory, NRow, Stamp, Text};
+use dv_texts::{hub_text, period_text, pit_text};
 use dv_vault::Vault;
 use std::alloc::Global;
 
@@ -59,6 +63,24 @@ fn period_mart_text(alloc: Global, vault: &Vault, feed: u32, date: Stamp) -> Res
     period_text(alloc, vault.catalog().feed(feed), rows.items())
 }
 
+// The text of a hub's mart.
+fn hub_mart_text(alloc: Global, vault: &Vault, hub: u32, date: Stamp) -> Result<Text, Memory>
+    requires { hub < length vault.now.mapping.hubs }
+    ensures { IfOk result (λ text. (hashes : Hashes) (sealed : list_of Window) → HasSealed hashes sealed vault.now → text ≡ texts.hub_text vault.now.mapping hub (marts.hub_mart vault.now.mapping sealed hub date)) }
+{
+    let rows = hub_mart(alloc, vault, hub, date)?;
+    hub_text(alloc, vault.catalog(), hub, rows.items())
+}
+
+// The text of a hub's point-in-time table.
+fn pit_mart_text(alloc: Global, vault: &Vault, hub: u32, date: Stamp) -> Result<Text, Memory>
+    requires { hub < length vault.now.mapping.hubs }
+    ensures { IfOk result (λ text. (hashes : Hashes) (sealed : list_of Window) → HasSealed hashes sealed vault.now → text ≡ texts.pit_text vault.now.mapping hub date (snapshots.pit vault.now.mapping hashes sealed hub date)) }
+{
+    let rows = pit_rows(alloc, vault, hub, date)?;
+    pit_text(alloc, vault.catalog(), hub, date, rows.items())
+}
+
 // The text of what is offered.
 fn offered_text(alloc: Global, vault: &Vault, what: &What, date: Stamp) -> Result<Text, Memory>
     requires { IsOffered vault.now.mapping what.now }
@@ -68,8 +90,10 @@ fn offered_text(alloc: Global, vault: &Vault, what: &What, date: Stamp) -> Resul
     match what {
         What::Feed(feed) => feed_mart_text(alloc, vault, *feed, date),
         What::Period(feed) => period_mart_text(alloc, vault, *feed, date),
+        What::Hub(hub) => hub_mart_text(alloc, vault, *hub, date),
         What::Table(table) => table_text(alloc, vault, *table, date),
-        What::Hub(_) | What::Path(_) | What::Pit(_) | What::Bridge(_) => unreachable!(),
+        What::Pit(hub) => pit_mart_text(alloc, vault, *hub, date),
+        What::Path(_) | What::Bridge(_) => unreachable!(),
     }
 }
 

@@ -1,5 +1,4 @@
-ghost use Rattle.std.specs.Prelude.{◌≡◌, IfOk, IfSome, Some, None, option_map, nat_eq};
-ghost use Rattle.std.specs.List.{starts_with};
+ghost use Rattle.std.specs.Prelude.{◌≡◌, IfOk, IfSome, Some, None, option_and_then, option_map};
 ghost use Rattle.dv_mart.specs.OfferedMarts.{IsOffered};
 ghost use Rattle.dv_mart.specs.Whats as spec;
 
@@ -47,6 +46,32 @@ fn feed_word(alloc: Global, catalog: &Catalog, word: &Text) -> Result<Option<Wha
     }
 }
 
+// The place of the hub that a word of a kind names.
+fn hub_behind(
+    alloc: Global,
+    catalog: &Catalog,
+    kind: &[u8],
+    word: &Text,
+) -> Result<Option<u32>, Memory>
+    ensures { IfOk result (λ hub. hub ≡ option_and_then (spec.hub_place catalog.now) (spec.behind kind.now word.now)) }
+{
+    let Some(rest) = behind(kind, word.bytes()) else {
+        return Ok(None);
+    };
+    let name = Text::of(alloc, rest)?;
+    Ok(catalog.find_hub(&name))
+}
+
+// The mart of a hub that a word names.
+fn hub_word(alloc: Global, catalog: &Catalog, word: &Text) -> Result<Option<What>, Memory>
+    ensures { IfOk result (λ what. what ≡ spec.hub_word catalog.now word.now) }
+{
+    match hub_behind(alloc, catalog, b"hub:", word)? {
+        Some(hub) => Ok(Some(What::Hub(hub))),
+        None => Ok(None),
+    }
+}
+
 // The place of the feed with a name, where it has a driver.
 fn driver_feed(catalog: &Catalog, name: &Text) -> Option<u32>
     ensures { result ≡ spec.driver_feed_place catalog.now name.now }
@@ -87,33 +112,50 @@ fn table_word(alloc: Global, catalog: &Catalog, word: &Text) -> Result<Option<Wh
     }
 }
 
-// A mart itself; a raw table is none.
+// The point-in-time table of a hub that a word names.
+fn pit_word(alloc: Global, catalog: &Catalog, word: &Text) -> Result<Option<What>, Memory>
+    ensures { IfOk result (λ what. what ≡ spec.pit_word catalog.now word.now) }
+{
+    match hub_behind(alloc, catalog, b"pit:", word)? {
+        Some(hub) => Ok(Some(What::Pit(hub))),
+        None => Ok(None),
+    }
+}
+
+// A mart itself; a raw table and a point-in-time table are none.
 fn if_mart(what: What) -> Option<What>
     ensures { result ≡ spec.if_mart what }
 {
     match what {
-        What::Table(_) => None,
+        What::Table(_) | What::Pit(_) => None,
         What::Feed(_) | What::Hub(_) | What::Path(_) => Some(what),
-        What::Period(_) | What::Pit(_) | What::Bridge(_) => Some(what),
+        What::Period(_) | What::Bridge(_) => Some(what),
     }
 }
 
 impl What {
     /// What a word names; none where it names nothing that is offered. In this stage the marts of feeds are
-    /// offered, as `feed:F`, the periods of feeds with a driver, as `period:F`, and the raw tables, as `table:T`.
+    /// offered, as `feed:F`, those of hubs, as `hub:H`, the periods of feeds with a driver, as `period:F`, the raw
+    /// tables, as `table:T`, and the point-in-time tables of hubs, as `pit:H`.
     pub fn read(alloc: Global, catalog: &Catalog, word: &Text) -> Result<Option<What>, Memory>
         ensures { IfOk result (λ what. what ≡ spec.offered_what catalog.now word.now) }
     {
         if let Some(what) = feed_word(alloc, catalog, word)? {
             return Ok(Some(what));
         }
-        match period_word(alloc, catalog, word)? {
+        if let Some(what) = hub_word(alloc, catalog, word)? {
+            return Ok(Some(what));
+        }
+        if let Some(what) = period_word(alloc, catalog, word)? {
+            return Ok(Some(what));
+        }
+        match table_word(alloc, catalog, word)? {
             Some(what) => Ok(Some(what)),
-            None => table_word(alloc, catalog, word),
+            None => pit_word(alloc, catalog, word),
         }
     }
 
-    /// What a word names, where it is a mart: a raw table is none.
+    /// What a word names, where it is a mart: a raw table and a point-in-time table are none.
     pub fn read_mart(alloc: Global, catalog: &Catalog, word: &Text) -> Result<Option<What>, Memory>
         ensures mart { IfOk result (λ what. what ≡ spec.offered_mart catalog.now word.now) }
         ensures offered { IfOk result (λ what. IfSome what (IsOffered catalog.now)) }

@@ -6,18 +6,18 @@ ghost use Rattle.std.specs.Option.{option_map_or};
 ghost use Rattle.csv.specs.Writing.{text_written};
 ghost use Rattle.dv_catalog.specs.Tables.{tables};
 ghost use Rattle.dv_records.specs.Stores.{is_of_kind, rows_in};
+ghost use Rattle.dv_texts.specs.TableTexts.{table_text};
 ghost use Rattle.dv_mart.specs.MartTexts as spec;
-ghost use Rattle.dv_mart.specs.MartTexts.{HasKind, raw_records};
-ghost use Rattle.dv_mart.specs.Texts.{csv_text};
-ghost use Rattle.dv_mart.specs.Writers.{IsBetweenRecords};
+ghost use Rattle.dv_mart.specs.MartTexts.{HasKind};
+ghost use Rattle.dv_texts.specs.TableTexts.{raw_records};
+ghost use Rattle.dv_texts.specs.Texts.{csv_text};
+ghost use Rattle.dv_texts.specs.Writers.{IsBetweenRecords};
 
-use crate::csv_texts::{new_writer, put_record, put_rows, text_of};
-use crate::fields::Fields;
-use crate::table_texts::table_header;
 use csv::Writer;
 use dv_catalog::TableId;
 use dv_records::Rows;
 use dv_text::{Memory, Text};
+use dv_texts::{Fields, new_writer, put_record, put_rows, table_header, text_of};
 use dv_vault::Vault;
 use std::alloc::Global;
 use std::io::Write;
@@ -102,7 +102,7 @@ pub fn whole_table_text(
     requires among { Contains (tables vault.now.mapping) table }
     requires kind { IfSome behind (λ rows. IsTrue (is_of_kind table rows.now)) }
     ensures { IfOk result (λ text. HasKind vault.now.tables table
-        → text ≡ spec.table_text vault.now.mapping table (spec.rows_behind (rows_in table vault.now.tables) (option_map (λ rows. rows.now) behind.entry))) }
+        → text ≡ table_text vault.now.mapping table (spec.rows_behind (rows_in table vault.now.tables) (option_map (λ rows. rows.now) behind.entry))) }
 {
     let mut fields = table_header(alloc, vault.catalog(), table)?;
     let mut writer = new_writer(alloc);

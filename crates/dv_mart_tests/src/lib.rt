@@ -2,6 +2,8 @@
 #![tactic(auto)]
 
 #[cfg(test)]
+mod hub_marts;
+#[cfg(test)]
 mod marts;
 #[cfg(test)]
 mod multis;
@@ -9,6 +11,8 @@ mod multis;
 mod offices;
 #[cfg(test)]
 mod periods;
+#[cfg(test)]
+mod pits;
 #[cfg(test)]
 mod texts;
 #[cfg(test)]

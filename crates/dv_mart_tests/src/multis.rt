@@ -3,7 +3,8 @@
 use crate::offices::{Arrival, FIRST, SECOND, THIRD, Trial, each_holds, holds};
 use std::test::Fail;
 
-const PHONES: &[u8] = b"[[hub]]\n\
+/// A feed with several rows of one key.
+pub(crate) const PHONES: &[u8] = b"[[hub]]\n\
     name = \"customer\"\n\
     parts = 1\n\
     [[feed]]\n\
@@ -14,7 +15,8 @@ const PHONES: &[u8] = b"[[hub]]\n\
     sub = [\"KIND\"]\n\
     attrs = [\"PHONE\"]\n";
 
-const THREE_PHONES: &[(&[u8], &[u8])] = &[(
+/// Three phones of one customer.
+pub(crate) const THREE_PHONES: &[(&[u8], &[u8])] = &[(
     b"phones",
     b"CUST_NO,KIND,PHONE\n1,home,10\n1,work,11\n1,fax,12\n",
 )];

@@ -4,7 +4,7 @@ use dv_catalog::{ExtractIn, TableId, WindowIn};
 use dv_digest::Md5Keys;
 use dv_mart::{What, mart_text};
 use dv_outside::OpenGate;
-use dv_records::{Keeper, KeeperError, LoadAnswer, Rows};
+use dv_records::{Keeper, KeeperError, LoadAnswer, Rows, SnapHead, SnapId, SnapTable};
 use dv_text::{Duplicate, List, Stamp, Text, Window, WindowHead};
 use dv_window::{Office, Order};
 use std::alloc::Global;
@@ -76,6 +76,30 @@ impl Keeper for Untold {
 
     fn seal(&mut self, _alloc: Global, _head: &WindowHead) -> Result<(), KeeperError> {
         Ok(())
+    }
+
+    fn snapshots(&mut self, alloc: Global) -> Result<List<SnapHead>, KeeperError> {
+        Ok(List::new(alloc))
+    }
+
+    fn put_snapshot(
+        &mut self,
+        _alloc: Global,
+        _head: &SnapHead,
+        _tables: &List<SnapTable>,
+    ) -> Result<(), KeeperError> {
+        Ok(())
+    }
+
+    fn snapshot_rows(
+        &mut self,
+        alloc: Global,
+        _date: Stamp,
+        _id: SnapId,
+        _from: u64,
+        _most: u32,
+    ) -> Result<Rows, KeeperError> {
+        Ok(Rows::Pits(List::new(alloc)))
     }
 }
 

@@ -1,11 +1,11 @@
 use dv_catalog::Catalog;
 use dv_mapfile::read_catalog;
-use dv_mart::{
+use dv_records::{Code, EffectRow, HubRow, LinkRow, MultiRow, PeriodRow, SatRow, StatusRow};
+use dv_text::{Digest, Key, List, NRow, Stamp, Text, WindowHead};
+use dv_texts::{
     effect_table_text, feed_text, hub_table_text, link_table_text, multi_table_text, period_text,
     sat_table_text, status_table_text, windows_text,
 };
-use dv_records::{Code, EffectRow, HubRow, LinkRow, MultiRow, PeriodRow, SatRow, StatusRow};
-use dv_text::{Digest, Key, List, NRow, Stamp, Text, WindowHead};
 use hex::FromHex;
 use std::alloc::Global;
 use std::test::Fail;

@@ -91,9 +91,7 @@ fn rules_are_printed_with_their_dates(rt: HostRuntime) -> Result<(), Fail> {
 }
 
 #[test]
-fn words_name_the_marts_and_periods_of_feeds_and_the_raw_tables(
-    rt: HostRuntime,
-) -> Result<(), Fail> {
+fn words_name_the_marts_of_feeds_and_hubs_periods_and_tables(rt: HostRuntime) -> Result<(), Fail> {
     let alloc = rt.alloc();
     let catalog = read_catalog(alloc, MAPPING).ok().ok_or("no mapping")?;
     for (word, expected) in [
@@ -118,13 +116,19 @@ fn words_name_the_marts_and_periods_of_feeds_and_the_raw_tables(
         ("table:sat_customers", None),
         ("table:customers", None),
         ("table:", None),
-        ("hub:customer", None),
-        ("pit:customer", None),
+        ("hub:customer", Some(What::Hub(0))),
+        ("hub:item", Some(What::Hub(1))),
+        ("hub:customers", None),
+        ("hub:", None),
+        ("pit:customer", Some(What::Pit(0))),
+        ("pit:item", Some(What::Pit(1))),
+        ("pit:owned", None),
+        ("path:sold", None),
     ] {
         let word = Text::of(alloc, word.as_bytes())?;
         assert_eq!(rt; What::read(alloc, &catalog, &word)?, expected);
         let mart = match expected {
-            Some(What::Table(_)) => None,
+            Some(What::Table(_) | What::Pit(_)) => None,
             what => what,
         };
         assert_eq!(rt; What::read_mart(alloc, &catalog, &word)?, mart);

@@ -1,0 +1,120 @@
+-- The contents of a hub's feeds: each stands in order, and what a key's cells are by them.
+use Rattle.std.proofs.Common.{◌≡◌, ◌∙◌, ◌+◌, ◌<◌, ◌++◌, ◌∷◌, [], List, ℕ, ap, arith, get_or, length, map, refl, sym, take}
+use Rattle.std.specs.Prelude.{◌==◌, Bool, true, false, Option, Some, None, if◌then◌else◌, slice_get}
+use Rattle.std.specs.List.Sorted.{IsStrictlySortedBy}
+use Rattle.std.proofs.lemmas.List.{map-append, take_more}
+use Rattle.dv_text.specs.Orders.{key_cmp, row_cmp}
+use Rattle.dv_text.specs.Sorting.{sorted_by}
+use Rattle.std.proofs.lemmas.List.Folds.{flat_map-map}
+use Rattle.dv_text.specs.declared.rows.NRow.{NRow}
+use Rattle.dv_text.proofs.Deciding.{row_total}
+use Rattle.dv_text.proofs.SortedLists.{ascending-sorted_by, few_ascend}
+use Rattle.dv_catalog.specs.declared.entries.FeedDef.{FeedDef}
+use Rattle.dv_catalog.specs.Entries.{Mapping}
+use Rattle.dv_records.specs.declared.stores.TableRows.{TableRows}
+use Rattle.dv_records.specs.ReadBack.{any_content_read, any_content_read_by, content_read, content_read_by, multi_content_read, multi_content_read_by, present_parents, row_read, rows_read, status_rows_in}
+use Rattle.std.specs.List.{filter_map, flat_map}
+use Rattle.dv_mart.specs.declared.hub_contents.FeedRows.{FeedRows}
+use Rattle.dv_texts.specs.declared.hub_feeds.HubFeed.{HubFeed}
+use Rattle.std.specs.Option.{is_some}
+use Rattle.std.specs.Prelude.{filter, find, option_map}
+use Rattle.dv_text.specs.declared.rows.Key.{Key}
+use Rattle.dv_text.specs.Keys.{refs_eq}
+use Rattle.dv_text.proofs.Passing.{find-filter}
+use Rattle.dv_keys.proofs.Placed.{some_found}
+use Rattle.dv_records.specs.Marts.{attrs_or_blanks, hub_cell, hub_feeds, hub_rows}
+use Rattle.dv_mart.specs.HubContents.{cell_of, keys_of, row_of, told_rows}
+use Rattle.dv_texts.specs.HubFeeds.{told}
+
+-- ---- what is read from the tables stands in order
+
+module _ (mapping : Mapping) (tables : List TableRows) (feed date : ℕ) where
+  content_ascends : (definition : Option FeedDef) → IsStrictlySortedBy row_cmp (content_read_by mapping tables definition feed date)
+  content_ascends None = few_ascend row_cmp [] (omega arith)
+  content_ascends (Some definition) =
+      ascending-sorted_by row_cmp row_total (filter_map (row_read mapping tables definition feed date) (present_parents (status_rows_in feed tables) date))
+
+  multi_ascends : (definition : Option FeedDef) → IsStrictlySortedBy row_cmp (multi_content_read_by mapping tables definition feed date)
+  multi_ascends None = few_ascend row_cmp [] (omega arith)
+  multi_ascends (Some definition) =
+      ascending-sorted_by row_cmp row_total (flat_map (rows_read mapping tables definition feed date) (present_parents (status_rows_in feed tables) date))
+
+  either : (b : Bool) → IsStrictlySortedBy row_cmp (if b then content_read mapping tables feed date else multi_content_read mapping tables feed date)
+  either true = content_ascends (slice_get mapping.feeds feed)
+  either false = multi_ascends (slice_get mapping.feeds feed)
+
+  by_definition : (definition : Option FeedDef) → IsStrictlySortedBy row_cmp (any_content_read_by mapping tables definition feed date)
+  by_definition None = few_ascend row_cmp [] (omega arith)
+  by_definition (Some definition) = either (length definition.sub == 0)
+
+  pub read_ascends : IsStrictlySortedBy row_cmp (any_content_read mapping tables feed date)
+  read_ascends = by_definition (slice_get mapping.feeds feed)
+
+-- the contents of one feed more
+pub contents_grow : (read : ℕ → List NRow) (feeds : List HubFeed) (i : ℕ) (item : HubFeed) (contents : List FeedRows) (one : FeedRows) → i < length feeds → item ≡ get_or feeds i item
+    → map told_rows contents ≡ map (λ (feed : HubFeed). (told feed, read feed.place)) (take i feeds) → one.feed ≡ item → one.rows ≡ read item.place
+    → map told_rows (contents ++ one ∷ []) ≡ map (λ (feed : HubFeed). (told feed, read feed.place)) (take (i + 1) feeds)
+contents_grow read feeds i item contents one at is so_far feed_is rows_are =
+    map-append told_rows contents (one ∷ [])
+    ∙ (λ j. so_far j ++ (told (feed_is j), rows_are j) ∷ [])
+    ∙ sym (ap (map (λ (feed : HubFeed). (told feed, read feed.place))) more ∙ map-append (λ (feed : HubFeed). (told feed, read feed.place)) (take i feeds) (item ∷ []))
+  where
+    more : take (i + 1) feeds ≡ take i feeds ++ item ∷ []
+    more = take_more feeds i item at ∙ ap (λ x. take i feeds ++ x ∷ []) (sym is)
+
+-- whether there is an item, whatever is told of it
+pub some_told : {A B : Type 0} (f : A → B) (item : Option A) → is_some item ≡ is_some (option_map f item)
+some_told f None = refl
+some_told f (Some x) = refl
+
+-- the cell of a key: its row is the first of those that have it, if there is one
+pub cell_is : (one : FeedRows) (key : Key) (run : List NRow) (row : Option NRow) (present : Bool) (attrs : List (List ℕ)) → run ≡ filter (λ (row : NRow). refs_eq row.refs (key ∷ [])) one.rows
+    → row ≡ slice_get run 0 → present ≡ is_some row → attrs ≡ (if length one.feed.definition.now.sub == 0 then attrs_or_blanks (length one.feed.definition.now.attrs) row else [])
+    → record { present = present; attrs = attrs } ≡ cell_of key one
+cell_is one key run row present attrs run_is row_is present_is attrs_is =
+    λ i. record {
+      present = (present_is ∙ ap is_some found ∙ some_found has one.rows) i;
+      attrs = (attrs_is ∙ ap (λ row. if length one.feed.definition.now.sub == 0 then attrs_or_blanks (length one.feed.definition.now.attrs) row else []) found) i;
+    }
+  where
+    has : NRow → Bool
+    has row = refs_eq row.refs (key ∷ [])
+
+    found : row ≡ find has one.rows
+    found = row_is ∙ ap (λ (rows : List NRow). slice_get rows 0) run_is ∙ sym (find-filter has one.rows)
+
+-- ---- the mart by the contents
+
+over_map : {X Y Z : Type 0} (g : Y → Z) (f : X → Y) (xs : List X) → map g (map f xs) ≡ map (λ x. g (f x)) xs
+over_map g f [] = refl
+over_map g f (x ∷ xs) = ap (λ rest. g (f x) ∷ rest) (over_map g f xs)
+
+module _ (mapping : Mapping) (read : ℕ → List NRow) (hub : ℕ) (feeds : List HubFeed) (contents : List FeedRows) (feeds_are : map told feeds ≡ hub_feeds mapping hub)
+    (contents_are : map told_rows contents ≡ map (λ (feed : HubFeed). (told feed, read feed.place)) feeds) where
+  cells_are : (key : Key) → map (cell_of key) contents ≡ map (hub_cell read key) (hub_feeds mapping hub)
+  cells_are key =
+      sym (over_map (λ (one : (ℕ × FeedDef) × List NRow). hub_cell (λ feed. one.1) key one.0) told_rows contents)
+      ∙ ap (map (λ (one : (ℕ × FeedDef) × List NRow). hub_cell (λ feed. one.1) key one.0)) contents_are
+      ∙ over_map (λ (one : (ℕ × FeedDef) × List NRow). hub_cell (λ feed. one.1) key one.0) (λ (feed : HubFeed). (told feed, read feed.place)) feeds
+      ∙ sym (over_map (hub_cell read key) told feeds)
+      ∙ ap (map (hub_cell read key)) feeds_are
+
+  keys_are : keys_of contents ≡ flat_map (λ (feed : ℕ × FeedDef). flat_map (λ (row : NRow). row.refs) (read feed.0)) (hub_feeds mapping hub)
+  keys_are =
+      sym (flat_map-map (λ (one : (ℕ × FeedDef) × List NRow). flat_map (λ (row : NRow). row.refs) one.1) told_rows contents)
+      ∙ ap (flat_map (λ (one : (ℕ × FeedDef) × List NRow). flat_map (λ (row : NRow). row.refs) one.1)) contents_are
+      ∙ flat_map-map (λ (one : (ℕ × FeedDef) × List NRow). flat_map (λ (row : NRow). row.refs) one.1) (λ (feed : HubFeed). (told feed, read feed.place)) feeds
+      ∙ sym (flat_map-map (λ (feed : ℕ × FeedDef). flat_map (λ (row : NRow). row.refs) (read feed.0)) told feeds)
+      ∙ ap (flat_map (λ (feed : ℕ × FeedDef). flat_map (λ (row : NRow). row.refs) (read feed.0))) feeds_are
+
+  rows_are : (keys : List Key) → map (row_of contents) keys ≡ map (λ key. record { key = key; cells = map (hub_cell read key) (hub_feeds mapping hub) }) keys
+  rows_are [] = refl
+  rows_are (key ∷ keys) =
+      let cells = cells_are key in
+      let rest = rows_are keys in
+      λ i. record { key = key; cells = cells i } ∷ rest i
+
+  pub mart_is : (keys sorted : List Key) → keys ≡ keys_of contents → sorted ≡ sorted_by key_cmp keys → map (row_of contents) sorted ≡ hub_rows mapping read hub
+  mart_is keys sorted keys_same sorted_is =
+      rows_are sorted
+      ∙ ap (map (λ key. record { key = key; cells = map (hub_cell read key) (hub_feeds mapping hub) })) (sorted_is ∙ ap (sorted_by key_cmp) (keys_same ∙ keys_are))

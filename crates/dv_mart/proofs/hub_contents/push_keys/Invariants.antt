@@ -1,0 +1,5 @@
+use Rattle.dv_mart.proofs.Vocabulary.{◌≡◌, ◌++◌, flat_map, take}
+use Rattle.dv_mart.proofs.hub_contents.push_keys.Given as goal
+
+abbrev pub invariant-loop-row : goal.invariant-loop-row
+invariant-loop-row l = l.keys ≡ l.initial.keys ++ flat_map (λ row. row.refs) (take l.row-index l.rows)

@@ -1,0 +1,4 @@
+pub mod HubFeeds
+pub mod TableTexts
+pub mod Texts
+pub mod Writers

@@ -1,0 +1,36 @@
+//! Names of columns behind the name of a hub or a feed.
+
+ghost use Rattle.std.specs.Prelude.{◌≡◌, ◌∷◌, [], ◌++◌, OnOk};
+ghost use Rattle.dv_texts.specs.Texts as spec;
+
+use crate::fields::Fields;
+use dv_text::Memory;
+use std::alloc::Global;
+
+/// Puts a name behind a name at the end, with a dot between.
+pub(crate) fn push_dotted(
+    alloc: Global,
+    header: &mut Fields,
+    a: &[u8],
+    b: &[u8],
+) -> Result<(), Memory>
+    ensures { OnOk result (header.new ≡ header.old ++ spec.dotted a.now b.now ∷ []) }
+{
+    let mut column = Vec::from_slice(alloc, a)?;
+    column.push(b'.')?;
+    column.extend_from_slice(b)?;
+    header.push(column.as_slice())
+}
+
+/// Puts a number behind a name at the end, with a dot between.
+pub(crate) fn push_numbered(
+    alloc: Global,
+    header: &mut Fields,
+    name: &[u8],
+    n: u32,
+) -> Result<(), Memory>
+    ensures { OnOk result (header.new ≡ header.old ++ spec.numbered name.now n ∷ []) }
+{
+    let number = n.to_string(alloc)?;
+    push_dotted(alloc, header, name, number.as_bytes())
+}

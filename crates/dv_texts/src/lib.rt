@@ -1,0 +1,30 @@
+//! The texts of marts and tables, given their rows: the CSV of each, with its header, and of the windows; and the feeds of a
+//! hub, by which a hub's texts have their columns.
+#![tactic(auto)]
+
+mod columns;
+mod csv_texts;
+mod feed_texts;
+mod fields;
+mod hub_feeds;
+mod hub_texts;
+mod period_texts;
+mod pit_texts;
+mod raw_records;
+mod recorded;
+mod table_texts;
+mod windows_texts;
+
+pub use csv_texts::{new_writer, put_record, put_row, put_rows, text_of};
+pub use feed_texts::{feed_header, feed_text};
+pub use fields::Fields;
+pub use hub_feeds::{HubFeed, feeds_of};
+pub use hub_texts::hub_text;
+pub use period_texts::period_text;
+pub use pit_texts::pit_text;
+pub use recorded::Recorded;
+pub use table_texts::{
+    effect_table_text, hub_table_text, link_table_text, multi_table_text, sat_table_text,
+    status_table_text, table_header,
+};
+pub use windows_texts::windows_text;
