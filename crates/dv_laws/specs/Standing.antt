@@ -59,8 +59,8 @@ SnapshotKeepsForm = (snap : Snap) (store : Store) → is_well_formed store ≡ t
 
 -- ---- damage
 
--- a store that stands for a state has no damage of its sealed windows, its open window and its raw tables, under each
--- function whose digests have one width
+-- a store that stands for a state has no damage of its sealed windows, its open window, its raw tables and its snapshots,
+-- under each function whose digests have one width
 abbrev pub StandingSound : Type 0
 StandingSound =
     (mapping : Mapping) (digest : List ℕ → List ℕ) (size : ℕ) → ((text : List ℕ) → length (digest text) ≡ size)

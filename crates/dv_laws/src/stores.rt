@@ -17,8 +17,8 @@ pub fn snapshots_stored()
     ensures form { SnapshotKeepsForm }
 {}
 
-/// A store that stands for a state of the warehouse has no damage: its sealed windows, its open window and the rows
-/// of its raw tables break none of the rules of form F2 to F13, also while a window is open.
+/// A store that stands for a state of the warehouse has no damage: its sealed windows, its open window, the rows of
+/// its raw tables and its snapshots break none of the rules of form F2 to F14, also while a window is open.
 pub fn standing_stores_are_sound()
     ensures { StandingSound }
 {}

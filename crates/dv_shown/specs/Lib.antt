@@ -6,6 +6,7 @@ pub mod Collided
 pub mod Contents
 pub mod Counts
 pub mod Damaged
+pub mod DamagedSnapshots
 pub mod DamagedStores
 pub mod Declared
 pub mod Digested

@@ -5,7 +5,7 @@ use Rattle.dv_catalog.specs.declared.tables.TableId.TheVariants.{Hub as HubTable
 use Rattle.dv_catalog.specs.Entries.{Mapping}
 use Rattle.dv_records.specs.Vault.{partial, vault}
 use Rattle.dv_mart.specs.MartTexts.{mart_text}
-use Rattle.dv_mart.specs.Texts.{windows_text}
+use Rattle.dv_texts.specs.Texts.{windows_text}
 use Rattle.dv_mart.specs.Whats.{what_of, offered_what}
 use Rattle.dv_mart.specs.declared.query_rules.QueryRule.{QueryRule}
 use Rattle.dv_mart.specs.declared.whats.What.{What}
@@ -122,7 +122,10 @@ pub record WordsHold : Type 0 where
   pub a_pit : what_of with_names (codes "pit:customer") ≡ Some (Pit 0)
   pub unknown : what_of with_names (codes "feed:clients") ≡ None
   pub no_kind : what_of with_names (codes "customers") ≡ None
-  pub not_offered : offered_what with_names (codes "hub:customer") ≡ None
+  pub not_offered : offered_what with_orders (codes "path:sold") ≡ None
+  pub hub_offered : offered_what with_names (codes "hub:customer") ≡ Some (Hub 0)
+  pub no_hub_offered : offered_what with_names (codes "hub:customers") ≡ None
+  pub pit_offered : offered_what with_names (codes "pit:customer") ≡ Some (Pit 0)
   pub offered : offered_what with_names (codes "feed:customers") ≡ Some (Feed 0)
   pub table_offered : offered_what with_names (codes "table:sat_customers") ≡ Some (Table (Sat 0))
   pub no_table_offered : offered_what with_names (codes "table:customers") ≡ None

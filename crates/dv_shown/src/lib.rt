@@ -7,6 +7,7 @@ ghost use Rattle.dv_shown.specs.Collided.{CollisionsHold};
 ghost use Rattle.dv_shown.specs.Contents.{ContentsHold};
 ghost use Rattle.dv_shown.specs.Counts.{CountsHold, WeightsHold};
 ghost use Rattle.dv_shown.specs.Damaged.{EffectsDamaged, HeadsDamaged, HubsDamaged, LeastRuleNamed, LinksDamaged, MultisDamaged, OpenDamaged, OrderOfDamage, RowsSound, SatellitesDamaged, StatusesDamaged};
+ghost use Rattle.dv_shown.specs.DamagedSnapshots.{SnapshotsDamaged};
 ghost use Rattle.dv_shown.specs.DamagedStores.{DamageByWeight, DamagePastLimits, HeavyRows, OrderOfStores, StoresSound};
 ghost use Rattle.dv_shown.specs.Declared.{FaultsDeclared, FilesDeclared, MappingsDeclared, PlacesUnbuilt, TablesDeclared};
 ghost use Rattle.dv_shown.specs.Digested.{HashesDigested, LinkDigested, PitDigested, SatelliteDigested, StatusDigested};
@@ -450,6 +451,11 @@ pub fn stores_sound()
 /// What of a store is looked at first.
 pub fn order_of_stores()
     ensures { OrderOfStores }
+{}
+
+/// Snapshots whose dates don't ascend, are later than the last sealed window, or that weigh too much together.
+pub fn snapshots_damaged()
+    ensures { SnapshotsDamaged }
 {}
 
 /// What is past a limit is damage, whatever else it is.
