@@ -1,0 +1,9 @@
+pub mod HubFeedCounts
+pub mod Places
+pub mod PlannedSnapshots
+pub mod RefusedStates
+pub mod SnapTables
+pub mod StandingRows
+pub mod StateTexts
+pub mod StoredPages
+pub mod Vocabulary

@@ -1,0 +1,41 @@
+-- What is decided of a snapshot is what a state decides whose sealed windows a vault has.
+use Rattle.dv_snapshots.proofs.Vocabulary.{Hashes, IsBuilt, IsOf, List, None, Option, RawVault, SnapAnswer, SnapHead, SnapTable, Some, State, ap, early_refusal, last_head, last_load, late_refusal, option_or}
+use Rattle.dv_snapshots.proofs.Vocabulary.{snap_head, snap_tables, snapshot, sym, tables_read, ℕ, ◌∙◌, ◌≡◌}
+use Rattle.dv_records.specs.Steps.{snapshot_refusal}
+use Rattle.dv_start.specs.Restored.{heads_of_state}
+use Rattle.dv_vault.proofs.AddedWindows.{last_same}
+use Rattle.dv_snapshots.proofs.RefusedStates.{refusal_told, refused_first}
+use Rattle.dv_snapshots.proofs.SnapTables.{no_paths, tables_tell}
+
+module _ (hashes : Hashes) (state : State) (raw : RawVault) (heads : List SnapHead) (date : ℕ) (of : IsOf hashes state raw heads) where
+  abbrev own_head : SnapHead
+  own_head = (snapshot raw.mapping hashes state.sealed date).head
+
+  last_is : last_load state.sealed ≡ last_head raw.heads
+  last_is = last_same state.sealed ∙ ap last_head (sym of.sealed_are.heads_are)
+
+  early_is : early_refusal (last_load state.sealed) (heads_of_state raw.mapping hashes state) date ≡ early_refusal (last_head raw.heads) heads date
+  early_is i = early_refusal (last_is i) (sym of.heads_are i) date
+
+  -- a refusal that the date alone gives
+  pub refused_early : (answer : SnapAnswer) → early_refusal (last_head raw.heads) heads date ≡ Some answer → snapshot_refusal raw.mapping hashes state date ≡ Some answer
+  refused_early answer early = refused_first raw.mapping hashes state date answer (early_is ∙ early)
+
+  module _ (built : IsBuilt raw.mapping) (head : SnapHead) (tables : List SnapTable) (early : early_refusal (last_head raw.heads) heads date ≡ None) (tables_are : tables ≡ tables_read raw.mapping raw.tables date) (head_is : head ≡ snap_head date tables) where
+    tables_told : tables ≡ snap_tables raw.mapping hashes state.sealed date
+    tables_told = tables_are ∙ tables_tell hashes state.sealed raw date of.sealed_are built
+
+    head_told : head ≡ own_head
+    head_told = head_is ∙ ap (snap_head date) tables_told
+
+    -- one that its head gives, or none
+    pub refused_late : (refusal : Option SnapAnswer) → late_refusal heads head ≡ refusal → snapshot_refusal raw.mapping hashes state date ≡ refusal
+    refused_late refusal late =
+        refusal_told raw.mapping hashes state date (no_paths raw.mapping built)
+        ∙ (λ i. option_or (early_is i) (late_refusal (sym of.heads_are i) own_head))
+        ∙ (λ i. option_or (early i) (late_refusal heads (sym head_told i)))
+        ∙ late
+
+    -- it is the snapshot of the state
+    pub snapshot_is : record { head = head; tables = tables } ≡ snapshot raw.mapping hashes state.sealed date
+    snapshot_is i = record { head = head_told i; tables = tables_told i }

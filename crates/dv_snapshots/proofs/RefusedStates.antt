@@ -1,0 +1,60 @@
+-- The refusals of a snapshot, told from the last sealed load date and the heads of the stored ones, are those of a state.
+use Rattle.dv_snapshots.proofs.Vocabulary.{Hashes, List, Mapping, None, Option, Some, SnapAnswer, SnapHead, State, [], ap, arith, first_of, if◌then◌else◌, last_load, length-map, list_any-map, map, option_map, option_or, position, refl, snapshot, snapshots_weight, sum_by, sum_by-append, sum_by-cons, sym, ℕ, ◌+◌, ◌++◌, ◌==◌, ◌∙◌, ◌∷◌, ◌≡◌}
+use Rattle.dv_records.specs.declared.answers.SnapAnswer.TheVariants.{Repeated, TooLarge}
+use Rattle.dv_records.specs.Steps.{full_with, future, is_too_large, snapshot_refusal, snapshots_full, taken, too_large}
+use Rattle.dv_form.specs.SnapshotHeads.{heads_weight}
+use Rattle.dv_snapshots.specs.Refusals.{early_refusal, late_refusal, taken_among}
+
+-- what is made of items weighs what each weighs
+sum_by-map : {X Y : Type 0} (w : Y → ℕ) (f : X → Y) (xs : List X) → sum_by w (map f xs) ≡ sum_by (λ x. w (f x)) xs
+sum_by-map w f [] = refl
+sum_by-map w f (x ∷ xs) = sum_by-cons w (f x) (map f xs) ∙ ap (λ n. w (f x) + n) (sum_by-map w f xs) ∙ sym (sum_by-cons (λ x. w (f x)) x xs)
+
+-- two answers that come first, and the later ones, of which the first is none
+in_turn : {X : Type 0} (a b late : Option X) → option_or a (option_or b (option_or None (option_or late None))) ≡ option_or (option_or a (option_or b None)) late
+in_turn (Some x) b late = refl
+in_turn None (Some y) late = refl
+in_turn None None (Some z) = refl
+in_turn None None None = refl
+
+-- one of the two that come first
+first_given : {X : Type 0} (a b late : Option X) (x : X) → option_or a (option_or b None) ≡ Some x → option_or a (option_or b late) ≡ Some x
+first_given (Some y) b late x e = e
+first_given None (Some y) late x e = e
+first_given None None late x e = cc
+
+module _ (mapping : Mapping) (hashes : Hashes) (state : State) (date : ℕ) where
+  abbrev head_on : ℕ → SnapHead
+  head_on d = (snapshot mapping hashes state.sealed d).head
+
+  abbrev heads : List SnapHead
+  heads = map head_on state.dates
+
+  taken_is : taken state date ≡ taken_among heads date
+  taken_is = ap (λ there. if there then Some Repeated else None) (sym (list_any-map (λ (head : SnapHead). head.date == date) head_on state.dates))
+
+  weighs : snapshots_weight mapping hashes state.sealed (state.dates ++ date ∷ []) ≡ heads_weight heads + (head_on date).weight
+  weighs =
+      sum_by-append (λ d. (head_on d).weight) state.dates (date ∷ [])
+      ∙ (λ i. sym (sum_by-map (λ (head : SnapHead). head.weight) head_on state.dates) i + sum_one i)
+    where
+      sum_one : sum_by (λ d. (head_on d).weight) (date ∷ []) ≡ (head_on date).weight
+      sum_one = sum_by-cons (λ d. (head_on d).weight) date [] ∙ omega arith
+
+  full_is : snapshots_full mapping hashes state date ≡ late_refusal heads (head_on date)
+  full_is = (λ i. full_with (sym (length-map state.dates head_on) i) (weighs i))
+
+  no_path : mapping.paths ≡ [] → too_large mapping state date ≡ None
+  no_path none = ap (λ paths. option_map (λ path. TooLarge path) (position (is_too_large mapping state.sealed date) paths)) none
+
+  -- a refusal that is told before the tables are made
+  pub refused_first : (answer : SnapAnswer) → early_refusal (last_load state.sealed) heads date ≡ Some answer → snapshot_refusal mapping hashes state date ≡ Some answer
+  refused_first answer early =
+      (λ i. option_or (future state date) (option_or (taken_is i) (first_of (too_large mapping state date ∷ snapshots_full mapping hashes state date ∷ []))))
+      ∙ first_given (future state date) (taken_among heads date) (first_of (too_large mapping state date ∷ snapshots_full mapping hashes state date ∷ [])) answer early
+
+  -- the first refusal: of those told before the tables are made, and then of the others, where the mapping has no paths
+  pub refusal_told : mapping.paths ≡ [] → snapshot_refusal mapping hashes state date ≡ option_or (early_refusal (last_load state.sealed) heads date) (late_refusal heads (head_on date))
+  refusal_told none =
+      (λ i. option_or (future state date) (option_or (taken_is i) (option_or (no_path none i) (option_or (full_is i) None))))
+      ∙ in_turn (future state date) (taken_among heads date) (late_refusal heads (head_on date))

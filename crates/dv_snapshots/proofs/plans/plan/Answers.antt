@@ -1,0 +1,26 @@
+use Rattle.dv_snapshots.proofs.Vocabulary.{ap, early_refusal, snap_head, sym, ◌∙◌}
+use Rattle.dv_snapshots.proofs.PlannedSnapshots.{refused_early, refused_late, snapshot_is}
+use Rattle.dv_snapshots.proofs.plans.plan.Goals as goal
+
+pub returns-in-Some-clause-state : goal.returns-in-Some-clause-state
+returns-in-Some-clause-state c hashes state of =
+    let vault = c.args.vault.now in
+    let heads = c.args.heads.now in
+    let early = ap (λ last. early_refusal last heads c.args.date) (sym c.last.ensures) ∙ sym c.in-Some.ensures in
+    refused_early hashes state vault heads c.args.date of c.in-Some.answer early
+
+pub returns-in-Some-2-clause-state : goal.returns-in-Some-2-clause-state
+returns-in-Some-2-clause-state c hashes state of =
+    let early = ap (λ last. early_refusal last c.args.heads.now c.args.date) (sym c.last.ensures) ∙ sym c.early_refusal.ensures ∙ c.in_default.is in
+    let head_is = c.in_ok-head.ensures ∙ ap (snap_head c.args.date) c.items.ensures in
+    refused_late hashes state c.args.vault.now c.args.heads.now c.args.date of c.in_ok-tables.ensures.built c.in_ok-head.head c.in_ok-tables.tables early c.in_ok-tables.ensures.read head_is c.in_ok-answer.field-0 (sym c.in_ok-answer.ensures)
+    ∙ c.in-Some-2.is
+
+pub returns-in-None-clause-state : goal.returns-in-None-clause-state
+returns-in-None-clause-state c hashes state of =
+    let early = ap (λ last. early_refusal last c.args.heads.now c.args.date) (sym c.last.ensures) ∙ sym c.early_refusal.ensures ∙ c.in_default.is in
+    let head_is = c.in_ok-head.ensures ∙ ap (snap_head c.args.date) c.items.ensures in (
+      snapshot_is hashes state c.args.vault.now c.args.heads.now c.args.date of c.in_ok-tables.ensures.built c.in_ok-head.head c.in_ok-tables.tables early c.in_ok-tables.ensures.read head_is,
+      refused_late hashes state c.args.vault.now c.args.heads.now c.args.date of c.in_ok-tables.ensures.built c.in_ok-head.head c.in_ok-tables.tables early c.in_ok-tables.ensures.read head_is c.in_ok-answer.field-0 (sym c.in_ok-answer.ensures)
+          ∙ c.in-None.is,
+    )
