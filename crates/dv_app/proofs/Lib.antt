@@ -2,11 +2,14 @@ pub mod InitSteps
 pub mod LoadComes
 pub mod LoadSteps
 pub mod MoreRises
+pub mod PitComes
 pub mod ReplySteps
 pub mod ResumeComes
 pub mod ResumeSteps
 pub mod RunSteps
 pub mod ShutStores
+pub mod SnapshotComes
+pub mod SnapshotSteps
 pub mod TextComes
 pub mod TextSteps
 pub mod WholeLoads

@@ -16,13 +16,13 @@ use Rattle.dv_app.specs.declared.stops.Stop.{Stop}
 use Rattle.dv_app.specs.declared.stops.Stop.TheVariants as stop
 use Rattle.dv_try.specs.Causes.{Faults}
 use Rattle.dv_try.specs.declared.endings.Ending.TheVariants as endings
-use Rattle.dv_app.specs.Kept.{EndsAtFault, InitBy, InitFor, InitSays, InitWith, IsInitCause, KeptSays, LoadSays, OpenedSays, OpensOr, ResumeSays, Rises, TextSays, mart_says, table_says, windows_say}
+use Rattle.dv_app.specs.Kept.{EndsAtFault, InitBy, InitFor, InitSays, InitWith, IsInitCause, KeptSays, LoadSays, OpenedSays, OpensOr, ResumeSays, Rises, SnapshotSays, TextSays, mart_says, pit_says, table_says, windows_say}
 use Rattle.dv_outside.specs.declared.statuses.Status.{Status}
 use Rattle.dv_outside.specs.declared.statuses.Status.TheVariants as statuses
 use Rattle.dv_app.specs.Replies as replies
 use Rattle.dv_app.specs.Replies.{IsCauseOf}
 use Rattle.dv_app.specs.Stops.{IsStopCause, said_of}
-use Rattle.dv_app.specs.Words.{Init, KeptCommand, Load, Mart, Resume, Table, Windows}
+use Rattle.dv_app.specs.Words.{Init, KeptCommand, Load, Mart, Pit, Resume, Snapshot, Table, Windows}
 use Rattle.dv_app.specs.Works.{Comes, ComesFor, memory_said}
 
 module _ (rises more : Rises) (read_so : rises.folder → more.folder) (loss_so : rises.keeper → more.keeper) where
@@ -50,6 +50,11 @@ module _ (rises more : Rises) (read_so : rises.folder → more.folder) (loss_so 
   resume_more : (mapping : Mapping) (hashes : Hashes) (state : State) (before now : Option Store) (said : Tried) → ResumeSays rises mapping hashes state before now said → ResumeSays more mapping hashes state before now said
   resume_more mapping hashes state before now said (inl answers) = inl answers
   resume_more mapping hashes state before now said (inr fault) = inr (fault_more _ _ _ said fault)
+
+  snapshot_more : (mapping : Mapping) (hashes : Hashes) (date : List ℕ) (state : State) (before now : Option Store) (said : Tried)
+      → SnapshotSays rises mapping hashes date state before now said → SnapshotSays more mapping hashes date state before now said
+  snapshot_more mapping hashes date state before now said (inl answers) = inl answers
+  snapshot_more mapping hashes date state before now said (inr fault) = inr (fault_more _ _ _ said fault)
 
   opens_more : (hashes : Hashes) (width : ℕ) (store : Store) (now : Option Store) (P Q : Mapping → Tried → Type 0) (said : Tried) → ((mapping : Mapping) → P mapping said → Q mapping said)
       → OpensOr rises hashes width store now P said → OpensOr more hashes width store now Q said
@@ -88,11 +93,13 @@ module _ (rises more : Rises) (read_so : rises.folder → more.folder) (loss_so 
   opened_more : (hashes : Hashes) (told : Option (List NamedFile)) (command : KeptCommand) (store : Store) (now : Option Store) (mapping : Mapping) (said : Tried)
       → OpenedSays rises hashes told command store now mapping said → OpenedSays more hashes told command store now mapping said
   opened_more hashes told Init store now mapping said none = none
-  opened_more hashes told (Load name) store now mapping said so = λ state stands dates files e. load_more mapping hashes files name state (Some store) now said (so state stands dates files e)
-  opened_more hashes told Resume store now mapping said so = λ state stands dates. resume_more mapping hashes state (Some store) now said (so state stands dates)
-  opened_more hashes told (Mart what date) store now mapping said so = λ state stands dates. text_more (mart_says mapping hashes state what date) said (Some store) now (so state stands dates)
+  opened_more hashes told (Load name) store now mapping said so = λ state stands files e. load_more mapping hashes files name state (Some store) now said (so state stands files e)
+  opened_more hashes told Resume store now mapping said so = λ state stands. resume_more mapping hashes state (Some store) now said (so state stands)
+  opened_more hashes told (Mart what date) store now mapping said so = λ state stands. text_more (mart_says mapping hashes state what date) said (Some store) now (so state stands)
   opened_more hashes told (Table name) store now mapping said so = text_more (table_says mapping store name) said (Some store) now so
   opened_more hashes told Windows store now mapping said so = text_more (windows_say mapping store) said (Some store) now so
+  opened_more hashes told (Snapshot date) store now mapping said so = λ state stands. snapshot_more mapping hashes date state (Some store) now said (so state stands)
+  opened_more hashes told (Pit hub date) store now mapping said so = λ state stands. text_more (pit_says mapping hashes state hub date) said (Some store) now (so state stands)
 
   opens_by : (hashes : Hashes) (width : ℕ) (told : Option (List NamedFile)) (command : KeptCommand) (store : Store) (now : Option Store) (said : Tried)
       → OpensOr rises hashes width store now (OpenedSays rises hashes told command store now) said → OpensOr more hashes width store now (OpenedSays more hashes told command store now) said
@@ -108,6 +115,8 @@ module _ (rises more : Rises) (read_so : rises.folder → more.folder) (loss_so 
   kept_more hashes width told (Mart what date) store now said says = opens_by hashes width told (Mart what date) store now said says
   kept_more hashes width told (Table name) store now said says = opens_by hashes width told (Table name) store now said says
   kept_more hashes width told Windows store now said says = opens_by hashes width told Windows store now said says
+  kept_more hashes width told (Snapshot date) store now said says = opens_by hashes width told (Snapshot date) store now said says
+  kept_more hashes width told (Pit hub date) store now said says = opens_by hashes width told (Pit hub date) store now said says
 
   -- why a command stops
   pub stop_cause_more : (s : Stop) → IsStopCause rises s → IsStopCause more s

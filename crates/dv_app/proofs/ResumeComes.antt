@@ -1,5 +1,5 @@
 -- What comes of the completion of the open window, over the store that the keeper told.
-use Rattle.std.specs.Prelude.{◌≡◌, ℕ, List, [], Option, Some}
+use Rattle.std.specs.Prelude.{◌≡◌, ℕ, List, Option, Some}
 use Rattle.std.proofs.Common.{subst, sym, ◌∙◌}
 use Rattle.dv_text.specs.Keys.{Hashes}
 use Rattle.dv_catalog.specs.Entries.{Mapping}
@@ -35,24 +35,24 @@ module _ (hashes : Hashes) (width : ℕ) (before : Option Store) (office : Held)
   abbrev InState : State → Tried → Type 0
   InState state = ResumeSays rises mapping hashes state (Some store) after
 
-  says_by : (said : Tried) → ((state : State) → Stands mapping hashes state store → state.dates ≡ [] → InState state said) → Says said
+  says_by : (said : Tried) → ((state : State) → Stands mapping hashes state store → InState state said) → Says said
   says_by said by = opened_says rises hashes width store after (OpenedSays rises hashes told Resume store after) mapping (is_open.opened store told_is) said by
 
-  both_by : (a b : Tried) → ((state : State) → Stands mapping hashes state store → state.dates ≡ [] → InState state a × InState state b) → Says a × Says b
-  both_by a b both = (says_by a (λ state stands dates. (both state stands dates).0), says_by b (λ state stands dates. (both state stands dates).1))
+  both_by : (a b : Tried) → ((state : State) → Stands mapping hashes state store → InState state a × InState state b) → Says a × Says b
+  both_by a b both = (says_by a (λ state stands. (both state stands).0), says_by b (λ state stands. (both state stands).1))
 
-  in_state : (state : State) → Stands mapping hashes state store → state.dates ≡ [] → IsIn hashes state office before
+  in_state : (state : State) → Stands mapping hashes state store → IsIn hashes state office before
   in_state = opened_in hashes width before office is_open store told_is
 
   pub resumed : (rows : ℕ) → ((state : State) → IsIn hashes state office before → CompletesTo mapping hashes state (answers.Loaded rows) held after)
       → Says (ended statuses.Done (resumed_line rows)) × Says memory_said
   resumed rows completes = both_by (ended statuses.Done (resumed_line rows)) memory_said
-      (λ state stands dates. steps.resumed_says rises mapping hashes state held mapped (Some store) after rows (completes state (in_state state stands dates)))
+      (λ state stands. steps.resumed_says rises mapping hashes state held mapped (Some store) after rows (completes state (in_state state stands)))
 
   pub nothing_open : ((state : State) → IsIn hashes state office before → CompletesTo mapping hashes state answers.NothingOpen held after) → after ≡ before
       → Says (said_of (stop.Ended (endings.BadQuery NothingOpen))) × Says memory_said
   nothing_open completes kept = both_by (said_of (stop.Ended (endings.BadQuery NothingOpen))) memory_said
-      (λ state stands dates. steps.nothing_says rises mapping hashes state held mapped (Some store) after (completes state (in_state state stands dates)) (kept ∙ told_is) (stood state stands))
+      (λ state stands. steps.nothing_says rises mapping hashes state held mapped (Some store) after (completes state (in_state state stands)) (kept ∙ told_is) (stood state stands))
     where
       stood : (state : State) → Stands mapping hashes state store → StandsAt mapping hashes state after
       stood state stands = λ s e. subst (Stands mapping hashes state) (same (sym (kept ∙ told_is) ∙ e)) stands
@@ -63,8 +63,8 @@ module _ (hashes : Hashes) (width : ℕ) (before : Option Store) (office : Held)
   pub resume_failed : ((state : State) → IsIn hashes state office before → CompletesTo mapping hashes state answers.KeeperFault held after) → rises.keeper
       → Says (said_of stop.KeeperFault) × Says memory_said
   resume_failed completes rose = both_by (said_of stop.KeeperFault) memory_said
-      (λ state stands dates. steps.fault_says rises mapping hashes state held mapped (Some store) after (completes state (in_state state stands dates)) rose)
+      (λ state stands. steps.fault_says rises mapping hashes state held mapped (Some store) after (completes state (in_state state stands)) rose)
 
   pub resume_short : ((state : State) → IsIn hashes state office before → CompletesTo mapping hashes state answers.Memory held after) → Says memory_said × Says memory_said
-  resume_short completes = both_by memory_said memory_said (λ state stands dates.
-      let says = steps.memory_says rises mapping hashes state held mapped (Some store) after (completes state (in_state state stands dates)) in (says, says))
+  resume_short completes = both_by memory_said memory_said (λ state stands.
+      let says = steps.memory_says rises mapping hashes state held mapped (Some store) after (completes state (in_state state stands)) in (says, says))

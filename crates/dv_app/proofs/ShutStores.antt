@@ -17,7 +17,7 @@ use Rattle.dv_try.specs.Tried.{Tried}
 use Rattle.dv_app.specs.declared.stops.Stop.{Stop}
 use Rattle.dv_app.specs.declared.stops.Stop.TheVariants as stop
 use Rattle.dv_outside.specs.declared.folders.NamedFile.{NamedFile}
-use Rattle.dv_app.specs.Words.{Init, KeptCommand, Load, Mart, Resume, Table, Windows}
+use Rattle.dv_app.specs.Words.{Init, KeptCommand, Load, Mart, Pit, Resume, Snapshot, Table, Windows}
 use Rattle.dv_app.specs.Kept.{KeptSays, OpenedSays, EndsAtFault, IsOpenedBy, IsShut, IsStanding, OpensOr, ReadsNone, Rises}
 use Rattle.dv_app.specs.Stops.{IsStopCause, said_of, stop_of_start}
 use Rattle.dv_app.specs.Takings.{IsBreak}
@@ -80,6 +80,8 @@ module _ (rises : Rises) (hashes : Hashes) (width : ℕ) (told : Option (List Na
   kept_shut (Mart what date) opens = shut_comes rises hashes width store after (By (Mart what date)) kept s shut cause
   kept_shut (Table name) opens = shut_comes rises hashes width store after (By (Table name)) kept s shut cause
   kept_shut Windows opens = shut_comes rises hashes width store after (By Windows) kept s shut cause
+  kept_shut (Snapshot date) opens = shut_comes rises hashes width store after (By (Snapshot date)) kept s shut cause
+  kept_shut (Pit hub date) opens = shut_comes rises hashes width store after (By (Pit hub date)) kept s shut cause
 
 -- the text of an opened store, where the command writes one by what the store has, or in each state
 module _ (rises : Rises) (hashes : Hashes) (width : ℕ) (store : Store) (after : Option Store) where
@@ -90,3 +92,5 @@ module _ (rises : Rises) (hashes : Hashes) (width : ℕ) (store : Store) (after 
   memory_shut_kept kept told (Mart what date) opens = memory_shut rises hashes width store after (OpenedSays rises hashes told (Mart what date) store after) kept
   memory_shut_kept kept told (Table name) opens = memory_shut rises hashes width store after (OpenedSays rises hashes told (Table name) store after) kept
   memory_shut_kept kept told Windows opens = memory_shut rises hashes width store after (OpenedSays rises hashes told Windows store after) kept
+  memory_shut_kept kept told (Snapshot date) opens = memory_shut rises hashes width store after (OpenedSays rises hashes told (Snapshot date) store after) kept
+  memory_shut_kept kept told (Pit hub date) opens = memory_shut rises hashes width store after (OpenedSays rises hashes told (Pit hub date) store after) kept

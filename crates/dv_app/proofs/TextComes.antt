@@ -1,5 +1,5 @@
 -- What comes of a query, over the store that the office was opened of.
-use Rattle.std.specs.Prelude.{◌≡◌, ℕ, true, List, [], Option, Some, None, Result, Ok, Err, option_map, option_to_list, take}
+use Rattle.std.specs.Prelude.{◌≡◌, ℕ, true, List, Option, Some, None, Result, Ok, Err, option_map, option_to_list, take}
 use Rattle.std.proofs.Common.{ap, refl, subst, sym, ◌∙◌}
 use Rattle.dv_text.specs.Keys.{Hashes}
 use Rattle.dv_text.specs.Stamps.{stamp_of}
@@ -8,8 +8,9 @@ use Rattle.dv_catalog.specs.Entries.{Mapping}
 use Rattle.dv_catalog.specs.declared.tables.TableId.{TableId}
 use Rattle.dv_mart.specs.declared.query_rules.QueryRule.{QueryRule}
 use Rattle.dv_mart.specs.declared.whats.What.{What}
-use Rattle.dv_mart.specs.MartTexts.{mart_text, table_text}
-use Rattle.dv_mart.specs.Texts.{windows_text}
+use Rattle.dv_mart.specs.MartTexts.{mart_text}
+use Rattle.dv_texts.specs.TableTexts.{table_text}
+use Rattle.dv_texts.specs.Texts.{windows_text}
 use Rattle.dv_mart.specs.Whats.{offered_mart, table_named}
 use Rattle.dv_outside.specs.declared.folders.NamedFile.{NamedFile}
 use Rattle.dv_outside.specs.declared.statuses.Status.TheVariants as statuses
@@ -65,37 +66,37 @@ module _ (hashes : Hashes) (width : ℕ) (kept : Option Store) (office : Held) (
     mart_by : (said : Tried) → InEach mapping hashes store (λ state. TextSays rises (mart_says mapping hashes state word date) (Some store) kept said) → SaysMart said
     mart_by said by = opened_says rises hashes width store kept (OpenedSays rises hashes told (Mart word date) store kept) mapping (is_open.opened store told_is) said by
 
-    mart_refused : (IsBroken : QueryRule → Type 0) → ((state : State) → Stands mapping hashes state store → state.dates ≡ [] → (rule : QueryRule) → IsBroken rule → ended statuses.Refused (query_line rule) ≡ mart_says mapping hashes state word date)
+    mart_refused : (IsBroken : QueryRule → Type 0) → ((state : State) → Stands mapping hashes state store → (rule : QueryRule) → IsBroken rule → ended statuses.Refused (query_line rule) ≡ mart_says mapping hashes state word date)
         → (ending : Ending) → QueryEnds IsBroken ending → SaysMart (said_of (stop.Ended ending)) × SaysMart memory_said
     mart_refused IsBroken so ending ends = (
-      mart_by (said_of (stop.Ended ending)) (λ state stands dates. (query_comes rises (mart_says mapping hashes state word date) (Some store) kept told_is IsBroken (so state stands dates) ending ends).0),
-      mart_by memory_said (λ state stands dates. text_memory rises (mart_says mapping hashes state word date) (Some store) kept told_is),
+      mart_by (said_of (stop.Ended ending)) (λ state stands. (query_comes rises (mart_says mapping hashes state word date) (Some store) kept told_is IsBroken (so state stands) ending ends).0),
+      mart_by memory_said (λ state stands. text_memory rises (mart_says mapping hashes state word date) (Some store) kept told_is),
     )
 
     pub mart_unknown : (ending : Ending) → MartEnds mapping word ending → SaysMart (said_of (stop.Ended ending)) × SaysMart memory_said
-    mart_unknown ending ends = mart_refused _ (λ state stands dates. unknown_mart mapping hashes state word date) ending ends
+    mart_unknown ending ends = mart_refused _ (λ state stands. unknown_mart mapping hashes state word date) ending ends
 
     module _ (what : What) (offered : offered_mart mapping word ≡ Some what) where
       pub mart_undated : (ending : Ending) → DateEnds date ending → SaysMart (said_of (stop.Ended ending)) × SaysMart memory_said
-      mart_undated ending ends = mart_refused _ (λ state stands dates. bad_date mapping hashes state word date what offered) ending ends
+      mart_undated ending ends = mart_refused _ (λ state stands. bad_date mapping hashes state word date what offered) ending ends
 
       module _ (at : ℕ) (dated : stamp_of date ≡ Some at) (raw : RawVault) (raw_is : raw ≡ office.vault) where
         -- what is said of the office's vault is said of the sealed windows of a state
         sealed_text : (r : Result (List ℕ) QueryRule) → ((hashes : Hashes) (sealed : List Window) → HasSealed hashes sealed raw → mart_text raw.mapping hashes sealed raw.tables what at ≡ r)
-            → (state : State) → Stands mapping hashes state store → state.dates ≡ [] → text_or r ≡ mart_says mapping hashes state word date
-        sealed_text r makes state stands dates =
-            let stood : StandsFor hashes state office = is_open.stands store told_is state stands dates in
+            → (state : State) → Stands mapping hashes state store → text_or r ≡ mart_says mapping hashes state word date
+        sealed_text r makes state stands =
+            let stood : StandsFor hashes state office = is_open.stands store told_is state stands in
             mart_text_is mapping hashes state word date what offered at dated r
             (ap (λ entries. mart_text mapping hashes state.sealed entries what at) (sym stood.sealed_are.tables_are)
             ∙ subst (λ (v : RawVault). mart_text v.mapping hashes state.sealed v.tables what at ≡ r) raw_is (makes hashes state.sealed (subst (HasSealed hashes state.sealed) (sym raw_is) stood.sealed_are)))
 
         pub mart_texted : (text : List ℕ) → ((hashes : Hashes) (sealed : List Window) → HasSealed hashes sealed raw → mart_text raw.mapping hashes sealed raw.tables what at ≡ Ok text)
             → SaysMart (text_or (Ok text))
-        mart_texted text makes = mart_by (text_or (Ok text)) (λ state stands dates.
-            text_says rises (mart_says mapping hashes state word date) (Some store) kept told_is (text_or (Ok text)) (sealed_text (Ok text) makes state stands dates))
+        mart_texted text makes = mart_by (text_or (Ok text)) (λ state stands.
+            text_says rises (mart_says mapping hashes state word date) (Some store) kept told_is (text_or (Ok text)) (sealed_text (Ok text) makes state stands))
 
         pub mart_untexted : (ending : Ending) → TextEnds raw what at ending → SaysMart (said_of (stop.Ended ending)) × SaysMart memory_said
-        mart_untexted ending ends = mart_refused _ (λ state stands dates rule broken. sealed_text (Err rule) broken state stands dates) ending ends
+        mart_untexted ending ends = mart_refused _ (λ state stands rule broken. sealed_text (Err rule) broken state stands) ending ends
 
   -- ---- raw tables
 

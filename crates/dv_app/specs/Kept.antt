@@ -1,5 +1,6 @@
 -- What each command on the vault that is kept says, and what it leaves of the keeper's store.
-use Rattle.std.specs.Prelude.{◌≡◌, ◌⊎◌, ℕ, List, [], Option, Some, None, Result, Ok, Err, option_map, option_to_list}
+use Rattle.std.specs.List.{list_any}
+use Rattle.std.specs.Prelude.{◌≡◌, ◌⊎◌, ℕ, ◌==◌, List, [], Option, Some, None, Result, Ok, Err, if◌then◌else◌, option_map, option_to_list, slice_get}
 use Rattle.dv_text.specs.declared.rows.Window.{Window}
 use Rattle.dv_text.specs.Keys.{Hashes}
 use Rattle.dv_text.specs.Stamps.{stamp_of}
@@ -11,11 +12,12 @@ use Rattle.dv_catalog.specs.declared.windows.WindowIn.{WindowIn}
 use Rattle.dv_catalog.specs.Entries.{Mapping}
 use Rattle.dv_catalog.specs.Windows.{window_of}
 use Rattle.dv_mart.specs.declared.query_rules.QueryRule.{QueryRule}
-use Rattle.dv_mart.specs.declared.query_rules.QueryRule.TheVariants.{UnknownMart, BadDate, UnknownTable, NothingOpen}
+use Rattle.dv_mart.specs.declared.query_rules.QueryRule.TheVariants.{UnknownMart, BadDate, TooLarge, Future, NoSnapshot, UnknownTable, SnapshotsFull, NothingOpen}
 use Rattle.dv_mart.specs.declared.whats.What.{What}
-use Rattle.dv_mart.specs.MartTexts.{mart_text, table_text}
-use Rattle.dv_mart.specs.Texts.{windows_text}
-use Rattle.dv_mart.specs.Whats.{offered_mart, table_named}
+use Rattle.dv_mart.specs.MartTexts.{mart_text, name_of_path}
+use Rattle.dv_texts.specs.TableTexts.{table_text}
+use Rattle.dv_texts.specs.Texts.{pit_text, windows_text}
+use Rattle.dv_mart.specs.Whats.{hub_place, offered_mart, table_named}
 use Rattle.dv_outside.specs.declared.folders.NamedFile.{NamedFile}
 use Rattle.dv_outside.specs.declared.statuses.Status.TheVariants as statuses
 use Rattle.dv_records.specs.declared.answers.Damage.{Damage}
@@ -23,12 +25,15 @@ use Rattle.dv_records.specs.declared.answers.InitAnswer.{InitAnswer}
 use Rattle.dv_records.specs.declared.answers.InitAnswer.TheVariants as init
 use Rattle.dv_records.specs.declared.answers.Outcome.{Outcome}
 use Rattle.dv_records.specs.declared.answers.Outcome.TheVariants as outcomes
+use Rattle.dv_records.specs.declared.answers.SnapAnswer.{SnapAnswer}
+use Rattle.dv_records.specs.declared.answers.SnapAnswer.TheVariants as snap
 use Rattle.dv_records.specs.declared.stores.Store.{Store}
 use Rattle.dv_records.specs.Loads.{loaded}
 use Rattle.dv_records.specs.Outcomes.{outcome}
+use Rattle.dv_records.specs.Snapshots.{pit, snapshot}
 use Rattle.dv_records.specs.Standing.{IsMappedBy, Stands}
 use Rattle.dv_records.specs.States.{State, head_of}
-use Rattle.dv_records.specs.Steps.{InitStep, LoadBroke, ResumeBroke, sealed_with}
+use Rattle.dv_records.specs.Steps.{InitStep, LoadBroke, ResumeBroke, sealed_with, snapshot_refusal, with_date}
 use Rattle.dv_records.specs.Stores.{rows_in}
 use Rattle.dv_records.specs.Vault.{vault}
 use Rattle.dv_start.specs.Damages.{IsFirstDamage, IsInForm, IsNotRead, mapping_damage}
@@ -37,8 +42,8 @@ use Rattle.dv_try.specs.Given.{absent_line, query_line, read_fault_line, refused
 use Rattle.dv_try.specs.Lines.{mapping_file, memory_line}
 use Rattle.dv_try.specs.Says.{IsReadFor}
 use Rattle.dv_try.specs.Tried.{Absent, Arrival, Broken, Brought, Tried, arrival, ended, is_refused, mapping_bytes, outcome_text, refusal_text, status_for, window_line}
-use Rattle.dv_app.specs.Lines.{damaged_line, differs_line, keeper_line, kept_line, none_line, resumed_line, stored_line}
-use Rattle.dv_app.specs.Words.{KeptCommand, Init, Load, Resume, Mart, Table, Windows}
+use Rattle.dv_app.specs.Lines.{damaged_line, differs_line, keeper_line, kept_line, none_line, repeated_line, resumed_line, snapshot_line, stored_line}
+use Rattle.dv_app.specs.Words.{KeptCommand, Init, Load, Resume, Mart, Table, Windows, Snapshot, Pit}
 
 -- ---- the answers, in a state of the warehouse
 
@@ -80,6 +85,31 @@ resume_with mapping hashes state (Some window) = record {
 abbrev pub resume_answer : Mapping → Hashes → State → Answer
 resume_answer mapping hashes state = resume_with mapping hashes state state.begun
 
+-- what is said of the answer to a snapshot
+abbrev pub snapshot_said : Mapping → SnapAnswer → Tried
+snapshot_said mapping (snap.Stored rows) = ended statuses.Done (snapshot_line rows)
+snapshot_said mapping snap.Repeated = ended statuses.Done repeated_line
+snapshot_said mapping (snap.Future last) = ended statuses.Refused (query_line (Future last))
+snapshot_said mapping (snap.TooLarge path) = ended statuses.Refused (query_line (TooLarge (name_of_path (slice_get mapping.paths path))))
+snapshot_said mapping (snap.Full weight) = ended statuses.Refused (query_line (SnapshotsFull weight))
+snapshot_said mapping snap.KeeperFault = ended statuses.KeeperFault keeper_line
+snapshot_said mapping snap.Memory = ended statuses.Memory memory_line
+
+abbrev pub snapshot_by : Mapping → Hashes → State → ℕ → Option SnapAnswer → Answer
+snapshot_by mapping hashes state at None = record {
+  says = snapshot_said mapping (snap.Stored (snapshot mapping hashes state.sealed at).head.rows);
+  next = Some (with_date at state);
+}
+snapshot_by mapping hashes state at (Some refusal) = leaves (snapshot_said mapping refusal)
+
+abbrev pub snapshot_at : Mapping → Hashes → State → List ℕ → Option ℕ → Answer
+snapshot_at mapping hashes state date None = leaves (ended statuses.Refused (query_line (BadDate date)))
+snapshot_at mapping hashes state date (Some at) = snapshot_by mapping hashes state at (snapshot_refusal mapping hashes state at)
+
+-- the snapshot of the sealed windows at a date: a step of the machine, with its line
+abbrev pub snapshot_answer : Mapping → Hashes → List ℕ → State → Answer
+snapshot_answer mapping hashes date state = snapshot_at mapping hashes state date (stamp_of date)
+
 -- a text, or the rule that a query breaks
 abbrev pub text_or : Result (List ℕ) QueryRule → Tried
 text_or (Ok text) = record { out = text; err = []; status = statuses.Done }
@@ -96,6 +126,23 @@ mart_for mapping hashes state word date (Some what) = mart_at mapping hashes sta
 -- the text of a mart over the sealed windows
 abbrev pub mart_says : Mapping → Hashes → State → List ℕ → List ℕ → Tried
 mart_says mapping hashes state word date = mart_for mapping hashes state word date (offered_mart mapping word)
+
+-- the text of a hub's point-in-time table in the snapshot at a date, or that none is stored at it
+abbrev pub stored_pit : Mapping → Hashes → State → ℕ → ℕ → Result (List ℕ) QueryRule
+stored_pit mapping hashes state hub at =
+    if list_any (λ other. other == at) state.dates then Ok (pit_text mapping hub at (pit mapping hashes state.sealed hub at)) else Err (NoSnapshot at)
+
+abbrev pub pit_at : Mapping → Hashes → State → ℕ → List ℕ → Option ℕ → Tried
+pit_at mapping hashes state hub date None = ended statuses.Refused (query_line (BadDate date))
+pit_at mapping hashes state hub date (Some at) = text_or (stored_pit mapping hashes state hub at)
+
+abbrev pub pit_for : Mapping → Hashes → State → List ℕ → List ℕ → Option ℕ → Tried
+pit_for mapping hashes state name date None = ended statuses.Refused (query_line (UnknownMart name))
+pit_for mapping hashes state name date (Some hub) = pit_at mapping hashes state hub date (stamp_of date)
+
+-- the text of the stored point-in-time table of the hub with a name
+abbrev pub pit_says : Mapping → Hashes → State → List ℕ → List ℕ → Tried
+pit_says mapping hashes state name date = pit_for mapping hashes state name date (hub_place mapping name)
 
 -- ---- the texts of what a store has
 
@@ -131,6 +178,11 @@ abbrev pub LoadBreaks : Mapping → Hashes → State → Arrival → State → T
 LoadBreaks mapping hashes state (Brought given) state' = LoadBroke mapping hashes state given state'
 LoadBreaks mapping hashes state arrival state' = state' ≡ state
 
+-- a snapshot that broke off: the state is as before, or the snapshot was to be stored, and is
+abbrev pub SnapshotBroke : Mapping → Hashes → List ℕ → State → State → Type 0
+SnapshotBroke mapping hashes date state state' =
+    (state' ≡ state) ⊎ ((at : ℕ) × (stamp_of date ≡ Some at) × (snapshot_refusal mapping hashes state at ≡ None) × (state' ≡ with_date at state))
+
 -- a command that broke off left the store standing for a state that it may leave
 abbrev pub BreaksTo : Mapping → Hashes → (State → Type 0) → Option Store → Type 0
 BreaksTo mapping hashes MayLeave after = (state' : State) × MayLeave state' × StandsAt mapping hashes state' after
@@ -163,6 +215,11 @@ abbrev pub ResumeSays : Rises → Mapping → Hashes → State → Option Store 
 ResumeSays rises mapping hashes state before after said =
     Answers mapping hashes (resume_answer mapping hashes state) before after said
     ⊎ EndsAtFault rises ReadsNone (after ≡ before) (BreaksTo mapping hashes (ResumeBroke state) after) said
+
+abbrev pub SnapshotSays : Rises → Mapping → Hashes → List ℕ → State → Option Store → Option Store → Tried → Type 0
+SnapshotSays rises mapping hashes date state before after said =
+    Answers mapping hashes (snapshot_answer mapping hashes date state) before after said
+    ⊎ EndsAtFault rises ReadsNone (after ≡ before) (BreaksTo mapping hashes (SnapshotBroke mapping hashes date state) after) said
 
 -- a command that writes a text, and leaves the store whatever comes
 abbrev pub TextSays : Rises → Tried → Option Store → Option Store → Tried → Type 0
@@ -241,9 +298,9 @@ InitSays rises files store after said =
 
 -- ---- all of them
 
--- in each state that the store stands for, which so far has no snapshots
+-- in each state that the store stands for
 abbrev pub InEach : Mapping → Hashes → Store → (State → Type 0) → Type 0
-InEach mapping hashes store P = (state : State) → Stands mapping hashes state store → state.dates ≡ [] → P state
+InEach mapping hashes store P = (state : State) → Stands mapping hashes state store → P state
 
 -- by the stored mapping: in each state of the store, or by what the store has
 abbrev pub OpenedSays : Rises → Hashes → Option (List NamedFile) → KeptCommand → Store → Option Store → Mapping → Tried → Type 0
@@ -255,6 +312,10 @@ OpenedSays rises hashes told (Mart what date) store after mapping said =
     InEach mapping hashes store (λ state. TextSays rises (mart_says mapping hashes state what date) (Some store) after said)
 OpenedSays rises hashes told (Table name) store after mapping said = TextSays rises (table_says mapping store name) (Some store) after said
 OpenedSays rises hashes told Windows store after mapping said = TextSays rises (windows_say mapping store) (Some store) after said
+OpenedSays rises hashes told (Snapshot date) store after mapping said =
+    InEach mapping hashes store (λ state. SnapshotSays rises mapping hashes date state (Some store) after said)
+OpenedSays rises hashes told (Pit hub date) store after mapping said =
+    InEach mapping hashes store (λ state. TextSays rises (pit_says mapping hashes state hub date) (Some store) after said)
 
 -- what a command says over a keeper's store, and what the keeper tells behind it; the folder's files are those that it tells
 abbrev pub KeptSays : Rises → Hashes → ℕ → Option (List NamedFile) → KeptCommand → Store → Option Store → Tried → Type 0

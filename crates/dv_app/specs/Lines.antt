@@ -34,3 +34,10 @@ kept_line = codes "init: Kept\n"
 -- the line of an open window that is completed, with the number of its rows
 abbrev pub resumed_line : ℕ → List ℕ
 resumed_line rows = line_of (codes "resume: Loaded ") (decimal rows)
+
+-- the lines of a snapshot that is stored, with the number of its rows, and of one that was
+abbrev pub snapshot_line : ℕ → List ℕ
+snapshot_line rows = line_of (codes "snapshot: Stored ") (decimal rows)
+
+abbrev pub repeated_line : List ℕ
+repeated_line = codes "snapshot: Repeated\n"

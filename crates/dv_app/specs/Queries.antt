@@ -2,7 +2,7 @@
 use Rattle.std.specs.Prelude.{◌≡◌, ℕ, List, None}
 use Rattle.dv_catalog.specs.Entries.{Mapping}
 use Rattle.dv_mart.specs.declared.query_rules.QueryRule.TheVariants.{UnknownMart, UnknownTable}
-use Rattle.dv_mart.specs.Whats.{offered_mart, table_named}
+use Rattle.dv_mart.specs.Whats.{hub_place, offered_mart, table_named}
 use Rattle.dv_try.specs.declared.endings.Ending.{Ending}
 use Rattle.dv_try.specs.Endings.{QueryEnds}
 
@@ -13,3 +13,7 @@ MartEnds mapping word ending = QueryEnds (λ rule. (rule ≡ UnknownMart word) �
 -- no raw table has the name, or memory ran out
 abbrev pub TableEnds : Mapping → List ℕ → Ending → Type 0
 TableEnds mapping name ending = QueryEnds (λ rule. (rule ≡ UnknownTable name) × (table_named mapping name ≡ None)) ending
+
+-- no hub has the name, or memory ran out
+abbrev pub HubEnds : Mapping → List ℕ → Ending → Type 0
+HubEnds mapping name ending = QueryEnds (λ rule. (rule ≡ UnknownMart name) × (hub_place mapping name ≡ None)) ending

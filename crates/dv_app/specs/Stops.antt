@@ -6,6 +6,9 @@ use Rattle.dv_records.specs.declared.keepers.KeeperError.{KeeperError}
 use Rattle.dv_records.specs.declared.keepers.KeeperError.TheVariants as errors
 use Rattle.dv_start.specs.declared.faults.StartFault.{StartFault}
 use Rattle.dv_start.specs.declared.faults.StartFault.TheVariants as faults
+use Rattle.dv_mart.specs.declared.query_rules.QueryRule.TheVariants.{NoSnapshot}
+use Rattle.dv_snapshots.specs.declared.stored.StoredFault.{StoredFault}
+use Rattle.dv_snapshots.specs.declared.stored.StoredFault.TheVariants as stored
 use Rattle.dv_try.specs.declared.endings.Ending.TheVariants as endings
 use Rattle.dv_try.specs.Endings.{line_of_ending, status_of as status_of_ending}
 use Rattle.dv_try.specs.Tried.{Tried, ended}
@@ -50,3 +53,10 @@ stop_of_start faults.Memory = stop.Ended endings.Memory
 abbrev pub stop_of_error : KeeperError → Stop
 stop_of_error errors.Failed = stop.KeeperFault
 stop_of_error errors.Memory = stop.Ended endings.Memory
+
+-- of the table of a snapshot that is stored at a date
+abbrev pub stop_of_stored : ℕ → StoredFault → Stop
+stop_of_stored date stored.NoSnapshot = stop.Ended (endings.BadQuery (NoSnapshot date))
+stop_of_stored date (stored.Damaged damage) = stop.Damaged damage
+stop_of_stored date stored.KeeperFault = stop.KeeperFault
+stop_of_stored date stored.Memory = stop.Ended endings.Memory

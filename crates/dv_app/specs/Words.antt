@@ -22,6 +22,10 @@ pub data KeptCommand : Type 0 where
   Table : (name : List ℕ) → KeptCommand
   -- the sealed windows and the open one
   Windows : KeptCommand
+  -- a snapshot is stored, at a date
+  Snapshot : (date : List ℕ) → KeptCommand
+  -- the point-in-time table of a hub in the snapshot at a date
+  Pit : (hub date : List ℕ) → KeptCommand
 
 pub data Command : Type 0 where
   -- the mart of a word, at a date, over the windows of manifests alone
@@ -59,10 +63,13 @@ bare word =
 abbrev pub with_one : List ℕ → List ℕ → Command
 with_one word name =
     if bytes_eq word (codes "load") then OnKeeper (Load name)
-    else (if bytes_eq word (codes "table") then OnKeeper (Table name) else NoCommand)
+    else (if bytes_eq word (codes "table") then OnKeeper (Table name)
+    else (if bytes_eq word (codes "snapshot") then OnKeeper (Snapshot name) else NoCommand))
 
 abbrev pub with_two : List ℕ → List ℕ → List ℕ → Command
-with_two word what date = if bytes_eq word (codes "mart") then OnKeeper (Mart what date) else NoCommand
+with_two word what date =
+    if bytes_eq word (codes "mart") then OnKeeper (Mart what date)
+    else (if bytes_eq word (codes "pit") then OnKeeper (Pit what date) else NoCommand)
 
 abbrev pub with_more : List ℕ → List ℕ → List ℕ → List (List ℕ) → Command
 with_more word what date manifests = if bytes_eq word (codes "try") then Tries what date manifests else NoCommand
@@ -97,6 +104,8 @@ kept_of given.Resume = Resume
 kept_of (given.Mart what date) = Mart what.now date.now
 kept_of (given.Table name) = Table name.now
 kept_of given.Windows = Windows
+kept_of (given.Snapshot date) = Snapshot date.now
+kept_of (given.Pit hub date) = Pit hub.now date.now
 
 abbrev pub command_of : Option Parsed → Command
 command_of None = NoCommand

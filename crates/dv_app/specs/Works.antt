@@ -1,5 +1,5 @@
 -- What comes of the work of a command, before anything is written: a reply, or why it stops.
-use Rattle.std.specs.Prelude.{◌≡◌, Option, Result, Ok, Err}
+use Rattle.std.specs.Prelude.{◌≡◌, ◌⊎◌, Option, Result, Ok, Err}
 use Rattle.dv_text.specs.Keys.{Hashes}
 use Rattle.dv_outside.specs.declared.statuses.Status.TheVariants as statuses
 use Rattle.dv_records.specs.declared.answers.Damage.{Damage}
@@ -22,6 +22,10 @@ memory_said = ended statuses.Memory memory_line
 abbrev pub Comes : (Tried → Type 0) → Result Reply Stop → Type 0
 Comes Says (Ok reply) = Says (said reply)
 Comes Says (Err s) = Says (said_of s) × Says memory_said
+
+-- this is said, or that memory ran out
+abbrev pub Tells : Tried → Result Reply Stop → Type 0
+Tells says result = Comes (λ said. (said ≡ says) ⊎ (said ≡ memory_said)) result
 
 -- why it is said
 abbrev pub ComesFor : Faults → Rises → Result Reply Stop → Type 0

@@ -12,9 +12,11 @@ ghost use Rattle.dv_app.specs.Works.{Comes, ComesFor, ComesSound};
 
 use crate::inits::init;
 use crate::loads::load;
+use crate::pits::pit;
 use crate::queries::{mart, table, windows};
 use crate::replies::Reply;
 use crate::resumes::resume;
+use crate::snapshots::snapshot;
 use crate::stops::Stop;
 use crate::words::KeptCommand;
 use dv_outside::{Folder, Gate};
@@ -46,6 +48,8 @@ pub(crate) fn work<F: Folder, K: Keeper, H: KeyDigest, G: Gate>(
         KeptCommand::Mart { what, date } => mart(alloc, what, date, keeper, digest),
         KeptCommand::Table { name } => table(alloc, name, keeper, digest),
         KeptCommand::Windows => windows(alloc, keeper, digest),
+        KeptCommand::Snapshot { date } => snapshot(alloc, date, keeper, digest),
+        KeptCommand::Pit { hub, date } => pit(alloc, hub, date, keeper, digest),
     }
 }
 

@@ -1,5 +1,5 @@
 // The opening of what is kept.
-ghost use Rattle.std.specs.Prelude.{◌≡◌, ◌≤◌, ◌⊎◌, IfErr, IfOk};
+ghost use Rattle.std.specs.Prelude.{◌≡◌, ◌≤◌, ◌⊎◌, ℕ, IfErr, IfOk, List, length};
 ghost use Rattle.dv_text.specs.Causes.{Rose};
 ghost use Rattle.dv_text.specs.Keys.{hashes_of};
 ghost use Rattle.dv_text.specs.Told.{Told};
@@ -16,6 +16,11 @@ use dv_text::KeyDigest;
 use dv_window::Office;
 use std::alloc::Global;
 
+// Does nothing: a call tells a proof that all digests have one width.
+fn note_sized<H: KeyDigest>(_digest: &H)
+    ensures { (text : List ℕ) → length (H.digest_of text) ≡ H.size }
+{}
+
 /// The office over the keeper's store, which is read whole, or why there is none.
 pub(crate) fn open_office<K: Keeper, H: KeyDigest>(
     alloc: Global,
@@ -29,6 +34,7 @@ pub(crate) fn open_office<K: Keeper, H: KeyDigest>(
     ensures store { K.store keeper.new ≡ K.store keeper.old }
     ensures later { K.faults keeper.old ≤ K.faults keeper.new }
 {
+    note_sized(digest);
     let office = Office::start(alloc, keeper, digest)?;
     let _catalog = office.catalog();
     Ok(office)

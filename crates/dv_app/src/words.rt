@@ -23,6 +23,10 @@ pub(crate) enum KeptCommand<'a> {
     Table { name: &'a Text },
     /// The text of the windows.
     Windows,
+    /// A snapshot is stored, at a date.
+    Snapshot { date: &'a Text },
+    /// The text of a hub's point-in-time table in the snapshot at a date.
+    Pit { hub: &'a Text, date: &'a Text },
 }
 
 /// What the words of the command line ask for.
@@ -153,6 +157,8 @@ fn command_with_one<'a>(word: &[u8], name: &'a Text) -> Option<Command<'a>>
         Some(Command::OnKeeper(KeptCommand::Load { manifest: name }))
     } else if word == b"table".as_slice() {
         Some(Command::OnKeeper(KeptCommand::Table { name }))
+    } else if word == b"snapshot".as_slice() {
+        Some(Command::OnKeeper(KeptCommand::Snapshot { date: name }))
     } else {
         None
     }
@@ -164,6 +170,8 @@ fn command_with_two<'a>(word: &[u8], what: &'a Text, date: &'a Text) -> Option<C
 {
     if word == b"mart".as_slice() {
         Some(Command::OnKeeper(KeptCommand::Mart { what, date }))
+    } else if word == b"pit".as_slice() {
+        Some(Command::OnKeeper(KeptCommand::Pit { hub: what, date }))
     } else {
         None
     }

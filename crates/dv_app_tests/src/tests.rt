@@ -10,12 +10,16 @@ use std::test::Fail;
 mod breaks;
 mod commands;
 mod ends;
+mod hubs;
 mod large;
 mod mappings;
 mod marts;
+mod odd_snapshots;
 mod periods;
 mod phones;
 mod rules;
+mod shown_keepers;
+mod snapshots;
 mod stores;
 
 /// A trial: the words, the files of the folder, and what has to come of it.

@@ -1,5 +1,5 @@
 -- How what an office takes is a step of the run.
-use Rattle.dv_try.proofs.Vocabulary.{Bool, List, None, Option, [], ap, codes, false, refl, subst, sym, true, ℕ, ◌++◌, ◌||◌, ◌∙◌, ◌≡◌, Ok, Held, IsIn, Rule, StandsFor, State, StepsTo, Store, outcome, Mapping, GotPrefix, after, Hashes, decimal, given, Goes, HasRows, IsReady, ManifestCut}
+use Rattle.dv_try.proofs.Vocabulary.{Bool, List, None, Option, ap, codes, false, refl, subst, sym, true, ℕ, ◌++◌, ◌||◌, ◌∙◌, ◌≡◌, Ok, Held, IsIn, Rule, StandsFor, State, StepsTo, Store, outcome, Mapping, GotPrefix, after, Hashes, decimal, given, Goes, HasRows, IsReady, ManifestCut}
 use Rattle.dv_try.proofs.Vocabulary.{Takes, TakesArrival, outcome_of, taken_text, Brings, StandsForWhole, arrival_of, Arrival, Broken, Brought, Progress, arrival, is_refused, outcome_text, step, step_by, window_line, with_outcome, with_refusal, Arrived, Loading, Taken, WindowIn}
 use Rattle.dv_try.proofs.Vocabulary.{NamedFile, Outcome}
 use Rattle.dv_try.specs.Loadings.{TakesWindow}
@@ -11,22 +11,17 @@ use Rattle.dv_try.specs.Tried.{Absent}
 -- ---- a window over a keeper that tells nothing
 
 -- an office and such a keeper are in the state that the office stands for
-pub null_in : (hashes : Hashes) (state : State) (held : Held) → StandsFor hashes state held → held.stale ≡ false → state.dates ≡ [] → IsIn hashes state held None
-null_in hashes state held stands fresh no_dates = record {
+pub null_in : (hashes : Hashes) (state : State) (held : Held) → StandsFor hashes state held → held.stale ≡ false → IsIn hashes state held None
+null_in hashes state held stands fresh = record {
   stands = λ same. stands;
   told = λ stale. absurd (no (sym fresh ∙ stale));
-  no_dates = no_dates;
   store_stands = λ store e. cc;
 }
   where
     no : false ≡ true → ⊥
     no e = cc
 
--- all states that it stands for have the same snapshots
-pub same_dates : (hashes : Hashes) (state other : State) (held : Held) → StandsFor hashes state held → StandsFor hashes other held → state.dates ≡ [] → other.dates ≡ []
-same_dates hashes state other held stands also none = sym also.dates_are ∙ stands.dates_are ∙ none
-
-module _ (hashes : Hashes) (state : State) (given : WindowIn) (mapping : Mapping) (no_dates : state.dates ≡ []) (after : Option Store) (loading : Loading) (fresh : loading.office.stale ≡ false) where
+module _ (hashes : Hashes) (state : State) (given : WindowIn) (mapping : Mapping) (after : Option Store) (loading : Loading) (fresh : loading.office.stale ≡ false) where
   -- what came of a window
   pub came_loaded : (rows : ℕ) → StepsTo mapping hashes state given (answers.Loaded rows) loading.office after → TakesWindow mapping hashes given state loading.office (taken.Loaded rows)
   came_loaded rows (state', (is_load, same, rows_are), left) =
@@ -40,13 +35,13 @@ module _ (hashes : Hashes) (state : State) (given : WindowIn) (mapping : Mapping
 
   -- another one can be given
   pub ready_loaded : (rows : ℕ) → StepsTo mapping hashes state given (answers.Loaded rows) loading.office after → IsReady hashes loading
-  ready_loaded rows (state', (is_load, same, rows_are), left) = record { state = state'; stands = left.stands fresh; fresh = fresh; no_dates = ap (λ (s : State). s.dates) same ∙ no_dates }
+  ready_loaded rows (state', (is_load, same, rows_are), left) = record { state = state'; stands = left.stands fresh; fresh = fresh }
 
   pub ready_repeated : StepsTo mapping hashes state given answers.Repeated loading.office after → IsReady hashes loading
-  ready_repeated (state', (is_repeated, same), left) = record { state = state'; stands = left.stands fresh; fresh = fresh; no_dates = ap (λ (s : State). s.dates) same ∙ no_dates }
+  ready_repeated (state', (is_repeated, same), left) = record { state = state'; stands = left.stands fresh; fresh = fresh }
 
   pub ready_refused : (rule : Rule) → StepsTo mapping hashes state given (answers.Refused rule) loading.office after → IsReady hashes loading
-  ready_refused rule (state', (is_refused, same), left) = record { state = state'; stands = left.stands fresh; fresh = fresh; no_dates = ap (λ (s : State). s.dates) same ∙ no_dates }
+  ready_refused rule (state', (is_refused, same), left) = record { state = state'; stands = left.stands fresh; fresh = fresh }
 
 module _ (mapping : Mapping) (hashes : Hashes) (name : List ℕ) (p : Progress) (loading : Loading) (mapping_is : loading.office.vault.mapping ≡ mapping) (line : List ℕ) where
   -- the line of a window

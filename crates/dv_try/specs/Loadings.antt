@@ -1,5 +1,5 @@
 -- The parts of `try` between its mapping and its text: the taking of the manifests, one after another.
-use Rattle.std.specs.Prelude.{◌≡◌, ℕ, Bool, true, false, ◌||◌, List, [], ◌++◌, Option, Ok, Err, codes, take}
+use Rattle.std.specs.Prelude.{◌≡◌, ℕ, Bool, true, false, ◌||◌, List, ◌++◌, Option, Ok, Err, codes, take}
 use Rattle.std.specs.Fmt.{decimal}
 use Rattle.dv_text.specs.Keys.{Hashes}
 use Rattle.dv_catalog.specs.Entries.{Mapping}
@@ -36,12 +36,11 @@ trial_of hashes files a =
 
 -- ---- a window
 
--- a window can be given to the office: it isn't stale, and stands for some state without snapshots
+-- a window can be given to the office: it isn't stale, and stands for some state
 pub record IsReady (hashes : Hashes) (loading : Loading) : Type 0 where
   pub state : State
   pub stands : StandsFor hashes state loading.office
   pub fresh : loading.office.stale ≡ false
-  pub no_dates : state.dates ≡ []
 
 -- what the code has loaded is what the run has
 pub record IsLoaded (mapping : Mapping) (hashes : Hashes) (loading : Loading) (p : Progress) : Type 0 where

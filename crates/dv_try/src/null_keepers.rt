@@ -1,7 +1,7 @@
 // The keeper of a command whose windows nobody reads back.
 use dv_catalog::TableId;
-use dv_records::{Keeper, KeeperError, Rows};
-use dv_text::{List, Text, Window, WindowHead};
+use dv_records::{Keeper, KeeperError, Rows, SnapHead, SnapId, SnapTable};
+use dv_text::{List, Stamp, Text, Window, WindowHead};
 use std::alloc::Global;
 
 /// A keeper that keeps nothing and tells nothing: none of its calls fails.
@@ -61,5 +61,32 @@ impl Keeper for NullKeeper {
 
     fn seal(&mut self, _alloc: Global, _head: &WindowHead) -> Result<(), KeeperError> {
         Ok(())
+    }
+
+    fn snapshots(&mut self, alloc: Global) -> Result<List<SnapHead>, KeeperError> {
+        Ok(List::new(alloc))
+    }
+
+    fn put_snapshot(
+        &mut self,
+        _alloc: Global,
+        _head: &SnapHead,
+        _tables: &List<SnapTable>,
+    ) -> Result<(), KeeperError> {
+        Ok(())
+    }
+
+    fn snapshot_rows(
+        &mut self,
+        alloc: Global,
+        _date: Stamp,
+        id: SnapId,
+        _from: u64,
+        _most: u32,
+    ) -> Result<Rows, KeeperError> {
+        Ok(match id {
+            SnapId::Pit(_) => Rows::Pits(List::new(alloc)),
+            SnapId::Bridge(_) => Rows::Bridges(List::new(alloc)),
+        })
     }
 }

@@ -94,6 +94,14 @@ const WITHOUT_MAPPING: &[Case] = &[
         ..NO_MAPPING
     },
     Case {
+        words: &["snapshot", "2024-03-01T02:00:00"],
+        ..NO_MAPPING
+    },
+    Case {
+        words: &["pit", "customer", "2024-03-01T02:00:00"],
+        ..NO_MAPPING
+    },
+    Case {
         words: &["init"],
         files: &[(
             b"mapping.toml",

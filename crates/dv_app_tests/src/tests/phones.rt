@@ -1,4 +1,4 @@
-// Several rows of one key: what a window adds of them, and what the mart and the table have.
+// Several rows of one key: what a window adds of them, and what the mart and the tables have.
 use super::{Case, hold};
 use dv_outside::Status;
 use std::test::Fail;
@@ -67,6 +67,19 @@ const CASES: &[Case] = &[
         ],
         files: CHANGED,
         out: "hash_key,load_date,record_source,hash_diff,KIND,PHONE\nc4ca4238a0b923820dcc509a6f75849b,2024-03-01T02:00:00,crm.phones,c20ad4d76fe97759aa27a0c99bff6710,fax,12\nc4ca4238a0b923820dcc509a6f75849b,2024-03-01T02:00:00,crm.phones,d3d9446802a44259755d38e6d163e820,home,10\nc4ca4238a0b923820dcc509a6f75849b,2024-03-01T02:00:00,crm.phones,6512bd43d9caa6e02c990b0a82652dca,work,11\n",
+        err: "w1.toml: Loaded 5\nw2.toml: Loaded 3\n",
+        status: Status::Done,
+    },
+    Case {
+        words: &[
+            "try",
+            "pit:customer",
+            "2024-03-02T02:00:00",
+            "w1.toml",
+            "w2.toml",
+        ],
+        files: CHANGED,
+        out: "hash_key,snapshot,phones.load,phones.present\nc4ca4238a0b923820dcc509a6f75849b,2024-03-02T02:00:00,2024-03-02T02:00:00,Y\n",
         err: "w1.toml: Loaded 5\nw2.toml: Loaded 3\n",
         status: Status::Done,
     },

@@ -1,4 +1,5 @@
 use Rattle.dv_try.proofs.Vocabulary.{err_from_is_err_and, hashes_of, ◌∙◌}
+use Rattle.dv_form.proofs.Widths.{of_width}
 use Rattle.dv_app.proofs.ShutStores.{start_shut, start_sound}
 use Rattle.dv_app.proofs.openings.open_office.Goals as goal
 
@@ -21,5 +22,7 @@ returns-clause-ok g c = record {
   };
   agrees = λ s told. c.in_ok-office.ensures.agrees s (c.in_ok-office.ensures.store ∙ told);
   fresh = c.in_ok-office.ensures.fresh;
-  stands = λ s told state stands dates. c.in_ok-office.ensures.stands state s told dates stands;
+  width_is = c.in_ok-office.ensures.width;
+  sized = (of_width g.H.KeyDigest.digest_of g.H.KeyDigest.size c.note_sized.ensures).hash;
+  stands = λ s told state stands. c.in_ok-office.ensures.stands state s told stands;
 }

@@ -2,7 +2,8 @@ use Rattle.dv_try.proofs.Vocabulary.{ap, err_from_is_err_and, subst, sym, ◌∙
 use Rattle.std.specs.List.{Contains}
 use Rattle.std.specs.Prelude.{option_map}
 use Rattle.dv_catalog.specs.Tables.{tables}
-use Rattle.dv_mart.specs.MartTexts.{HasKind, rows_behind, table_text}
+use Rattle.dv_mart.specs.MartTexts.{HasKind, rows_behind}
+use Rattle.dv_texts.specs.TableTexts.{table_text}
 use Rattle.dv_mart.specs.Whats.{table_named}
 use Rattle.dv_records.specs.Stores.{rows_in}
 use Rattle.dv_text.specs.Causes.{Rose}

@@ -1,7 +1,7 @@
 use Rattle.dv_try.proofs.Vocabulary.{ap, err_from_is_err_and, ◌∙◌}
 use Rattle.std.specs.Prelude.{option_map, option_to_list}
 use Rattle.dv_text.specs.Causes.{Rose}
-use Rattle.dv_mart.specs.Texts.{windows_text}
+use Rattle.dv_texts.specs.Texts.{windows_text}
 use Rattle.dv_app.proofs.TextComes.{windows_memory, windows_texted}
 use Rattle.dv_app.proofs.queries.windows_of.Goals as goal
 

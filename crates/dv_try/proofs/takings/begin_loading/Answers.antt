@@ -6,7 +6,6 @@ returns-clause-ready c hashes = record {
   state = beginning;
   stands = c.in_ok-office.ensures.stands hashes;
   fresh = c.in_ok-office.ensures.fresh;
-  no_dates = refl;
 }
 
 pub returns-clause-loaded : goal.returns-clause-loaded
