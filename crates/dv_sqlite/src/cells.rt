@@ -48,7 +48,8 @@ pub(crate) fn value_at<T: Encoded>(alloc: Global, row: &Row, at: usize) -> Resul
     value_of(alloc, blob_at(row, at)?)
 }
 
-fn is_null(row: &Row, at: usize) -> Result<bool, Refusal> {
+/// Whether there is no value.
+pub(crate) fn is_null(row: &Row, at: usize) -> Result<bool, Refusal> {
     match row.get_ref(at)? {
         ValueRef::Null => Ok(true),
         _ => Ok(false),

@@ -9,22 +9,23 @@ pub(crate) enum Content {
     Blob,
 }
 
-/// A column that each row has.
+/// A column's name, and what it holds.
 #[derive(Clone, Copy)]
-pub(crate) struct FixedColumn {
+pub(crate) struct NamedColumn {
     pub(crate) name: &'static str,
     pub(crate) content: Content,
 }
 
-/// Columns for the items of a list, numbered from 1. Those behind its last item are NULL.
+/// The columns that each item of a list takes, and how many items there may be. Behind the names
+/// stands the item's number, from 1. What is behind the last item is NULL.
 #[derive(Clone, Copy)]
 pub(crate) struct ListColumns {
-    pub(crate) prefix: &'static str,
-    pub(crate) content: Content,
+    pub(crate) columns: &'static [NamedColumn],
     pub(crate) most: usize,
 }
 
-/// How many columns the two lists of a row take: the values that tell rows of one parent apart, and the others.
+/// For how many items of its two lists a row has columns. Where rows have one list, it is the
+/// second.
 #[derive(Clone, Copy)]
 pub(crate) struct Widths {
     pub(crate) subs: usize,
@@ -32,10 +33,10 @@ pub(crate) struct Widths {
 }
 
 impl Widths {
-    /// No columns.
+    /// No items.
     pub(crate) const NONE: Widths = Widths { subs: 0, items: 0 };
 
-    /// As many columns as the wider of the two has, of each list.
+    /// As many items as the wider of the two has, of each list.
     pub(crate) fn widest(self, other: Widths) -> Widths {
         Widths {
             subs: self.subs.max(other.subs),
@@ -55,7 +56,7 @@ pub(crate) struct Column {
 fn push_fixed(
     alloc: Global,
     columns: &mut Vec<Column>,
-    fixed: &[FixedColumn],
+    fixed: &[NamedColumn],
 ) -> Result<(), Refusal> {
     for column in fixed {
         let name = format!(in alloc; "{}", column.name)?;
@@ -68,6 +69,24 @@ fn push_fixed(
     Ok(())
 }
 
+// The columns of the item with a number.
+fn push_item(
+    alloc: Global,
+    columns: &mut Vec<Column>,
+    list: ListColumns,
+    number: usize,
+) -> Result<(), Refusal> {
+    for column in list.columns {
+        let name = format!(in alloc; "{}{}", column.name, number)?;
+        columns.push(Column {
+            name,
+            content: column.content,
+            may_be_null: true,
+        })?;
+    }
+    Ok(())
+}
+
 fn push_list(
     alloc: Global,
     columns: &mut Vec<Column>,
@@ -75,45 +94,24 @@ fn push_list(
     count: usize,
 ) -> Result<(), Refusal> {
     for n in 0..count {
-        let name = format!(in alloc; "{}{}", list.prefix, n.saturating_add(1))?;
-        columns.push(Column {
-            name,
-            content: list.content,
-            may_be_null: true,
-        })?;
+        push_item(alloc, columns, list, n.saturating_add(1))?;
     }
     Ok(())
 }
 
-// The columns of each raw table.
-const RAW: [FixedColumn; 3] = [
-    FixedColumn {
-        name: "hash_key",
-        content: Content::Blob,
-    },
-    FixedColumn {
-        name: "load_date",
-        content: Content::Text,
-    },
-    FixedColumn {
-        name: "record_source",
-        content: Content::Text,
-    },
-];
-
-/// The table in which all rows of a kind stand. `kind` is its name in the directory. Beside the columns of each raw
-/// table it has some of its own, and those of two lists.
+/// The table in which all rows of a kind stand. `kind` is its name in the directory. It has columns
+/// that each row has, and those of two lists.
 #[derive(Clone, Copy)]
 pub(crate) struct KindTable {
     pub(crate) kind: &'static str,
     pub(crate) name: &'static str,
-    pub(crate) own: &'static [FixedColumn],
+    pub(crate) fixed: &'static [NamedColumn],
     pub(crate) subs: ListColumns,
     pub(crate) items: ListColumns,
 }
 
 impl KindTable {
-    /// All columns that the lists have.
+    /// All items that the lists can have.
     pub(crate) fn most(&self) -> Widths {
         Widths {
             subs: self.subs.most,
@@ -126,11 +124,10 @@ impl KindTable {
         widths.subs <= self.subs.most && widths.items <= self.items.most
     }
 
-    /// The columns of rows whose lists take so many.
+    /// The columns of rows whose lists have so many items.
     pub(crate) fn columns(&self, alloc: Global, widths: Widths) -> Result<Vec<Column>, Refusal> {
         let mut columns = Vec::new(alloc);
-        push_fixed(alloc, &mut columns, &RAW)?;
-        push_fixed(alloc, &mut columns, self.own)?;
+        push_fixed(alloc, &mut columns, self.fixed)?;
         push_list(alloc, &mut columns, self.subs, widths.subs)?;
         push_list(alloc, &mut columns, self.items, widths.items)?;
         Ok(columns)

@@ -4,13 +4,23 @@ use crate::dates::{Dates, date_of};
 use crate::kind_tables::EFFECTIVITIES;
 use crate::kinds::Kind;
 use crate::refusals::Refusal;
-use crate::values::{Period, RowDates, Values};
+use crate::values::{DateText, Values};
 use dv_records::EffectRow;
 use sqlite::Row;
 use sqlite::types::ValueRef;
 use std::alloc::Global;
 
+/// The dates of a row, as the file has them.
+#[derive(Clone, Copy)]
+pub(crate) struct EffectDates {
+    load: DateText,
+    begin: DateText,
+    end: DateText,
+}
+
 impl Kind for EffectRow {
+    type Printed = EffectDates;
+
     fn table() -> KindTable {
         EFFECTIVITIES
     }
@@ -19,28 +29,23 @@ impl Kind for EffectRow {
         Widths::NONE
     }
 
-    fn dates(&self) -> RowDates {
-        RowDates {
+    fn printed(&self, _alloc: Global) -> Result<EffectDates, Refusal> {
+        Ok(EffectDates {
             load: self.load.print(),
-            period: Some(Period {
-                begin: self.begin.print(),
-                end: self.end.print(),
-            }),
-        }
+            begin: self.begin.print(),
+            end: self.end.print(),
+        })
     }
 
     fn give<'a>(
         &'a self,
         number: i64,
-        dates: &'a RowDates,
+        dates: &'a EffectDates,
         values: &mut Values<'a>,
     ) -> Result<(), Refusal> {
-        values.begin(number, &self.parent, dates, &self.source)?;
-        if let Some(period) = &dates.period {
-            values.push(ValueRef::Text(&period.begin))?;
-            values.push(ValueRef::Text(&period.end))?;
-        }
-        Ok(())
+        values.begin(number, &self.parent, &dates.load, &self.source)?;
+        values.push(ValueRef::Text(&dates.begin))?;
+        values.push(ValueRef::Text(&dates.end))
     }
 
     fn read(

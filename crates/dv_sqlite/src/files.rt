@@ -1,9 +1,9 @@
 use crate::refusals::Refusal;
 use crate::tables::prepare;
-use crate::{kinds, singles, windows};
+use crate::{kinds, singles, snapshots, windows};
 use dv_catalog::TableId;
-use dv_records::Rows;
-use dv_text::{List, Text, Window, WindowHead};
+use dv_records::{Rows, SnapHead, SnapId, SnapTable};
+use dv_text::{List, Stamp, Text, Window, WindowHead};
 use sqlite::{Alter, Connection, File, FileStore};
 use std::alloc::Global;
 
@@ -21,7 +21,7 @@ fn open(rt: &HostRuntime, path: &[u8]) -> Result<Connection<FileStore<File>>, Re
         return Err(Refusal::Fault);
     };
     let mut conn = Connection::open(rt, path)?;
-    prepare(&mut conn)?;
+    prepare(rt.alloc(), &mut conn)?;
     Ok(conn)
 }
 
@@ -161,6 +161,46 @@ impl VaultFile {
         self.connect()?;
         match &mut self.conn {
             Some(conn) => windows::seal(alloc, conn, head),
+            None => Err(Refusal::Fault),
+        }
+    }
+
+    /// The heads of the stored snapshots, by date.
+    pub(crate) fn snapshots(&mut self, alloc: Global) -> Result<List<SnapHead>, Refusal> {
+        self.connect()?;
+        match &mut self.conn {
+            Some(conn) => snapshots::snapshots(alloc, conn),
+            None => Err(Refusal::Fault),
+        }
+    }
+
+    /// Stores a snapshot. A fault where one is stored at its date, and where a table is given twice
+    /// or has rows of another kind.
+    pub(crate) fn put_snapshot(
+        &mut self,
+        alloc: Global,
+        head: &SnapHead,
+        tables: &[SnapTable],
+    ) -> Result<(), Refusal> {
+        self.connect()?;
+        match &mut self.conn {
+            Some(conn) => snapshots::put_snapshot(alloc, conn, head, tables),
+            None => Err(Refusal::Fault),
+        }
+    }
+
+    /// The rows of a table of the snapshot at a date from a place on, so many at most.
+    pub(crate) fn snapshot_rows(
+        &mut self,
+        alloc: Global,
+        date: Stamp,
+        id: SnapId,
+        from: u64,
+        most: u32,
+    ) -> Result<Rows, Refusal> {
+        self.connect()?;
+        match &mut self.conn {
+            Some(conn) => snapshots::snapshot_rows(alloc, conn, date, id, from, most),
             None => Err(Refusal::Fault),
         }
     }

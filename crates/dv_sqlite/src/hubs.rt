@@ -4,13 +4,15 @@ use crate::dates::Dates;
 use crate::kind_tables::HUBS;
 use crate::kinds::Kind;
 use crate::refusals::Refusal;
-use crate::values::{RowDates, Values};
+use crate::values::{DateText, Values};
 use dv_records::HubRow;
 use dv_text::Key;
 use sqlite::Row;
 use std::alloc::Global;
 
 impl Kind for HubRow {
+    type Printed = DateText;
+
     fn table() -> KindTable {
         HUBS
     }
@@ -22,17 +24,17 @@ impl Kind for HubRow {
         }
     }
 
-    fn dates(&self) -> RowDates {
-        RowDates::of(self.load)
+    fn printed(&self, _alloc: Global) -> Result<DateText, Refusal> {
+        Ok(self.load.print())
     }
 
     fn give<'a>(
         &'a self,
         number: i64,
-        dates: &'a RowDates,
+        load: &'a DateText,
         values: &mut Values<'a>,
     ) -> Result<(), Refusal> {
-        values.begin(number, &self.digest, dates, &self.source)?;
+        values.begin(number, &self.digest, load, &self.source)?;
         values.push_items(self.key.parts.items())
     }
 

@@ -1,10 +1,11 @@
+ghost use Rattle.std.specs.Prelude.{◌≡◌};
 ghost use Rattle.dv_records.specs.Changes.{KeeperCause};
 
 use crate::files::VaultFile;
 use crate::refusals::Refusal;
 use dv_catalog::TableId;
-use dv_records::{Keeper, KeeperError, Rows};
-use dv_text::{List, Text, Window, WindowHead};
+use dv_records::{Keeper, KeeperError, Rows, SnapHead, SnapId, SnapTable};
+use dv_text::{List, Stamp, Text, Window, WindowHead};
 use std::alloc::Global;
 
 /// A keeper over a SQLite file. It opens the file at its first call, and makes its tables in one that has nothing. Each
@@ -19,7 +20,9 @@ pub struct SqliteKeeper {
 
 impl SqliteKeeper {
     /// A keeper over the file at a path, which has not failed. Nothing is opened.
-    pub fn new(rt: HostRuntime, path: Text) -> SqliteKeeper {
+    pub fn new(rt: HostRuntime, path: Text) -> SqliteKeeper
+        ensures unfailed { ⟦<SqliteKeeper as Keeper>⟧.faults result ≡ 0 }
+    {
         SqliteKeeper {
             file: VaultFile::new(rt, path),
             faults: 0,
@@ -95,6 +98,33 @@ impl Keeper for SqliteKeeper {
 
     fn seal(&mut self, alloc: Global, head: &WindowHead) -> Result<(), KeeperError> {
         let answer = self.file.seal(alloc, head);
+        self.settle(answer)
+    }
+
+    fn snapshots(&mut self, alloc: Global) -> Result<List<SnapHead>, KeeperError> {
+        let answer = self.file.snapshots(alloc);
+        self.settle(answer)
+    }
+
+    fn put_snapshot(
+        &mut self,
+        alloc: Global,
+        head: &SnapHead,
+        tables: &List<SnapTable>,
+    ) -> Result<(), KeeperError> {
+        let answer = self.file.put_snapshot(alloc, head, tables.items());
+        self.settle(answer)
+    }
+
+    fn snapshot_rows(
+        &mut self,
+        alloc: Global,
+        date: Stamp,
+        id: SnapId,
+        from: u64,
+        most: u32,
+    ) -> Result<Rows, KeeperError> {
+        let answer = self.file.snapshot_rows(alloc, date, id, from, most);
         self.settle(answer)
     }
 }

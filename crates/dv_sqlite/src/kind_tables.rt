@@ -1,32 +1,57 @@
-//! The tables of the file in which rows stand, one for each kind. No raw table has a name that begins like theirs.
-use crate::columns::{Content, FixedColumn, KindTable, ListColumns};
+//! The tables of the file in which rows stand, one for each kind. No view has a name that begins
+//! like theirs.
+use crate::columns::{Content, KindTable, ListColumns, NamedColumn};
 
 const NO_LIST: ListColumns = ListColumns {
-    prefix: "",
-    content: Content::Text,
+    columns: &[],
     most: 0,
 };
 
-const HASH_DIFF: FixedColumn = FixedColumn {
+const HASH_KEY: NamedColumn = NamedColumn {
+    name: "hash_key",
+    content: Content::Blob,
+};
+
+const LOAD_DATE: NamedColumn = NamedColumn {
+    name: "load_date",
+    content: Content::Text,
+};
+
+const RECORD_SOURCE: NamedColumn = NamedColumn {
+    name: "record_source",
+    content: Content::Text,
+};
+
+const HASH_DIFF: NamedColumn = NamedColumn {
     name: "hash_diff",
     content: Content::Blob,
 };
 
 // A feed has at most so many columns that describe a parent, or that tell its rows apart.
 const ATTRIBUTES: ListColumns = ListColumns {
-    prefix: "attribute_",
-    content: Content::Text,
+    columns: &[NamedColumn {
+        name: "attribute_",
+        content: Content::Text,
+    }],
     most: 32,
+};
+
+// The hash key of a hub, in the rows of links and bridges.
+const HUB: NamedColumn = NamedColumn {
+    name: "hub_",
+    content: Content::Blob,
 };
 
 pub(crate) const HUBS: KindTable = KindTable {
     kind: "hub",
     name: "rows_of_hubs",
-    own: &[],
+    fixed: &[HASH_KEY, LOAD_DATE, RECORD_SOURCE],
     subs: NO_LIST,
     items: ListColumns {
-        prefix: "part_",
-        content: Content::Text,
+        columns: &[NamedColumn {
+            name: "part_",
+            content: Content::Text,
+        }],
         most: 4,
     },
 };
@@ -34,11 +59,10 @@ pub(crate) const HUBS: KindTable = KindTable {
 pub(crate) const LINKS: KindTable = KindTable {
     kind: "link",
     name: "rows_of_links",
-    own: &[],
+    fixed: &[HASH_KEY, LOAD_DATE, RECORD_SOURCE],
     subs: NO_LIST,
     items: ListColumns {
-        prefix: "hub_",
-        content: Content::Blob,
+        columns: &[HUB],
         most: 4,
     },
 };
@@ -46,7 +70,7 @@ pub(crate) const LINKS: KindTable = KindTable {
 pub(crate) const SATELLITES: KindTable = KindTable {
     kind: "satellite",
     name: "rows_of_satellites",
-    own: &[HASH_DIFF],
+    fixed: &[HASH_KEY, LOAD_DATE, RECORD_SOURCE, HASH_DIFF],
     subs: NO_LIST,
     items: ATTRIBUTES,
 };
@@ -54,10 +78,12 @@ pub(crate) const SATELLITES: KindTable = KindTable {
 pub(crate) const MULTI_ACTIVES: KindTable = KindTable {
     kind: "multi_active",
     name: "rows_of_multi_actives",
-    own: &[HASH_DIFF],
+    fixed: &[HASH_KEY, LOAD_DATE, RECORD_SOURCE, HASH_DIFF],
     subs: ListColumns {
-        prefix: "sub_",
-        content: Content::Text,
+        columns: &[NamedColumn {
+            name: "sub_",
+            content: Content::Text,
+        }],
         most: 32,
     },
     items: ATTRIBUTES,
@@ -66,10 +92,15 @@ pub(crate) const MULTI_ACTIVES: KindTable = KindTable {
 pub(crate) const STATUSES: KindTable = KindTable {
     kind: "status",
     name: "rows_of_statuses",
-    own: &[FixedColumn {
-        name: "status",
-        content: Content::Text,
-    }],
+    fixed: &[
+        HASH_KEY,
+        LOAD_DATE,
+        RECORD_SOURCE,
+        NamedColumn {
+            name: "status",
+            content: Content::Text,
+        },
+    ],
     subs: NO_LIST,
     items: NO_LIST,
 };
@@ -77,12 +108,15 @@ pub(crate) const STATUSES: KindTable = KindTable {
 pub(crate) const EFFECTIVITIES: KindTable = KindTable {
     kind: "effectivity",
     name: "rows_of_effectivities",
-    own: &[
-        FixedColumn {
+    fixed: &[
+        HASH_KEY,
+        LOAD_DATE,
+        RECORD_SOURCE,
+        NamedColumn {
             name: "begin",
             content: Content::Text,
         },
-        FixedColumn {
+        NamedColumn {
             name: "end",
             content: Content::Text,
         },
@@ -91,7 +125,47 @@ pub(crate) const EFFECTIVITIES: KindTable = KindTable {
     items: NO_LIST,
 };
 
-pub(crate) const KIND_TABLES: [KindTable; 6] = [
+/// A cell for each feed of a hub: the load date, NULL where there is none, and `Y` or `N`.
+pub(crate) const PITS: KindTable = KindTable {
+    kind: "pit",
+    name: "rows_of_pits",
+    fixed: &[HASH_KEY],
+    subs: NO_LIST,
+    items: ListColumns {
+        columns: &[
+            NamedColumn {
+                name: "load_",
+                content: Content::Text,
+            },
+            NamedColumn {
+                name: "present_",
+                content: Content::Text,
+            },
+        ],
+        most: 64,
+    },
+};
+
+/// The links of a path's feeds, and the hubs of them all.
+pub(crate) const BRIDGES: KindTable = KindTable {
+    kind: "bridge",
+    name: "rows_of_bridges",
+    fixed: &[],
+    subs: ListColumns {
+        columns: &[NamedColumn {
+            name: "link_",
+            content: Content::Blob,
+        }],
+        most: 4,
+    },
+    items: ListColumns {
+        columns: &[HUB],
+        most: 16,
+    },
+};
+
+/// The kinds of rows that raw tables have.
+pub(crate) const RAW_KINDS: [KindTable; 6] = [
     HUBS,
     LINKS,
     SATELLITES,
@@ -99,3 +173,6 @@ pub(crate) const KIND_TABLES: [KindTable; 6] = [
     STATUSES,
     EFFECTIVITIES,
 ];
+
+/// The kinds of rows that the tables of snapshots have.
+pub(crate) const SNAPSHOT_KINDS: [KindTable; 2] = [PITS, BRIDGES];

@@ -1,11 +1,11 @@
-//! Rows of any kind, put at the end of a raw table and read back.
+//! Rows of any kind, put behind those of their kind and read back.
 use crate::batches::{Batch, last_up_to, number, put};
 use crate::cells::count_at;
 use crate::columns::{KindTable, Widths};
 use crate::dates::Dates;
 use crate::refusals::Refusal;
 use crate::statements::{insert_text, last_text, select_text};
-use crate::values::{RowDates, Values};
+use crate::values::Values;
 use dv_text::List;
 use sqlite::types::ValueRef;
 use sqlite::{Alter, Connection, Row, Transaction};
@@ -16,28 +16,32 @@ const TOGETHER: usize = 64;
 
 /// A kind of rows, all of which stand in one table of the file.
 pub(crate) trait Kind: Sized + Drop {
+    /// The dates of a row, as the file has them.
+    type Printed: Drop;
+
     /// The table of the kind.
     fn table() -> KindTable;
 
-    /// How many columns the row's lists take.
+    /// How many items the row's lists have.
     fn widths(&self) -> Widths;
 
     /// The row's dates, as the file has them.
-    fn dates(&self) -> RowDates;
+    fn printed(&self, alloc: Global) -> Result<Self::Printed, Refusal>;
 
     /// Gives the values of the row, with a number and its dates.
     fn give<'a>(
         &'a self,
         number: i64,
-        dates: &'a RowDates,
+        dates: &'a Self::Printed,
         values: &mut Values<'a>,
     ) -> Result<(), Refusal>;
 
-    /// The row that was read, whose lists take so many columns. A fault where its columns are no row's.
+    /// The row that was read, with columns for so many items. A fault where its columns are no
+    /// row's.
     fn read(alloc: Global, row: &Row, widths: Widths, dates: &mut Dates) -> Result<Self, Refusal>;
 }
 
-// How many columns the lists of all rows take. A fault where there are not as many.
+// How many items the lists of all rows have. A fault where there are not as many columns.
 fn widest<T: Kind>(rows: &[T]) -> Result<Widths, Refusal> {
     let mut widths = Widths::NONE;
     for row in rows {
@@ -52,11 +56,11 @@ fn widest<T: Kind>(rows: &[T]) -> Result<Widths, Refusal> {
 // The number behind the last row of a kind.
 fn next_row<S: Alter>(
     alloc: Global,
-    conn: &mut Connection<S>,
+    tx: &mut Transaction<'_, S>,
     table: &KindTable,
 ) -> Result<u64, Refusal> {
     let last = last_text(alloc, table)?;
-    let rows = conn.query_all(last.as_str(), &[])?;
+    let rows = tx.query_all(last.as_str(), &[])?;
     match rows.as_slice().first() {
         Some(row) => Ok(count_at(row, 0)?.saturating_add(1)),
         None => Ok(1),
@@ -79,7 +83,7 @@ fn next_place<S: Alter>(
 fn give_all<'a, T: Kind>(
     first: i64,
     rows: &'a [T],
-    dates: &'a [RowDates],
+    dates: &'a [T::Printed],
     values: &mut Values<'a>,
 ) -> Result<(), Refusal> {
     let mut number = first;
@@ -90,10 +94,10 @@ fn give_all<'a, T: Kind>(
     Ok(())
 }
 
-fn dates_of<T: Kind>(alloc: Global, rows: &[T]) -> Result<Vec<RowDates>, Refusal> {
+fn dates_of<T: Kind>(alloc: Global, rows: &[T]) -> Result<Vec<T::Printed>, Refusal> {
     let mut dates = Vec::with_capacity(alloc, rows.len())?;
     for row in rows {
-        dates.push(row.dates())?;
+        dates.push(row.printed(alloc)?)?;
     }
     Ok(dates)
 }
@@ -137,6 +141,24 @@ fn put_rows<S: Alter, T: Kind>(
     Ok(())
 }
 
+/// Puts rows behind those of their kind. Answers where they are: as a batch whose places begin with
+/// this one.
+pub(crate) fn put_behind<S: Alter, T: Kind>(
+    alloc: Global,
+    tx: &mut Transaction<'_, S>,
+    first_place: u64,
+    rows: &[T],
+) -> Result<Batch, Refusal> {
+    let batch = Batch {
+        first_place,
+        first_row: next_row(alloc, tx, &T::table())?,
+        row_count: rows.len() as u64,
+        widths: widest(rows)?,
+    };
+    put_rows(alloc, tx, &batch, rows)?;
+    Ok(batch)
+}
+
 /// Puts rows at the end of a raw table, by its number in the mapping, in one transaction.
 pub(crate) fn append<S: Alter, T: Kind>(
     alloc: Global,
@@ -148,17 +170,12 @@ pub(crate) fn append<S: Alter, T: Kind>(
         return Ok(());
     }
     let table = T::table();
-    let batch = Batch {
-        first_place: next_place(conn, &table, entity)?,
-        first_row: next_row(alloc, conn, &table)?,
-        row_count: rows.len() as u64,
-        widths: widest(rows)?,
-    };
+    let first_place = next_place(conn, &table, entity)?;
     if !conn.is_autocommit() {
         return Err(Refusal::Fault);
     }
     let mut tx = conn.transaction();
-    put_rows(alloc, &mut tx, &batch, rows)?;
+    let batch = put_behind(alloc, &mut tx, first_place, rows)?;
     put(&mut tx, &table, entity, &batch)?;
     tx.commit()?;
     Ok(())
@@ -196,9 +213,20 @@ fn batch_from<S: Alter>(
 ) -> Result<Option<Batch>, Refusal> {
     let last_place = i64::try_from(place).unwrap_or(i64::MAX);
     match last_up_to(conn, table, entity, last_place)? {
-        Some(batch) if place < batch.end_place() => Ok(Some(batch.part(place, most))),
-        _ => Ok(None),
+        Some(batch) => Ok(batch.part(place, most)),
+        None => Ok(None),
     }
+}
+
+/// The rows of a batch.
+pub(crate) fn rows_of<S: Alter, T: Kind>(
+    alloc: Global,
+    conn: &mut Connection<S>,
+    batch: &Batch,
+) -> Result<List<T>, Refusal> {
+    let mut found = Vec::new(alloc);
+    read_batch(alloc, conn, batch, &mut Dates::new(), &mut found)?;
+    Ok(List::from_vec(found))
 }
 
 /// The rows of a raw table from a place on, so many at most, and fewer only at the table's end.

@@ -1,12 +1,16 @@
-//! A keeper over one SQLite file. The rows of each kind stand in one table, in the order in which they came, with the
-//! columns of the printed tables, and a directory says which of them are a raw table's. Beside them stand the sealed
-//! windows, the mapping file, the open window as one value, and a view for people over each raw table.
+//! A keeper over one SQLite file. The rows of each kind stand in one table, in the order in which
+//! they came, with the columns of the printed tables, and directories say which of them are a raw
+//! table's and which are those of a snapshot's table. Beside them stand the sealed windows, the
+//! heads of the snapshots, the mapping file, the open window as one value, and a view for people
+//! over each raw table and over the point-in-time tables of each hub.
 //!
-//! A keeper over a file tells nothing of its store, since the library's contracts tell of it only where the disk never
-//! failed. So the functions here have no clauses but for the count of faults: tests over a file say what it holds.
+//! A keeper over a file tells nothing of its store, since the library's contracts tell of it only
+//! where the disk never failed. So the functions here have no clauses but for the count of faults:
+//! tests over a file say what it holds.
 #![tactic(auto)]
 
 mod batches;
+mod bridges;
 mod cells;
 mod columns;
 mod dates;
@@ -19,11 +23,15 @@ mod kind_tables;
 mod kinds;
 mod links;
 mod multis;
+mod pit_views;
+mod pits;
 mod raw_views;
 mod refusals;
 mod sats;
 mod schemas;
 mod singles;
+mod snapshot_schemas;
+mod snapshots;
 mod statements;
 mod statuses;
 mod tables;

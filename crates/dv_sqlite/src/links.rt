@@ -4,12 +4,14 @@ use crate::dates::Dates;
 use crate::kind_tables::LINKS;
 use crate::kinds::Kind;
 use crate::refusals::Refusal;
-use crate::values::{RowDates, Values};
+use crate::values::{DateText, Values};
 use dv_records::LinkRow;
 use sqlite::Row;
 use std::alloc::Global;
 
 impl Kind for LinkRow {
+    type Printed = DateText;
+
     fn table() -> KindTable {
         LINKS
     }
@@ -21,18 +23,18 @@ impl Kind for LinkRow {
         }
     }
 
-    fn dates(&self) -> RowDates {
-        RowDates::of(self.load)
+    fn printed(&self, _alloc: Global) -> Result<DateText, Refusal> {
+        Ok(self.load.print())
     }
 
     fn give<'a>(
         &'a self,
         number: i64,
-        dates: &'a RowDates,
+        load: &'a DateText,
         values: &mut Values<'a>,
     ) -> Result<(), Refusal> {
-        values.begin(number, &self.digest, dates, &self.source)?;
-        values.push_digests(self.hubs.items())
+        values.begin(number, &self.digest, load, &self.source)?;
+        values.push_item_digests(self.hubs.items())
     }
 
     fn read(

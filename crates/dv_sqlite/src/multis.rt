@@ -4,13 +4,15 @@ use crate::dates::Dates;
 use crate::kind_tables::MULTI_ACTIVES;
 use crate::kinds::Kind;
 use crate::refusals::Refusal;
-use crate::values::{RowDates, Values};
+use crate::values::{DateText, Values};
 use dv_records::MultiRow;
 use sqlite::Row;
 use sqlite::types::ValueRef;
 use std::alloc::Global;
 
 impl Kind for MultiRow {
+    type Printed = DateText;
+
     fn table() -> KindTable {
         MULTI_ACTIVES
     }
@@ -22,17 +24,17 @@ impl Kind for MultiRow {
         }
     }
 
-    fn dates(&self) -> RowDates {
-        RowDates::of(self.load)
+    fn printed(&self, _alloc: Global) -> Result<DateText, Refusal> {
+        Ok(self.load.print())
     }
 
     fn give<'a>(
         &'a self,
         number: i64,
-        dates: &'a RowDates,
+        load: &'a DateText,
         values: &mut Values<'a>,
     ) -> Result<(), Refusal> {
-        values.begin(number, &self.parent, dates, &self.source)?;
+        values.begin(number, &self.parent, load, &self.source)?;
         values.push(ValueRef::Blob(self.diff.bytes()))?;
         values.push_subs(self.sub.items())?;
         values.push_items(self.attrs.items())

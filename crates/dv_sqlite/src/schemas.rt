@@ -1,10 +1,12 @@
-//! What stands in the file for a mapping: the tables in which rows stand, with as many columns as it needs, and a view
-//! for people over each raw table. Nothing of the program reads a view, so one that cannot be made is left out.
+//! What stands in the file for a mapping: the tables in which rows stand, with as many columns as
+//! it needs, and a view for people over each raw table. Nothing of the program reads a view, so one
+//! that cannot be made is left out. Where nobody knows the mapping, the tables have all columns
+//! that one can need, and there are no views.
 ghost use Rattle.std.specs.Prelude.{IsTrue};
 ghost use Rattle.dv_catalog.specs.TableLookups.{is_table_of};
 
-use crate::columns::Widths;
-use crate::kind_tables::KIND_TABLES;
+use crate::columns::{KindTable, Widths};
+use crate::kind_tables::RAW_KINDS;
 use crate::raw_views::view_of;
 use crate::refusals::Refusal;
 use crate::statements::create_text;
@@ -17,8 +19,8 @@ use std::alloc::Global;
 /// The texts that make the tables and the views.
 #[derive(Drop)]
 pub(crate) struct Schema {
-    tables: Vec<String>,
-    views: Vec<String>,
+    pub(crate) tables: Vec<String>,
+    pub(crate) views: Vec<String>,
 }
 
 // The views over all raw tables of a mapping.
@@ -31,7 +33,7 @@ fn views_of(alloc: Global, catalog: &Catalog) -> Result<Vec<View<'_>>, Refusal> 
     Ok(views)
 }
 
-// How many columns the lists of a kind's rows take in the widest raw table.
+// How many items the lists of a kind's rows have in the widest raw table.
 fn widest(views: &[View<'_>], kind: &str) -> Widths {
     let mut widths = Widths::NONE;
     for view in views {
@@ -44,7 +46,7 @@ fn widest(views: &[View<'_>], kind: &str) -> Widths {
 
 fn table_texts(alloc: Global, views: &[View<'_>]) -> Result<Vec<String>, Refusal> {
     let mut texts = Vec::new(alloc);
-    for table in &KIND_TABLES {
+    for table in &RAW_KINDS {
         texts.push(create_text(alloc, table, widest(views, table.kind))?)?;
     }
     Ok(texts)
@@ -58,13 +60,16 @@ fn view_texts(alloc: Global, views: &[View<'_>]) -> Result<Vec<String>, Refusal>
     Ok(texts)
 }
 
-// The tables where nobody knows how many columns are needed.
-fn widest_tables(alloc: Global) -> Result<Vec<String>, Refusal> {
-    let mut texts = Vec::new(alloc);
-    for table in &KIND_TABLES {
-        texts.push(create_text(alloc, table, table.most())?)?;
+/// The tables of kinds of rows where nobody knows the mapping.
+pub(crate) fn widest_schema(alloc: Global, kinds: &[KindTable]) -> Result<Schema, Refusal> {
+    let mut tables = Vec::new(alloc);
+    for table in kinds {
+        tables.push(create_text(alloc, table, table.most())?)?;
     }
-    Ok(texts)
+    Ok(Schema {
+        tables,
+        views: Vec::new(alloc),
+    })
 }
 
 fn schema_for(alloc: Global, catalog: &Catalog) -> Result<Schema, Refusal> {
@@ -75,16 +80,20 @@ fn schema_for(alloc: Global, catalog: &Catalog) -> Result<Schema, Refusal> {
     })
 }
 
-/// What is made for a mapping file's bytes. Where they are read as no mapping, there are no views, and the tables have
-/// all columns that a mapping can need.
-pub(crate) fn schema_of(alloc: Global, mapping: &[u8]) -> Result<Schema, Refusal> {
+/// The mapping that a mapping file's bytes are read as; none where they are read as none.
+pub(crate) fn catalog_of(alloc: Global, mapping: &[u8]) -> Result<Option<Catalog>, Refusal> {
     match read_built_catalog(alloc, mapping) {
-        Ok(catalog) => schema_for(alloc, &catalog),
+        Ok(catalog) => Ok(Some(catalog)),
         Err(MapError::Memory) => Err(Refusal::Memory),
-        Err(_) => Ok(Schema {
-            tables: widest_tables(alloc)?,
-            views: Vec::new(alloc),
-        }),
+        Err(_) => Ok(None),
+    }
+}
+
+/// What is made for the raw tables of a mapping.
+pub(crate) fn raw_schema(alloc: Global, catalog: Option<&Catalog>) -> Result<Schema, Refusal> {
+    match catalog {
+        Some(catalog) => schema_for(alloc, catalog),
+        None => widest_schema(alloc, &RAW_KINDS),
     }
 }
 

@@ -2,7 +2,8 @@
 use crate::cells::{blob_at, value_at};
 use crate::encodings::bytes_of;
 use crate::refusals::Refusal;
-use crate::schemas::{make, schema_of};
+use crate::schemas::{catalog_of, make, raw_schema};
+use crate::snapshot_schemas::snapshot_schema;
 use dv_text::{Text, Window};
 use sqlite::types::ValueRef;
 use sqlite::{Alter, Connection, Transaction};
@@ -50,13 +51,16 @@ pub(crate) fn put_mapping<S: Alter>(
     conn: &mut Connection<S>,
     text: &Text,
 ) -> Result<(), Refusal> {
-    let schema = schema_of(alloc, text.bytes())?;
+    let catalog = catalog_of(alloc, text.bytes())?;
+    let raw = raw_schema(alloc, catalog.as_ref())?;
+    let snapshots = snapshot_schema(alloc, catalog.as_ref())?;
     if !conn.is_autocommit() {
         return Err(Refusal::Fault);
     }
     let mut tx = conn.transaction();
     put(&mut tx, PUT_MAPPING, text.bytes())?;
-    make(&mut tx, &schema)?;
+    make(&mut tx, &raw)?;
+    make(&mut tx, &snapshots)?;
     tx.commit()?;
     Ok(())
 }

@@ -4,7 +4,7 @@ use crate::dates::Dates;
 use crate::kind_tables::STATUSES;
 use crate::kinds::Kind;
 use crate::refusals::Refusal;
-use crate::values::{RowDates, Values};
+use crate::values::{DateText, Values};
 use dv_records::{Code, StatusRow};
 use sqlite::Row;
 use sqlite::types::ValueRef;
@@ -28,6 +28,8 @@ fn code_of(text: &[u8]) -> Result<Code, Refusal> {
 }
 
 impl Kind for StatusRow {
+    type Printed = DateText;
+
     fn table() -> KindTable {
         STATUSES
     }
@@ -36,17 +38,17 @@ impl Kind for StatusRow {
         Widths::NONE
     }
 
-    fn dates(&self) -> RowDates {
-        RowDates::of(self.load)
+    fn printed(&self, _alloc: Global) -> Result<DateText, Refusal> {
+        Ok(self.load.print())
     }
 
     fn give<'a>(
         &'a self,
         number: i64,
-        dates: &'a RowDates,
+        load: &'a DateText,
         values: &mut Values<'a>,
     ) -> Result<(), Refusal> {
-        values.begin(number, &self.parent, dates, &self.source)?;
+        values.begin(number, &self.parent, load, &self.source)?;
         values.push(ValueRef::Text(letter(self.code)))
     }
 

@@ -1,36 +1,12 @@
 //! The values of rows that are put into the file by one statement.
 use crate::columns::Widths;
 use crate::refusals::Refusal;
-use dv_text::{Digest, Stamp, Text};
+use dv_text::{Digest, Text};
 use sqlite::types::ValueRef;
 use std::alloc::Global;
 
 /// A date as the file has it.
 pub(crate) type DateText = [u8; 19];
-
-/// When a row of an effectivity table begins and ends.
-#[derive(Clone, Copy)]
-pub(crate) struct Period {
-    pub(crate) begin: DateText,
-    pub(crate) end: DateText,
-}
-
-/// The dates of a row as the file has them. Rows of effectivity tables alone have a period.
-#[derive(Clone, Copy)]
-pub(crate) struct RowDates {
-    pub(crate) load: DateText,
-    pub(crate) period: Option<Period>,
-}
-
-impl RowDates {
-    /// The dates of a row that has a load date alone.
-    pub(crate) fn of(load: Stamp) -> RowDates {
-        RowDates {
-            load: load.print(),
-            period: None,
-        }
-    }
-}
 
 /// The values of rows, one row behind the other, each in the order of its columns.
 #[derive(Drop)]
@@ -40,7 +16,7 @@ pub(crate) struct Values<'a> {
 }
 
 impl<'a> Values<'a> {
-    /// No values yet of rows whose lists take so many columns.
+    /// No values yet of rows with columns for so many items.
     pub(crate) fn new(alloc: Global, widths: Widths) -> Values<'a> {
         Values {
             widths,
@@ -53,17 +29,17 @@ impl<'a> Values<'a> {
         self.values.as_slice()
     }
 
-    /// Begins a row by its number and the columns that all rows have.
+    /// Begins a row of a raw table by its number and the columns that all have.
     pub(crate) fn begin(
         &mut self,
         number: i64,
         digest: &'a Digest,
-        dates: &'a RowDates,
+        load: &'a DateText,
         source: &'a Text,
     ) -> Result<(), Refusal> {
         self.values.push(ValueRef::Int(number))?;
         self.values.push(ValueRef::Blob(digest.bytes()))?;
-        self.values.push(ValueRef::Text(&dates.load))?;
+        self.values.push(ValueRef::Text(load))?;
         self.values.push(ValueRef::Text(source.bytes()))?;
         Ok(())
     }
@@ -74,9 +50,9 @@ impl<'a> Values<'a> {
         Ok(())
     }
 
-    // NULL in the columns behind a list, which has so many items.
-    fn end_list(&mut self, count: usize, width: usize) -> Result<(), Refusal> {
-        for _ in count..width {
+    // NULL in the columns behind those of a list that were given.
+    fn end_list(&mut self, given: usize, columns: usize) -> Result<(), Refusal> {
+        for _ in given..columns {
             self.values.push(ValueRef::Null)?;
         }
         Ok(())
@@ -99,11 +75,25 @@ impl<'a> Values<'a> {
         self.push_texts(texts, self.widths.items)
     }
 
-    /// The digests of the second list.
-    pub(crate) fn push_digests(&mut self, digests: &'a [Digest]) -> Result<(), Refusal> {
+    fn push_digests(&mut self, digests: &'a [Digest], width: usize) -> Result<(), Refusal> {
         for digest in digests {
             self.values.push(ValueRef::Blob(digest.bytes()))?;
         }
-        self.end_list(digests.len(), self.widths.items)
+        self.end_list(digests.len(), width)
+    }
+
+    /// The digests of the first list.
+    pub(crate) fn push_sub_digests(&mut self, digests: &'a [Digest]) -> Result<(), Refusal> {
+        self.push_digests(digests, self.widths.subs)
+    }
+
+    /// The digests of the second list.
+    pub(crate) fn push_item_digests(&mut self, digests: &'a [Digest]) -> Result<(), Refusal> {
+        self.push_digests(digests, self.widths.items)
+    }
+
+    /// Behind so many items of the second list, each of which takes two columns.
+    pub(crate) fn end_pairs(&mut self, count: usize) -> Result<(), Refusal> {
+        self.end_list(count.saturating_mul(2), self.widths.items.saturating_mul(2))
     }
 }

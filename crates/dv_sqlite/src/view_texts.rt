@@ -1,12 +1,13 @@
-//! The texts of views: one for a raw table, over the table of its kind and the directory.
+//! The texts of views: one for a raw table, over the table of its kind and the directory, and what
+//! others share with it.
 use crate::columns::{Column, Content, KindTable, Widths};
 use crate::refusals::Refusal;
 use crate::view_names::{Names, push_identifier};
 use dv_text::Text;
 use std::alloc::Global;
 
-/// A raw table as a view shows it: its name, the table of its kind, its number in the mapping, how many columns its lists
-/// take, and what these are called where they have names of their own.
+/// A raw table as a view shows it: its name, the table of its kind, its number in the mapping, how
+/// many items its lists have, and what their columns are called where they have names of their own.
 #[derive(Drop)]
 pub(crate) struct View<'a> {
     pub(crate) name: Text,
@@ -57,9 +58,27 @@ fn push_columns(sql: &mut String, columns: &[Column], names: &[String]) -> Resul
     Ok(())
 }
 
-// The rows in their order. The limit, which is none, keeps SQLite from taking a join of two views apart: then it makes
-// an index over the second one's hash keys, where it would else compare each pair of rows.
-const IN_ORDER: &str = " ORDER BY b.first_place, r.number LIMIT -1";
+/// Puts behind what a view shows where that stands: in the rows `r` of a kind that the lines `b` of
+/// a directory name for a hub, link, feed or path, in the order of the directory's column and then
+/// of the rows. The limit, which is none, keeps SQLite from taking a join of two views apart: then
+/// it makes an index over the second one's hash keys, where it would else compare each pair of
+/// rows.
+pub(crate) fn push_rows(
+    sql: &mut String,
+    directory: &str,
+    order: &str,
+    table: &KindTable,
+    entity: u32,
+) -> Result<(), Refusal> {
+    let (rows, kind) = (table.name, table.kind);
+    write!(
+        sql,
+        " FROM {directory} AS b, {rows} AS r WHERE b.kind = '{kind}' AND b.entity = {entity}"
+    )?;
+    sql.push_str(" AND r.number >= b.first_row AND r.number < b.first_row + b.row_count")?;
+    write!(sql, " ORDER BY b.{order}, r.number LIMIT -1")?;
+    Ok(())
+}
 
 /// The text that makes a view.
 pub(crate) fn view_text(alloc: Global, view: &View<'_>) -> Result<String, Refusal> {
@@ -72,12 +91,6 @@ pub(crate) fn view_text(alloc: Global, view: &View<'_>) -> Result<String, Refusa
     )?;
     sql.push_str(" AS SELECT ")?;
     push_columns(&mut sql, columns.as_slice(), names.items())?;
-    let (rows, kind, entity) = (view.table.name, view.table.kind, view.entity);
-    write!(
-        sql,
-        " FROM batches AS b, {rows} AS r WHERE b.kind = '{kind}' AND b.entity = {entity}"
-    )?;
-    sql.push_str(" AND r.number >= b.first_row AND r.number < b.first_row + b.row_count")?;
-    sql.push_str(IN_ORDER)?;
+    push_rows(&mut sql, "batches", "first_place", &view.table, view.entity)?;
     Ok(sql)
 }

@@ -27,7 +27,12 @@ const TABLES: [TableId; 12] = [
 // A text that is read as no mapping.
 const NO_MAPPING: &[u8] = b"\xFF a mapping file of more than 22 bytes\n";
 
-fn put_mapping(test: &impl Abort, alloc: Global, keeper: &mut SqliteKeeper) -> Result<(), Memory> {
+/// Stores a text that is read as no mapping.
+pub(crate) fn put_mapping(
+    test: &impl Abort,
+    alloc: Global,
+    keeper: &mut SqliteKeeper,
+) -> Result<(), Memory> {
     let text = Text::of(alloc, NO_MAPPING)?;
     assert!(test; keeper.put_mapping(alloc, &text) == Ok(()));
     Ok(())

@@ -13,4 +13,6 @@ mod places;
 #[cfg(test)]
 mod same;
 #[cfg(test)]
+mod snapshots;
+#[cfg(test)]
 mod stories;

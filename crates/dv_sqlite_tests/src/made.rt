@@ -3,7 +3,10 @@ ghost use Rattle.std.specs.Prelude.{IfOk, IsTrue};
 ghost use Rattle.dv_records.specs.Stores.{is_of_kind};
 
 use dv_catalog::TableId;
-use dv_records::{Code, EffectRow, HubRow, LinkRow, MultiRow, Rows, SatRow, StatusRow};
+use dv_records::{
+    BridgeRow, Code, EffectRow, HubRow, LinkRow, MultiRow, PitCell, PitRow, Rows, SatRow, SnapId,
+    StatusRow,
+};
 use dv_text::{Digest, Key, List, Memory, NRow, Staged, Stamp, Text, Window, WindowHead};
 use std::alloc::Global;
 
@@ -17,8 +20,8 @@ fn digest(n: u8) -> Digest {
     made.unwrap_or(Digest::zero(16))
 }
 
-// A load date: every third one is the same as the one before.
-fn stamp(n: u8) -> Stamp {
+/// A date: every third one is the same as the one before.
+pub(crate) fn stamp(n: u8) -> Stamp {
     Stamp::from_number(i64::from(n / 3)).unwrap_or(Stamp::OPEN)
 }
 
@@ -107,6 +110,38 @@ fn effect_row(_alloc: Global, n: u8) -> Result<EffectRow, Memory> {
         begin: stamp(n),
         end: if n % 2 == 0 { Stamp::OPEN } else { stamp(9) },
     })
+}
+
+// A cell, which may have no load date.
+fn pit_cell(_alloc: Global, n: u8) -> Result<PitCell, Memory> {
+    Ok(PitCell {
+        load: if n % 4 == 3 { None } else { Some(stamp(n)) },
+        present: n % 2 == 0,
+    })
+}
+
+// A row with cells of the numbers from its own on: none, or up to three.
+fn pit_row(alloc: Global, n: u8) -> Result<PitRow, Memory> {
+    Ok(PitRow {
+        key: digest(n),
+        cells: each(alloc, n, n.saturating_add(n % 4), pit_cell)?,
+    })
+}
+
+// A row that may have no links, and no hubs.
+fn bridge_row(alloc: Global, n: u8) -> Result<BridgeRow, Memory> {
+    Ok(BridgeRow {
+        links: digests(alloc, n, n % 5)?,
+        hubs: digests(alloc, n.wrapping_add(100), n % 17)?,
+    })
+}
+
+/// Rows of the kind of a snapshot's table, of the numbers from one to before another.
+pub(crate) fn snapshot_rows(alloc: Global, id: SnapId, from: u8, to: u8) -> Result<Rows, Memory> {
+    match id {
+        SnapId::Pit(_) => Ok(Rows::Pits(each(alloc, from, to, pit_row)?)),
+        SnapId::Bridge(_) => Ok(Rows::Bridges(each(alloc, from, to, bridge_row)?)),
+    }
 }
 
 // The items that a function makes of the numbers from one to before another.
