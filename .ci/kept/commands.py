@@ -7,7 +7,7 @@ from kept.program import NO_MAPPING, USAGE, expect, with_limits
 from kept.readmes import added_rows, block, loaded_rows
 
 EVERY_COMMAND = (("init",), ("load", "w1.toml"), ("resume",), ("mart", "feed:customers", DATES[0]),
-                 ("table", "hub_customer"), ("windows",))
+                 ("table", "hub_customer"), ("windows",), ("snapshot", DATES[0]), ("pit", "customer", DATES[0]))
 
 
 def store_the_mapping(bench):
@@ -60,7 +60,8 @@ def commands_before_init(bench):
     vault = bench.example("orders")
     for words in EVERY_COMMAND[1:]:
         vault.says(*words, **NO_MAPPING)
-    for words in (("load", "nothing.toml"), ("mart", "nothing", "never"), ("table", "nothing")):
+    for words in (("load", "nothing.toml"), ("mart", "nothing", "never"), ("table", "nothing"), ("snapshot", "never"),
+                  ("pit", "nothing", "never")):
         vault.says(*words, **NO_MAPPING)
     vault.says("init", err="init: Stored")
 
@@ -242,7 +243,8 @@ def absent_files(bench):
     expect("all texts after files that are not there", before, orders.texts(vault))
 
 
-NO_MARTS = ("feed:customer", "period:customers", "table:hub_customer", "hub:customer", "path:sold", "customers", "")
+NO_MARTS = ("feed:customer", "period:customers", "table:hub_customer", "hub:customers", "pit:customer", "path:sold",
+            "customers", "")
 
 
 def refused_queries(bench):
@@ -266,7 +268,8 @@ USAGE_WORDS = (
     "load --workers 2 w1.toml", "load w1.toml --order=declared",
     "mart", "mart feed:customers", "mart -- feed:customers", "mart feed:customers 2024-03-01T02:00:00 w1.toml",
     "table", "table hub_customer hub_product", "try", "try feed:customers 2024-03-01T02:00:00",
-    "snapshot 2024-03-01T02:00:00", "pit customer 2024-03-01T02:00:00", "bridge sold 2024-03-01T02:00:00",
+    "snapshot", "snapshot customer 2024-03-01T02:00:00", "snapshot -- -1 2", "pit customer",
+    "pit customer 2024-03-01T02:00:00 w1.toml", "bridge sold 2024-03-01T02:00:00",
     "exercise 4", "serve 8080",
 )
 

@@ -1,0 +1,110 @@
+"""Point-in-time tables worked out from a mapping, manifests and extracts, apart from the program: in Python, with whole
+extracts in memory. Mappings here have no keys of hubs that are links' alone but in references, and plain extracts."""
+import csv
+import functools
+import hashlib
+import tomllib
+
+BLANKS = " \t\r\n"
+
+
+def as_list(value):
+    return value or []
+
+
+def windows_of(vault):
+    """The load date of each window that the vault has loaded, with its extracts by feed: a header and records."""
+    listed = vault.text("windows").decode().splitlines()[1:]
+    dates = {line.split(",")[0] for line in listed if line.split(",")[1] == "sealed"}
+    found = []
+    for path in sorted(vault.folder.glob("w*.toml")):
+        manifest = tomllib.loads(path.read_text(encoding="utf-8"))
+        if manifest["load"] in dates:
+            found.append((manifest["load"], {each["feed"]: records(vault, each["file"]) for each in manifest["extract"]}))
+    return sorted(found, key=lambda window: window[0])
+
+
+@functools.lru_cache(maxsize=64)
+def records_at(path):
+    with open(path, encoding="utf-8-sig", newline="") as file:
+        return tuple(tuple(row) for row in csv.reader(file) if row)
+
+
+def records(vault, name):
+    header, *rows = records_at(str(vault.file(name).resolve()))
+    return [dict(zip(header, row)) for row in rows]
+
+
+def mapping_of(vault):
+    return tomllib.loads(vault.file("mapping.toml").read_text(encoding="utf-8"))
+
+
+def hubs_of(vault):
+    """The names of all hubs, in declared order."""
+    return [hub["name"] for hub in mapping_of(vault)["hub"]]
+
+
+def key_of(record, columns):
+    return tuple(record[column].strip(BLANKS).upper() for column in columns)
+
+
+def hash_of(key):
+    return hashlib.md5(";".join(key).encode()).hexdigest()
+
+
+def references(mapping, feed):
+    """The hubs of a feed's references, in order."""
+    if "hub" in feed:
+        return [feed["hub"]]
+    return next(link["hubs"] for link in mapping["link"] if link["name"] == feed["link"])
+
+
+def delivered_keys(mapping, windows, hub):
+    """The keys of a hub that windows bring, of its feeds and of the references of links."""
+    for _, extracts in windows:
+        for feed in mapping["feed"]:
+            places = [at for at, name in enumerate(references(mapping, feed)) if name == hub]
+            for record in extracts.get(feed["name"], []):
+                yield from (key_of(record, feed["keys"][at]) for at in places)
+
+
+def rows_of(feed, extract):
+    """What an extract says of each key: the set of its sub columns and attributes."""
+    columns = [*as_list(feed.get("sub")), *as_list(feed.get("attrs"))]
+    said = {}
+    for record in extract:
+        values = tuple(record[column].strip(BLANKS) for column in columns)
+        said.setdefault(key_of(record, feed["keys"][0]), set()).add(values)
+    return said
+
+
+def cell(feed, windows, key):
+    """The load date of the last change of what the feed says of a key, and whether its last extract has the key."""
+    load, last, present = "", None, "N"
+    for date, extracts in windows:
+        if feed["name"] not in extracts:
+            continue
+        said = rows_of(feed, extracts[feed["name"]]).get(key)
+        present = "N" if said is None else "Y"
+        if said is not None and said != last:
+            load, last = date, said
+    return (load if as_list(feed.get("attrs")) else "", present)
+
+
+def pit_text(vault, hub, date):
+    """The text of a hub's point-in-time table at a date."""
+    mapping = mapping_of(vault)
+    windows = [window for window in windows_of(vault) if window[0] <= date]
+    feeds = [feed for feed in mapping["feed"] if feed.get("hub") == hub]
+    keys = {key for key in delivered_keys(mapping, windows, hub) if any(key)}
+    header = ["hash_key", "snapshot", *(f"{feed['name']}.{what}" for feed in feeds for what in ("load", "present"))]
+    lines = [",".join(header)]
+    for key in sorted(keys, key=hash_of):
+        cells = [value for feed in feeds for value in cell(feed, windows, key)]
+        lines.append(",".join([hash_of(key), date, *cells]))
+    return "".join(line + "\n" for line in lines).encode()
+
+
+def row_count(vault, date):
+    """How many rows a snapshot at a date has."""
+    return sum(pit_text(vault, hub, date).count(b"\n") - 1 for hub in hubs_of(vault))
