@@ -71,8 +71,9 @@ def shared_memory(pids):
 class Server:
     """A server in a folder, which is stopped at the end of a `with`."""
 
-    def __init__(self, folder):
-        self.folder, self.data = folder, folder / "data"
+    def __init__(self, folder, scripts=HERE):
+        """`scripts` is the folder of the texts in SQL that create the tables and load a window."""
+        self.folder, self.data, self.scripts = folder, folder / "data", scripts
         self.psql = ["psql", "-X", "-q", "-v", "ON_ERROR_STOP=1", "-h", str(folder), "-U", "bench"]
 
     def __enter__(self):
@@ -97,17 +98,17 @@ class Server:
         """A database with empty tables."""
         self.ask("postgres", "DROP DATABASE IF EXISTS vault")
         self.ask("postgres", "CREATE DATABASE vault")
-        subprocess.run([*self.psql, "-d", "vault", "-f", HERE / "postgres_create.sql"], capture_output=True, check=True)
+        subprocess.run([*self.psql, "-d", "vault", "-f", self.scripts / "postgres_create.sql"], capture_output=True, check=True)
 
     def load_command(self, data, manifest):
         """The command that loads a window."""
         window = tomllib.loads((data / manifest).read_text())
         names = {"load": window["load"]} | {entry["feed"]: data / entry["file"] for entry in window["extract"]}
         values = [word for name, value in names.items() for word in ("-v", f"{name}={value}")]
-        return [*self.psql, "-d", "vault", *values, "-f", str(HERE / "postgres_window.sql")]
+        return [*self.psql, "-d", "vault", *values, "-f", str(self.scripts / "postgres_window.sql")]
 
-    def mart_command(self, date):
-        return [*self.psql, "-d", "vault", "-v", f"date={date}", "-f", str(HERE / "postgres_mart.sql")]
+    def mart_command(self, date, script="postgres_mart.sql"):
+        return [*self.psql, "-d", "vault", "-v", f"date={date}", "-f", str(self.scripts / script)]
 
     def table_text(self, table):
         columns = self.ask("vault", COLUMNS.format(table=table)).decode().strip()
