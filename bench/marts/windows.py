@@ -3,7 +3,7 @@
 Usage: python3 bench/marts/windows.py FOLDER --customers N --windows W
 
 N is the number of records of `customers`. `accounts` has N/2, of which nine in ten are customers, and `phones` up to
-three records of N/2 customers. From one window to the next 5% of the keys of each feed change an attribute, 2% vanish
+three records of N/5 customers. From one window to the next 5% of the keys of each feed change an attribute, 2% vanish
 and as many are new; every third window has no extract of `accounts`. 5% of the keys are spelled in lower case and 2%
 with spaces round them, 10% of the names have a comma and 1% quotes, 3% of the cities are blank, and the records come in
 no order. Equal arguments give equal bytes.
@@ -78,7 +78,7 @@ class Sources:
         self.feeds = {
             "customers": Feed(self.pick, self.new_customer, keys),
             "accounts": Feed(self.pick, lambda: [[self.pick.choice(TIERS)]], accounts),
-            "phones": Feed(self.pick, self.new_phones, keys[::2]),
+            "phones": Feed(self.pick, self.new_phones, keys[::5]),
         }
         self.fresh = {
             "customers": self.numbered("C", customers),
