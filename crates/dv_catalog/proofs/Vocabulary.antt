@@ -2,7 +2,6 @@
 pub use Rattle.dv_text.proofs.Vocabulary.{Bool, Contains, Contains-get_or, Decides-and, List, None, Option, Some, [], and_from, and_parts, ap, append_assoc, arith, bytes_eq-Decides, codes, cond, drop_more, eqb-true, false, find, flat_map, get_or, get_or-range_with_len, join_with_byte, length}
 pub use Rattle.dv_text.proofs.Vocabulary.{length-range_with_len, list_all, list_any, map, nat_le, nat_tests, not, option_or, position_or_len, range_with_len, refl, slice_eq-Decides, slice_get, suc, sym, take, take_more, true, zero, zero-add, ℕ, ◌&&◌, ◌++◌, ◌+◌, ◌<◌, ◌==◌, ◌||◌, ◌∙◌, ◌∷◌, ◌≡◌}
 pub use Rattle.dv_text.proofs.Vocabulary.{◌≤◌}
-pub use Rattle.dv_catalog.specs.Built.{unbuilt}
 pub use Rattle.dv_catalog.specs.Checks.{all_columns, mapped_count}
 pub use Rattle.dv_catalog.specs.Entries.{Mapping}
 pub use Rattle.dv_catalog.specs.Feeds.{parent_hubs, parts_of}

@@ -1,4 +1,3 @@
-pub mod Built
 pub mod Checks
 pub mod Documents
 pub mod Entries

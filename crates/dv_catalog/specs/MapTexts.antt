@@ -1,12 +1,11 @@
 -- The printed form of a fault of the mapping: its number, its name and its fields.
 use Rattle.std.specs.Prelude.{ℕ, List, [], ◌++◌, codes}
 use Rattle.dv_catalog.specs.declared.map_error.MapError.{MapError}
-use Rattle.dv_catalog.specs.declared.map_error.MapError.TheVariants.{NotYet, Text, Shape, NameTwice, UnknownHub, UnknownLink, KeyCount, NoKey, ColumnTwice, SubWithoutAttrs, DriverNotInLink, DriverWithSub, PathBroken, TooMany, NameForm, Memory}
+use Rattle.dv_catalog.specs.declared.map_error.MapError.TheVariants.{Text, Shape, NameTwice, UnknownHub, UnknownLink, KeyCount, NoKey, ColumnTwice, SubWithoutAttrs, DriverNotInLink, DriverWithSub, PathBroken, TooMany, NameForm, Memory}
 use Rattle.dv_catalog.specs.Printed.{printed_field}
 
 -- a fault's line; want of memory has none
 abbrev pub map_error_text : MapError → List ℕ
-map_error_text (NotYet place) = codes "0 NotYet" ++ printed_field (codes "place") place
 map_error_text Text = codes "1 Text"
 map_error_text (Shape place) = codes "2 Shape" ++ printed_field (codes "place") place
 map_error_text (NameTwice name) = codes "3 NameTwice" ++ printed_field (codes "name") name

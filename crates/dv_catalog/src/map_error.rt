@@ -3,8 +3,6 @@ use dv_text::{Memory, Text};
 /// Why a mapping file is refused. A lower variant is answered before a higher one.
 #[derive(Debug, PartialEq, Eq, Drop)]
 pub enum MapError {
-    /// A form stands there that is not built yet.
-    NotYet { place: Text },
     /// The file is too long, or it is no TOML document.
     Text,
     /// A key is unknown or lacking, or its value has the wrong form.

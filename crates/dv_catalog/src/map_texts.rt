@@ -32,7 +32,6 @@ impl MapError {
         ensures { IfOk result (λ line. line ≡ map_error_text self.now) }
     {
         match self {
-            MapError::NotYet { place } => with_field(alloc, b"0 NotYet", b"place", place),
             MapError::Text => Text::of(alloc, b"1 Text"),
             MapError::Shape { place } => with_field(alloc, b"2 Shape", b"place", place),
             MapError::NameTwice { name } => with_field(alloc, b"3 NameTwice", b"name", name),

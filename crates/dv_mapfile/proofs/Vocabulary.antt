@@ -1,8 +1,7 @@
 -- What the proofs of this crate, and of those above it, take from elsewhere.
 pub use Rattle.dv_text.proofs.Vocabulary.{Bool, List, None, Option, Some, [], and_from, and_parts, ap, false, false≢true, find, flat_map, is_some, list_all, list_any, map, not, pos, refl, sym, true, ℕ, ◌++◌, ◌+◌, ◌∙◌, ◌∷◌, ◌≡◌}
-pub use Rattle.dv_catalog.proofs.Vocabulary.{Mapping, all_columns, all_pass_both, bytes_eq, drop, has_column_form, is_valid, is_within, most_parts, unbuilt}
+pub use Rattle.dv_catalog.proofs.Vocabulary.{Mapping, all_columns, all_pass_both, bytes_eq, drop, has_column_form, is_valid, is_within, most_parts}
 pub use Rattle.dv_checks.proofs.Vocabulary.{has_shape, mapping_of, option_and_then, option_map}
-pub use Rattle.dv_catalog.specs.Built.{built_if, built_mapping, unless_unbuilt}
 pub use Rattle.dv_catalog.specs.Checks.{fault_of}
 pub use Rattle.dv_catalog.specs.Documents.{document_of, keys_of, mapping_document}
 pub use Rattle.dv_catalog.specs.Forms.{column, column_or_none, count_or_none, each, list_of, optional, part_count, required, text}

@@ -1,7 +1,6 @@
 //! Mapping files and manifests: the bytes of a TOML document to what they declare.
 #![tactic(auto)]
 
-mod built;
 mod documents;
 mod entry_shapes;
 mod fields;
@@ -13,6 +12,5 @@ mod shape_faults;
 mod shapes;
 mod tops;
 
-pub use built::read_built_catalog;
 pub use manifests::{Manifest, ManifestExtract, ManifestFault};
 pub use readers::read_catalog;

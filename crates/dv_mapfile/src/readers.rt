@@ -1,7 +1,8 @@
 //! Mapping files to mappings.
 
-ghost use Rattle.std.specs.Prelude.{◌≡◌, ◌≢◌, Err, IfErr, IfOk, Ok};
+ghost use Rattle.std.specs.Prelude.{◌≡◌, ◌≢◌, Err, IfErr, IfOk, IsTrue, Ok};
 ghost use Rattle.dv_catalog.specs.MappingFiles.{read_mapping};
+ghost use Rattle.dv_catalog.specs.Mappings.{is_valid};
 
 use crate::mapping_files::read_outline;
 use dv_catalog::{Catalog, MapError};
@@ -13,6 +14,7 @@ use std::alloc::Global;
 #[tactic(auto, using(crate::proofs::ReadShapes::read_shape))]
 pub fn read_catalog(alloc: Global, bytes: &[u8]) -> Result<Catalog, MapError>
     ensures ok { IfOk result (λ catalog. read_mapping bytes.now ≡ Ok catalog) }
+    ensures valid { IfOk result (λ catalog. IsTrue (is_valid catalog)) }
     ensures err { IfErr result (λ e. e ≢ MapError.Memory → read_mapping bytes.now ≡ Err e) }
 {
     let outline = read_outline(alloc, bytes)?;

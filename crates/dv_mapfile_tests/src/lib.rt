@@ -2,7 +2,7 @@
 #![tactic(auto)]
 
 #[cfg(test)]
-mod built_tests;
+mod form_tests;
 #[cfg(test)]
 mod limit_tests;
 #[cfg(test)]

@@ -2,7 +2,9 @@
 use Rattle.dv_form.proofs.Vocabulary.{Contains, Hashes, List, Mapping, None, Ok, Option, Some, Store, TableId, TableRows, Window, [], and_parts, ap, append-nil, are_windows_valid, arith, backwards, drop, hashes_of, head_of}
 use Rattle.dv_form.proofs.Vocabulary.{is_window, length, length-append, length-map, map, map-append, map-map, map_member, most_weight, most_windows, nat_le, nat_lt, nat_tests, option_to_list, passes_at, refl, inl, inr, reverse, same_Some}
 use Rattle.dv_form.proofs.Vocabulary.{false, load_order, reverse-append, reverse_member, subst, sym, table_entry, tables, take, take-append-drop, true, vault, vault_weight, ℕ, ◌++◌, ◌+◌, ◌<◌, ◌∙◌, ◌∷◌, ◌≡◌, ◌≤◌}
-use Rattle.dv_catalog.specs.Built.{built_if, built_mapping, unless_unbuilt}
+use Rattle.dv_catalog.specs.MappingFiles.{read_mapping}
+use Rattle.dv_catalog.specs.Mappings.{is_valid}
+use Rattle.dv_mapfile.proofs.ReadMappings.{read_valid}
 use Rattle.dv_form.proofs.FewerWindows.{fewer_valid, parts_of_valid}
 use Rattle.dv_form.proofs.Splits.{item_in, last_in}
 use Rattle.dv_form.proofs.Undamaged.{undamaged_if_valid}
@@ -22,7 +24,7 @@ use Rattle.dv_vault.proofs.AddedBatches.{added_is_batch}
 use Rattle.dv_vault.proofs.AddedWindows.{full_with, last_same}
 use Rattle.dv_vault.proofs.Afterwards.{vault_reached}
 use Rattle.dv_vault.specs.Additions.{AreApart, all_added}
-use Rattle.dv_vault.specs.Vaults.{HasSealed, IsBuilt, RawVault, entries_with, last_head}
+use Rattle.dv_vault.specs.Vaults.{HasSealed, RawVault, entries_with, last_head}
 use Rattle.dv_start.proofs.LoadedRows.{rows_left}
 use Rattle.dv_start.proofs.StoredTables.{read_partial, read_vault}
 use Rattle.dv_start.proofs.VaultsApart.{vault_is_apart}
@@ -106,7 +108,7 @@ not_full weight windows light few =
     let no_most : nat_le most_windows windows ≡ false = grind (arith, nat_tests, few) in
     rw (no_more, no_most) refl
 
-module _ (mapping : Mapping) (hashes : Hashes) (store : Store) (sealed : List Window) (window : Window) (built : IsBuilt mapping) (has : HasSealed hashes sealed (sealed_of mapping store)) (valid : are_windows_valid mapping hashes (sealed ++ window ∷ []) ≡ true) where
+module _ (mapping : Mapping) (hashes : Hashes) (store : Store) (sealed : List Window) (window : Window) (valid_mapping : is_valid mapping ≡ true) (has : HasSealed hashes sealed (sealed_of mapping store)) (valid : are_windows_valid mapping hashes (sealed ++ window ∷ []) ≡ true) where
   abbrev raw : RawVault
   raw = sealed_of mapping store
 
@@ -114,7 +116,7 @@ module _ (mapping : Mapping) (hashes : Hashes) (store : Store) (sealed : List Wi
   whole = passes_at (is_window mapping) (sealed ++ window ∷ []) window (parts_of_valid mapping hashes (sealed ++ window ∷ []) valid).whole (item_in sealed window [])
 
   apart : AreApart hashes (sealed_of mapping store) window
-  apart = vault_is_apart hashes sealed raw has built.valid window (parts_of_valid mapping hashes (sealed ++ window ∷ []) valid).apart
+  apart = vault_is_apart hashes sealed raw has valid_mapping window (parts_of_valid mapping hashes (sealed ++ window ∷ []) valid).apart
 
   late : late_after (last_load sealed) window.load ≡ None
   late = not_late sealed window.load (all_earlier mapping hashes sealed window valid)
@@ -125,11 +127,11 @@ module _ (mapping : Mapping) (hashes : Hashes) (store : Store) (sealed : List Wi
   may_complete : (k : ℕ) → k ≤ length (tables mapping) → HasTables store (partial mapping hashes sealed window k) → MayBeCompleted hashes (sealed_of mapping store) (stored_entries store (tables mapping)) window
   may_complete k within stand =
       let parts = parts_of_valid mapping hashes (sealed ++ window ∷ []) valid in
-      let batches : all_added hashes raw window ≡ map (λ table. table_batch mapping hashes table (backwards sealed) window) (tables mapping) = added_is_batch hashes sealed raw has built.valid window whole late apart in
+      let batches : all_added hashes raw window ≡ map (λ table. table_batch mapping hashes table (backwards sealed) window) (tables mapping) = added_is_batch hashes sealed raw has valid_mapping window whole late apart in
       let counts = length-append sealed (window ∷ []) in
       record {
         apart = apart;
-        room = full_with hashes sealed raw has built window whole late_behind apart ∙ not_full (vault_weight mapping hashes (sealed ++ window ∷ [])) (length sealed) parts.light (omega (arith, counts, parts.few));
+        room = full_with hashes sealed raw has valid_mapping window whole late_behind apart ∙ not_full (vault_weight mapping hashes (sealed ++ window ∷ [])) (length sealed) parts.light (omega (arith, counts, parts.few));
         there = k;
         within = subst (λ n. k ≤ n) (sym (ap length has.tables_are ∙ length-map (tables mapping) (table_entry mapping hashes (backwards sealed)))) within;
         entries_are = read_partial mapping hashes store sealed window k stand
@@ -158,28 +160,23 @@ module _ (mapping : Mapping) (hashes : Hashes) (state : State) (store : Store) (
         ∙ ap (λ (raw : RawVault). heads_of_state raw.mapping hashes state) (sym is);
   }
 
-  module _ (built : IsBuilt mapping) where
-    goes_on : (begun : Option Window) → state.begun ≡ begun → MayGoOn hashes (sealed_of mapping store) (stored_entries store (tables mapping)) begun
-    goes_on None e = tt
-    goes_on (Some window) e =
-        let valid = subst (λ (begun : Option Window). are_windows_valid mapping hashes (state.sealed ++ option_to_list begun) ≡ true) e (windows_valid mapping hashes state stands.valid) in
-        let (k, within, stand) = subst (λ (begun : Option Window). TablesStand mapping hashes state.sealed begun store) e stands.tables_stand in
-        may_complete mapping hashes store state.sealed window built has_sealed valid k within stand
+  -- its mapping is valid
+  pub valid_mapping : is_valid mapping ≡ true
+  valid_mapping = read_valid stands.mapped.text mapping stands.mapped.reads
 
-    -- the open window may be completed
-    pub may_be_completed : (window : Window) → state.begun ≡ Some window → MayBeCompleted hashes (sealed_of mapping store) (stored_entries store (tables mapping)) window
-    may_be_completed window = goes_on (Some window)
+  goes_on : (begun : Option Window) → state.begun ≡ begun → MayGoOn hashes (sealed_of mapping store) (stored_entries store (tables mapping)) begun
+  goes_on None e = tt
+  goes_on (Some window) e =
+      let valid = subst (λ (begun : Option Window). are_windows_valid mapping hashes (state.sealed ++ option_to_list begun) ≡ true) e (windows_valid mapping hashes state stands.valid) in
+      let (k, within, stand) = subst (λ (begun : Option Window). TablesStand mapping hashes state.sealed begun store) e stands.tables_stand in
+      may_complete mapping hashes store state.sealed window valid_mapping has_sealed valid k within stand
 
-    pub keeps_f15 : KeepsF15 hashes mapping store
-    keeps_f15 = goes_on store.stage (sym stands.stage)
+  -- the open window may be completed
+  pub may_be_completed : (window : Window) → state.begun ≡ Some window → MayBeCompleted hashes (sealed_of mapping store) (stored_entries store (tables mapping)) window
+  may_be_completed window = goes_on (Some window)
 
-    -- the stored text is read as the mapping
-    pub read_as : IsReadAs mapping store
-    read_as = record {
-      text = stands.mapped.text;
-      stored_is = stands.mapped.stored_is;
-      reads = ap built_if stands.mapped.reads ∙ ap (λ (place : Option (List ℕ)). unless_unbuilt place mapping) built.built;
-    }
+  pub keeps_f15 : KeepsF15 hashes mapping store
+  keeps_f15 = goes_on store.stage (sym stands.stage)
 
 -- ---- no damage
 
@@ -188,22 +185,22 @@ pub same_mapping : (a b : Mapping) (store : Store) → IsReadAs a store → IsRe
 same_mapping a b store of_a of_b =
     let texts : Some of_a.text ≡ Some of_b.text = sym of_a.stored_is ∙ of_b.stored_is in
     let text : of_a.text ≡ of_b.text = same_Some of_a.text of_b.text texts in
-    let both : Ok a ≡ Ok b = sym of_a.reads ∙ ap built_mapping text ∙ of_b.reads in
+    let both : Ok a ≡ Ok b = sym of_a.reads ∙ ap read_mapping text ∙ of_b.reads in
     cc
 
 -- nor is its mapping not read
-pub never_unread : (mapping : Mapping) (hashes : Hashes) (state : State) (store : Store) → Stands mapping hashes state store → IsBuilt mapping → (damage : Damage) → IsNotRead store damage → ⊥
-never_unread mapping hashes state store stands built damage unread =
-    let here = read_as mapping hashes state store stands built in
+pub never_unread : (mapping : Mapping) (hashes : Hashes) (state : State) (store : Store) → Stands mapping hashes state store → (damage : Damage) → IsNotRead store damage → ⊥
+never_unread mapping hashes state store stands damage unread =
+    let here = stands.mapped in
     let text : here.text ≡ unread.text = same_Some here.text unread.text (sym here.stored_is ∙ unread.stored_is) in
-    unread.refused mapping (ap built_mapping (sym text) ∙ here.reads)
+    unread.refused mapping (ap read_mapping (sym text) ∙ here.reads)
 
-module _ (mapping : Mapping) (digest : List ℕ → List ℕ) (size : ℕ) (sized : (text : List ℕ) → length (digest text) ≡ size) (built : IsBuilt mapping) (state : State) (store : Store) (stands : Stands mapping (hashes_of digest size) state store) where
+module _ (mapping : Mapping) (digest : List ℕ → List ℕ) (size : ℕ) (sized : (text : List ℕ) → length (digest text) ≡ size) (state : State) (store : Store) (stands : Stands mapping (hashes_of digest size) state store) where
   -- it is in form
   pub in_form : IsInForm (hashes_of digest size) size mapping store
   in_form = record {
-    undamaged = undamaged_if_valid mapping digest size sized built.valid state store stands;
-    goes_on = keeps_f15 mapping (hashes_of digest size) state store stands built;
+    undamaged = undamaged_if_valid mapping digest size sized (valid_mapping mapping (hashes_of digest size) state store stands) state store stands;
+    goes_on = keeps_f15 mapping (hashes_of digest size) state store stands;
   }
 
   -- so none of the rules behind that of the mapping is broken
@@ -215,7 +212,7 @@ module _ (mapping : Mapping) (digest : List ℕ → List ℕ) (size : ℕ) (size
 
   -- and nothing in it is its first damage
   pub never_damaged : (damage : Damage) → IsFirstDamage (hashes_of digest size) size store damage → ⊥
-  never_damaged damage (inl unread) = never_unread mapping (hashes_of digest size) state store stands built damage unread
+  never_damaged damage (inl unread) = never_unread mapping (hashes_of digest size) state store stands damage unread
   never_damaged damage (inr (other, other_read, broken)) =
-      let same = same_mapping other mapping store other_read (read_as mapping (hashes_of digest size) state store stands built) in
+      let same = same_mapping other mapping store other_read stands.mapped in
       none_broken damage (subst (λ (read : Mapping). BreaksRule (hashes_of digest size) size read store damage) same broken)

@@ -1,21 +1,20 @@
 -- The first damage of a whole store: the first place where it breaks a rule of form.
 use Rattle.std.specs.Prelude.{◌≡◌, ◌⊎◌, ℕ, List, Some, None, Ok, codes}
 use Rattle.dv_text.specs.Keys.{Hashes}
-use Rattle.dv_catalog.specs.Built.{built_mapping}
 use Rattle.dv_catalog.specs.Entries.{Mapping}
+use Rattle.dv_catalog.specs.MappingFiles.{read_mapping}
 use Rattle.dv_catalog.specs.Tables.{tables}
 use Rattle.dv_records.specs.declared.answers.Damage.{Damage}
 use Rattle.dv_records.specs.declared.stores.Store.{Store}
+use Rattle.dv_records.specs.Standing.{IsMappedBy}
 use Rattle.dv_form.specs.Damages.{damage_at, form_damage, stored_entries}
 use Rattle.dv_start.specs.Begins.{broken_window}
 use Rattle.dv_start.specs.Completions.{MayGoOn}
 use Rattle.dv_start.specs.Sealed.{sealed_of}
 
--- the stored text is read as a mapping in which every form is built
-pub record IsReadAs (mapping : Mapping) (store : Store) : Type 0 where
-  pub text : List ℕ
-  pub stored_is : store.mapping ≡ Some text
-  pub reads : built_mapping text ≡ Ok mapping
+-- the stored text is read as the mapping
+abbrev pub IsReadAs : Mapping → Store → Type 0
+IsReadAs mapping store = IsMappedBy mapping store.mapping
 
 -- the open window of a store, if there is one, may be completed
 abbrev pub KeepsF15 : Hashes → Mapping → Store → Type 0
@@ -30,11 +29,11 @@ pub record IsInForm (hashes : Hashes) (width : ℕ) (mapping : Mapping) (store :
 abbrev pub mapping_damage : Damage
 mapping_damage = damage_at (codes "mapping") (record { row = 1; rule = 1 })
 
--- F1: a text is stored, and not read as a mapping in which every form is built
+-- F1: a text is stored, and not read as a mapping
 pub record IsNotRead (store : Store) (damage : Damage) : Type 0 where
   pub text : List ℕ
   pub stored_is : store.mapping ≡ Some text
-  pub refused : (mapping : Mapping) → built_mapping text ≡ Ok mapping → ⊥
+  pub refused : (mapping : Mapping) → read_mapping text ≡ Ok mapping → ⊥
   pub is : damage ≡ mapping_damage
 
 -- the first of the rules of the sealed windows, the open one, the raw tables and the snapshots that a store breaks

@@ -9,7 +9,7 @@ ghost use Rattle.dv_records.specs.Stores.{row_count};
 ghost use Rattle.dv_records.specs.Weights.{tables_weight};
 ghost use Rattle.dv_form.specs.StoredHeads.{head_flaw, is_stage};
 ghost use Rattle.dv_vault.specs.Additions.{Fits, IsAddition};
-ghost use Rattle.dv_vault.specs.Vaults.{IsBuilt, IsVaultOf, entry_of, last_head};
+ghost use Rattle.dv_vault.specs.Vaults.{IsVaultOf, entry_of, last_head};
 ghost use Rattle.dv_start.specs.Begins.{AreFirst, HasPlace, MayFollow, broken_window, have_no_rows};
 ghost use Rattle.dv_start.specs.Completions.{IsBegunAs, IsBegunOf, MayBeTaken, MayGoOn, rows_there};
 ghost use Rattle.dv_start.specs.Parts.{are_loaded};
@@ -142,7 +142,6 @@ fn reopened<H: KeyDigest>(
     weight: u64,
     digest: &H,
 ) -> Result<Reopened, StartFault>
-    requires built { IsBuilt catalog }
     requires heads { head_flaw catalog heads ≡ None }
     requires stage { IsTrue (is_stage catalog heads window) }
     requires ids { IsVaultOf catalog (map entry_of tables.items) }
@@ -177,7 +176,6 @@ pub(crate) fn restored<H: KeyDigest>(
     weight: u64,
     digest: &H,
 ) -> Result<Reopened, StartFault>
-    requires built { IsBuilt catalog }
     requires heads { head_flaw catalog heads ≡ None }
     requires stage { IfSome stage (λ window. IsTrue (is_stage catalog heads window)) }
     requires ids { IsVaultOf catalog (map entry_of tables.items) }

@@ -12,7 +12,6 @@ ghost use Rattle.dv_form.specs.Damages as damages;
 ghost use Rattle.dv_form.specs.Damages.{damage_at};
 ghost use Rattle.dv_form.specs.SnapshotHeads.{KeepLimits, snapshot_flaw, snapshot_heads};
 ghost use Rattle.dv_form.specs.StoredHeads as spec;
-ghost use Rattle.dv_vault.specs.Vaults.{IsBuilt};
 ghost use Rattle.dv_start.specs.Completions.{MayBeTaken};
 ghost use Rattle.dv_start.specs.Damages.{BreaksRule, IsInForm};
 ghost use Rattle.dv_start.specs.Restored.{HasKept, IsOfState};
@@ -142,14 +141,13 @@ fn all_heads(
 /// Reads the store of a keeper whose mapping is this: the sealed windows, the open one, the raw tables in table order,
 /// each in pages, and the heads of the snapshots. `Damaged` comes exactly where a row breaks a rule of form, with the first such row and its
 /// first rule; so never where the store stands for a state. `KeeperFault` comes only where the keeper's count of faults
-/// rose. The store is as before. Condition: every form in the mapping is built.
+/// rose. The store is as before.
 pub fn read_store<K: Keeper, H: KeyDigest>(
     alloc: Global,
     keeper: &mut K,
     catalog: Catalog,
     digest: &H,
 ) -> Result<Restored, StartFault>
-    requires built { IsBuilt catalog }
     ensures mapping { IfOk result (λ restored. restored.vault.mapping ≡ catalog) }
     ensures kept { IfOk result (λ restored. Told (K.store keeper.old) (HasKept restored.vault restored.begun restored.snapshots)) }
     ensures taken { IfOk result (λ restored. IfSome restored.begun (MayBeTaken restored.vault)) }

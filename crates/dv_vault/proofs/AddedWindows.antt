@@ -1,7 +1,7 @@
 -- What a vault is with what a window adds: the vault of the sealed windows and the new one.
 use Rattle.dv_vault.proofs.Vocabulary.{map-map, slice_get-map, List, None, Option, Some, [], ap, arith, length, map, refl, suc, sym, true, ℕ, ◌++◌, ◌+◌, ◌-◌, ◌∙◌, ◌∷◌, ◌≡◌, length-map, map-append, option_map, slice_get, sum_by, take}
 use Rattle.dv_vault.proofs.Vocabulary.{Hashes, is_window, head_of, last_load, row_count, rows_weight, tables_weight, vault_weight, vault, table_batch, tables, Rule, late_after, full_at, Rows, TableRows, Window, WindowHead, AreApart}
-use Rattle.dv_vault.proofs.Vocabulary.{raw_with, IsAddition, all_added, weight_with, HasSealed, IsBuilt, RawVault, entries_with, last_head, Addition, loaded, last_or}
+use Rattle.dv_vault.proofs.Vocabulary.{raw_with, is_valid, IsAddition, all_added, weight_with, HasSealed, RawVault, entries_with, last_head, Addition, loaded, last_or}
 use Rattle.dv_vault.proofs.AddedBatches.{added_is_batch}
 use Rattle.dv_vault.proofs.Afterwards.{loaded_batches, vault_reached, vault_with, weight_with_batches, windows_still_valid}
 use Rattle.dv_vault.proofs.VaultCollisions.{apart_is_free}
@@ -29,7 +29,7 @@ last_same (window ∷ windows) =
     by : (all : List Window) (n m : ℕ) → n ≡ m → slice_get (map (λ w. w.load) all) n ≡ option_map (λ head. head.load) (slice_get (map head_of all) m)
     by all n m e = got_load all n ∙ ap (λ k. option_map (λ head. head.load) (slice_get (map head_of all) k)) e
 
-module _ (hashes : Hashes) (sealed : List Window) (raw : RawVault) (has : HasSealed hashes sealed raw) (built : IsBuilt raw.mapping) (window : Window) (whole : is_window raw.mapping window ≡ true)
+module _ (hashes : Hashes) (sealed : List Window) (raw : RawVault) (has : HasSealed hashes sealed raw) (mapped : is_valid raw.mapping ≡ true) (window : Window) (whole : is_window raw.mapping window ≡ true)
     (late : late_after (last_head raw.heads) window.load ≡ None) (apart : AreApart hashes raw window) where
   abbrev batches : List Rows
   batches = map (λ table. table_batch raw.mapping hashes table (backwards sealed) window) (tables raw.mapping)
@@ -42,7 +42,7 @@ module _ (hashes : Hashes) (sealed : List Window) (raw : RawVault) (has : HasSea
   later = ap (λ last. late_after last window.load) (last_same sealed ∙ ap last_head (sym has.heads_are)) ∙ late
 
   batches_added : all_added hashes raw window ≡ batches
-  batches_added = added_is_batch hashes sealed raw has built.valid window whole later apart
+  batches_added = added_is_batch hashes sealed raw has mapped window whole later apart
 
   pub full_with : full_at (weight_with hashes raw window) (length raw.heads) ≡ fullness
   full_with =
@@ -75,7 +75,7 @@ module _ (hashes : Hashes) (sealed : List Window) (raw : RawVault) (has : HasSea
 
     pub sealed_after : full_at addition.weight (length raw.heads) ≡ None → HasSealed hashes (sealed ++ window ∷ []) (raw_with addition raw)
     sealed_after room = record {
-      valid = windows_still_valid raw.mapping hashes sealed window has.valid whole later (apart_is_free hashes sealed raw has built.valid window apart) (not_full room);
+      valid = windows_still_valid raw.mapping hashes sealed window has.valid whole later (apart_is_free hashes sealed raw has mapped window apart) (not_full room);
       tables_are = ap (λ (tables : List TableRows). entries_with tables addition.batches) has.tables_are
           ∙ ap (entries_with (vault raw.mapping hashes sealed)) batches_are
           ∙ vault_with raw.mapping hashes sealed window;

@@ -10,7 +10,7 @@ pub use Rattle.dv_records.proofs.Vocabulary.{hub_rows, hub_rows_in, is_fed_by, i
 pub use Rattle.dv_records.proofs.Vocabulary.{newest_rows, no_rows, none_behind, offered_refs, offers, offers_of, on_total, option_map_or, parents, present_parents, refs_from, refs_read, refs_total, reverse_member, row_count, row_read, rows_in, rows_then, rows_weight, sat_batch, sat_rows}
 pub use Rattle.dv_records.proofs.Vocabulary.{sat_rows_in, slice_set, some_passes, some_passes_at, source, status_batch, status_rows, status_rows_in, sum_by, sum_by-cons, table_after, table_batch, table_entry, table_eq, table_of, up_to, valid_at, valid_feed, valid_link, vault, vault_weight}
 pub use Rattle.dv_catalog.proofs.Vocabulary.{Mapping, all_pass, all_pass_both, bytes_eq, drop, effect_tables, feed_tables, found_member, is_declared, is_table_of, is_valid, map-append, map-range_with_len_more, map_member, nat_lt, nil_from_length, none_from, parent_hubs, parts_of, passes_at}
-pub use Rattle.dv_catalog.proofs.Vocabulary.{sat_tables, tables, unbuilt}
+pub use Rattle.dv_catalog.proofs.Vocabulary.{sat_tables, tables}
 pub use Rattle.dv_keys.proofs.Vocabulary.{AreHubItems, AreLinkItems, Bor, HasNoClash, Hashed, HubName, IfCollides, IfOk, IsHubItem, IsItem, IsLeastClash, Result, TellLists, are_keys_of, collision_free, deliveries_member, delta, first_offer-member, first_offer-refs, has_row_under, hashed_item}
 pub use Rattle.dv_keys.proofs.Vocabulary.{hashes_of, hub_delta, hub_hashed, hub_place, hub_row_of, hubs_by, key_named, key_with, link_delta, link_hashed, link_place, link_row, new_row, parent_eq, row_cmp, ◌||◌}
 pub use Rattle.dv_index.proofs.Vocabulary.{Contains-cons_cases, Contains-cons_here, Contains-cons_there, Contains-range, IsStrictlySortedBy-filter_map, Place, always_returns_same, ascending-sorted_by, drop_all, filter_map_member, find, find-append, if◌then◌else◌, list_all-map}
@@ -87,7 +87,7 @@ pub use Rattle.dv_digest.specs.HashedExtracts.{HasKeys}
 pub use Rattle.dv_records.specs.declared.deliveries.HashedDelivery.{HashedDelivery}
 pub use Rattle.dv_records.specs.Deltas.{AreHashed, delivered}
 pub use Rattle.std.proofs.lemmas.Simd.{map-map}
-pub use Rattle.dv_vault.specs.Vaults.{Follow, HasSealed, IsBuilt, IsVaultOf, RawVault, added_to, are_empty, are_heads_of, are_rows_kept, entries_of, entries_with, entry_of, has_table, hashed_in, hub_names, hubs_in, is_hub, is_link, is_parent, is_sat, is_status, last_head, names_of_hub}
+pub use Rattle.dv_vault.specs.Vaults.{Follow, HasSealed, IsVaultOf, RawVault, added_to, are_empty, are_heads_of, are_rows_kept, entries_of, entries_with, entry_of, has_table, hashed_in, hub_names, hubs_in, is_hub, is_link, is_parent, is_sat, is_status, last_head, names_of_hub}
 pub use Rattle.dv_vault.specs.Vaults.{names_of_hubs, names_of_rows, rows_of_hubs, spare_of, staged_of}
 pub use Rattle.dv_vault.specs.declared.additions.Addition.{Addition}
 pub use Rattle.dv_vault.specs.declared.additions.AdditionFault.{AdditionFault}

@@ -1,5 +1,5 @@
 -- The tables of a vault with their rows, and what a window adds to each, told from the rows alone.
-use Rattle.std.specs.Prelude.{◌≡◌, ℕ, ◌-◌, ◌==◌, nat_lt, Bool, true, false, List, [], ◌∷◌, Option, None, find, length, map, slice_get}
+use Rattle.std.specs.Prelude.{◌≡◌, ℕ, ◌-◌, ◌==◌, nat_lt, Bool, true, false, List, [], ◌∷◌, Option, find, length, map, slice_get}
 use Rattle.std.specs.List.{enumerate_from, flat_map, list_all, list_any, range_with_len}
 use Rattle.std.specs.Option.{option_map, option_map_or}
 use Rattle.dv_text.specs.declared.rows.Staged.{Staged}
@@ -10,10 +10,8 @@ use Rattle.dv_catalog.specs.declared.entries.Parent.{Parent}
 use Rattle.dv_catalog.specs.declared.entries.Parent.TheVariants.{Hub, Link}
 use Rattle.dv_catalog.specs.declared.tables.TableId.{TableId}
 use Rattle.dv_catalog.specs.declared.tables.TableId.TheVariants as ids
-use Rattle.dv_catalog.specs.Built.{unbuilt}
 use Rattle.dv_catalog.specs.Entries.{Mapping}
 use Rattle.dv_catalog.specs.Feeds.{source}
-use Rattle.dv_catalog.specs.Mappings.{is_valid}
 use Rattle.dv_catalog.specs.Tables.{tables}
 use Rattle.dv_records.specs.declared.raw_rows.HubRow.{HubRow}
 use Rattle.dv_records.specs.declared.stores.Rows.{Rows}
@@ -171,11 +169,6 @@ entries_of raw = map entry_of raw.tables.items
 -- entries are those of the tables of a mapping, in table order
 abbrev pub IsVaultOf : Mapping → List TableRows → Type 0
 IsVaultOf mapping entries = map (λ entry. entry.table) entries ≡ tables mapping
-
--- a mapping is valid, and every form in it is built
-pub record IsBuilt (mapping : Mapping) : Type 0 where
-  pub valid : is_valid mapping ≡ true
-  pub built : unbuilt mapping ≡ None
 
 -- what a vault has: the mapping, its raw tables with their rows, in table order, and the heads of the sealed windows, in order
 pub record RawVault : Type 0 where

@@ -1,6 +1,6 @@
-ghost use Rattle.std.specs.Prelude.{◌≡◌, ◌<◌, [], Contains, IfErr, IfNone, IfOk, IfSome, IsTrue, None, length, map, position, true};
+ghost use Rattle.std.specs.Prelude.{◌≡◌, ◌<◌, [], Contains, IfErr, IfNone, IfOk, IfSome, IsTrue, length, map, position, true};
 ghost use Rattle.dv_text.specs.Keys.{hashes_of};
-ghost use Rattle.dv_catalog.specs.Built.{unbuilt};
+ghost use Rattle.dv_catalog.specs.Mappings.{is_valid};
 ghost use Rattle.dv_catalog.specs.Tables.{tables};
 ghost use Rattle.dv_records.specs.Outcomes.{late_after};
 ghost use Rattle.dv_records.specs.ReadBack.{effect_rows_in, hub_rows_in, link_rows_in, multi_rows_in, sat_rows_in, status_rows_in};
@@ -9,7 +9,7 @@ ghost use Rattle.dv_records.specs.Stores.{is_of_kind, no_rows, rows_in, table_eq
 ghost use Rattle.dv_records.specs.Weights.{tables_weight};
 ghost use Rattle.dv_vault.specs.Additions as spec;
 ghost use Rattle.dv_vault.specs.Additions.{Fits, IsAddition};
-ghost use Rattle.dv_vault.specs.Vaults.{IsBuilt, IsVaultOf, are_heads_of, are_rows_kept, entry_of, last_head};
+ghost use Rattle.dv_vault.specs.Vaults.{IsVaultOf, are_heads_of, are_rows_kept, entry_of, last_head};
 
 use crate::additions::{Addition, AdditionFault};
 use crate::batches::{all_deltas, count_all, weight_with};
@@ -36,8 +36,7 @@ pub struct Vault {
 }
 
 impl Model for Vault {
-    ghost use Rattle.std.specs.Prelude.{◌≡◌, IsTrue, None};
-    ghost use Rattle.dv_catalog.specs.Built.{unbuilt};
+    ghost use Rattle.std.specs.Prelude.{◌≡◌, IsTrue};
     ghost use Rattle.dv_catalog.specs.Mappings.{is_valid};
     ghost use Rattle.dv_records.specs.Weights.{tables_weight};
     ghost use Rattle.dv_vault.specs.Vaults.{IsVaultOf, RawVault, are_heads_of, are_rows_kept, entries_of};
@@ -46,14 +45,13 @@ impl Model for Vault {
 
     ghost view = { λ v. record { mapping = v.catalog; tables = entries_of v.raw; heads = v.heads } };
 
-    ghost invariant = { λ v. IsVaultOf v.catalog (entries_of v.raw) × (unbuilt v.catalog ≡ None)
+    ghost invariant = { λ v. IsVaultOf v.catalog (entries_of v.raw)
         × IsTrue (are_rows_kept v.heads (entries_of v.raw)) × IsTrue (are_heads_of v.catalog v.heads) × (v.weight ≡ tables_weight (entries_of v.raw)) × IsTrue (is_valid v.catalog) };
 }
 
 impl Vault {
     /// The vault of no windows.
     pub fn empty(alloc: Global, catalog: Catalog) -> Result<Vault, Memory>
-        requires { unbuilt catalog ≡ None }
         ensures mapping { IfOk result (λ vault. vault.mapping ≡ catalog) }
         ensures tables { IfOk result (λ vault. vault.tables ≡ map (λ id. record { table = id; rows = no_rows id }) (tables catalog)) }
         ensures heads { IfOk result (λ vault. vault.heads ≡ []) }
@@ -70,14 +68,13 @@ impl Vault {
 
     /// The vault of sealed windows with these heads, whose rows stand in these tables, which weigh so much. Conditions:
     /// they are the tables of the mapping, in table order; no row is later than the last head; the feeds of the heads
-    /// are in the mapping; every form in the mapping is built. Takes no memory.
+    /// are in the mapping. Takes no memory.
     pub fn from_tables(
         catalog: Catalog,
         tables: Vec<Table>,
         heads: List<WindowHead>,
         weight: u64,
     ) -> Vault
-        requires built { unbuilt catalog ≡ None }
         requires tables { IsVaultOf catalog (map entry_of tables.items) }
         requires rows { IsTrue (are_rows_kept heads (map entry_of tables.items)) }
         requires heads { IsTrue (are_heads_of catalog heads) }
@@ -96,10 +93,10 @@ impl Vault {
         }
     }
 
-    /// The mapping, in which every form is built. Takes no memory.
+    /// The mapping. Takes no memory.
     pub fn catalog(&self) -> &Catalog
         ensures value { result.now ≡ self.now.mapping }
-        ensures built { IsBuilt self.now.mapping }
+        ensures valid { IsTrue (is_valid self.now.mapping) }
     {
         &self.catalog
     }

@@ -1,6 +1,6 @@
 -- What comes of a window in the state that an office stands for, told from what was decided of it.
 use Rattle.dv_window.proofs.Vocabulary.{Bool, List, None, Option, Some, [], ap, false, is_window, last_head, late_after, inl, inr, refl, subst, sym, true, ◌++◌, ◌∙◌, ◌∷◌, ◌≡◌, option_map_or, Decides, Decides-and, slice_eq-Decides, row_eq-Decides, row_eq, pointwise, rules, eqb-true, NRow}
-use Rattle.dv_window.proofs.Vocabulary.{Hashes, Mapping, Rule, Staged, Window, WindowIn, collision, AreApart, IsBuilt, RawVault, State, outcome, differs_from, has_same_extracts, staged_eq, open_other, window_of, loaded, not_full, full_with, rows_loaded, apart_is_free, clash_collides}
+use Rattle.dv_window.proofs.Vocabulary.{Hashes, Mapping, Rule, Staged, Window, WindowIn, collision, AreApart, is_valid, RawVault, State, outcome, differs_from, has_same_extracts, staged_eq, open_other, window_of, loaded, not_full, full_with, rows_loaded, apart_is_free, clash_collides}
 use Rattle.dv_window.proofs.Vocabulary.{Addition, Begun, Held, IsBegunAs, MayBeTaken, StandsFor, Collides, IsAgain, IsOpenAgain, IsPlan, IsTooMuch, Stop, Stops, if◌then◌else◌, ◌==◌}
 use Rattle.dv_window.proofs.Growths.{CanAdd}
 use Rattle.dv_window.proofs.OutcomeSteps.{again_says, early_refused, new_collides, new_full, new_loads, open_says}
@@ -30,7 +30,7 @@ same_window some other loads same = by (has_same_extracts some other) refl same
     by true e n = λ i. record { load = loads i; extracts = (slice_eq-Decides staged_same some.extracts other.extracts _ refl).0 e i }
     by false e n = cc
 
-module _ (hashes : Hashes) (state : State) (held : Held) (stands : StandsFor hashes state held) (built : IsBuilt held.vault.mapping) (given : WindowIn) where
+module _ (hashes : Hashes) (state : State) (held : Held) (stands : StandsFor hashes state held) (valid_mapping : is_valid held.vault.mapping ≡ true) (given : WindowIn) where
   abbrev raw : RawVault
   raw = held.vault
 
@@ -38,24 +38,24 @@ module _ (hashes : Hashes) (state : State) (held : Held) (stands : StandsFor has
   window = window_of raw.mapping given
 
   free : AreApart hashes raw window → collision raw.mapping hashes (state.sealed ++ window ∷ []) ≡ None
-  free apart = apart_is_free hashes state.sealed raw stands.sealed_are built.valid window apart
+  free apart = apart_is_free hashes state.sealed raw stands.sealed_are valid_mapping window apart
 
   -- ---- a window that is not loaded
 
   again : (differs : Option Rule) → IsAgain raw state.begun given differs → outcome raw.mapping hashes state given ≡ option_map_or (λ rule. outcomes.Refused rule) differs outcomes.Repeated
   again differs is =
-      again_says hashes state raw stands.sealed_are.heads_are given differs is (λ sealed at same. read_again hashes state.sealed raw stands.sealed_are built.valid given.load is.head sealed at same)
+      again_says hashes state raw stands.sealed_are.heads_are given differs is (λ sealed at same. read_again hashes state.sealed raw stands.sealed_are valid_mapping given.load is.head sealed at same)
 
   collides : (rule : Rule) → Collides hashes raw state.begun given rule → outcome raw.mapping hashes state given ≡ outcomes.Refused rule
   collides rule is =
       new_collides hashes state raw stands.sealed_are.heads_are given is.passes is.none_open (record { table = is.names.table; pair = is.names.pair })
-      (clash_collides hashes state.sealed raw stands.sealed_are built.valid window is.names.table is.names.pair is.names.first)
+      (clash_collides hashes state.sealed raw stands.sealed_are valid_mapping window is.names.table is.names.pair is.names.first)
       ∙ ap (λ (rule : Rule). outcomes.Refused rule) (sym is.names.rule_is)
 
   too_much : (rule : Rule) → IsTooMuch hashes raw state.begun given rule → outcome raw.mapping hashes state given ≡ outcomes.Refused rule
   too_much rule is =
       new_full hashes state raw stands.sealed_are.heads_are given is.passes is.none_open (free is.apart) rule
-      (sym (full_with hashes state.sealed raw stands.sealed_are built window (read_whole raw state.begun given built.valid is.passes.early) (not_late raw state.begun given is.passes) is.apart) ∙ is.rule_is)
+      (sym (full_with hashes state.sealed raw stands.sealed_are valid_mapping window (read_whole raw state.begun given valid_mapping is.passes.early) (not_late raw state.begun given is.passes) is.apart) ∙ is.rule_is)
 
   pub stopped : (why : Stop) → Stops hashes raw state.begun given why → StopSays raw.mapping hashes state given why
   stopped stop.Repeated is = again None is
@@ -71,7 +71,7 @@ module _ (hashes : Hashes) (state : State) (held : Held) (stands : StandsFor has
   module _ (addition : Addition) (is : IsPlan hashes raw state.begun given addition) where
     pub can_add : CanAdd hashes raw window addition
     can_add = record {
-      whole = read_whole raw state.begun given built.valid is.passes.early;
+      whole = read_whole raw state.begun given valid_mapping is.passes.early;
       late = not_late raw state.begun given is.passes;
       adds = is.adds;
       room = is.not_full;
@@ -80,10 +80,10 @@ module _ (hashes : Hashes) (state : State) (held : Held) (stands : StandsFor has
     pub loads : outcome raw.mapping hashes state given ≡ outcomes.Load
     loads =
         new_loads hashes state raw stands.sealed_are.heads_are given is.passes is.none_open (free is.adds.apart)
-        (not_full hashes state.sealed raw stands.sealed_are built window can_add.whole can_add.late is.adds.apart addition is.adds is.not_full)
+        (not_full hashes state.sealed raw stands.sealed_are valid_mapping window can_add.whole can_add.late is.adds.apart addition is.adds is.not_full)
 
     pub rows : addition.rows ≡ loaded raw.mapping hashes state.sealed window
-    rows = rows_loaded hashes state.sealed raw stands.sealed_are built window can_add.whole can_add.late is.adds.apart addition is.adds
+    rows = rows_loaded hashes state.sealed raw stands.sealed_are valid_mapping window can_add.whole can_add.late is.adds.apart addition is.adds
 
   -- ---- the open window again
 

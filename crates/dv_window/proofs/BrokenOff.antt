@@ -1,6 +1,6 @@
 -- What an office and its keeper's store are left in where an addition was taken, or broken off.
 use Rattle.dv_window.proofs.Vocabulary.{None, Option, Some, false, inl, inr, length, refl, subst, sym, ℕ, ◌≡◌, ◌≤◌, ◌⊎◌, Told, IfSome, same_Some}
-use Rattle.dv_window.proofs.Vocabulary.{Hashes, Window, IsBuilt, Stands, State, Store, opened, sealed_with, Addition, Held, IsLeftIn, StandsFor, held_broken, held_with, BrokeAt, KeeperError, TakesWindow}
+use Rattle.dv_window.proofs.Vocabulary.{Hashes, Window, Stands, State, Store, opened, sealed_with, Addition, Held, IsLeftIn, StandsFor, held_broken, held_with, is_valid, BrokeAt, KeeperError, TakesWindow}
 use Rattle.dv_window.proofs.Vocabulary.{Became, BrokeOff, IsAsFar, reached, CompletesAs, Err, IsIn, Ok, Result, TookOrBroke, true, ◌∙◌}
 use Rattle.dv_records.specs.declared.keepers.KeeperError.TheVariants.{Failed, Memory}
 use Rattle.dv_window.proofs.Growths.{CanAdd, open_stands, opened_stands_for, sealed_stands, sealed_stands_for}
@@ -9,16 +9,16 @@ use Rattle.dv_window.proofs.Growths.{CanAdd, open_stands, opened_stands_for, sea
 abbrev pub LeftState : State → Window → State → Type 0
 LeftState state window state' = (state' ≡ state) ⊎ ((state' ≡ opened window state) ⊎ (state' ≡ sealed_with window state))
 
-module _ (hashes : Hashes) (state : State) (held : Held) (stands : StandsFor hashes state held) (built : IsBuilt held.vault.mapping) (window : Window) (addition : Addition)
+module _ (hashes : Hashes) (state : State) (held : Held) (stands : StandsFor hashes state held) (valid_mapping : is_valid held.vault.mapping ≡ true) (window : Window) (addition : Addition)
     (can : CanAdd hashes held.vault window addition) (before : Option Store) (told : Told before (Stands held.vault.mapping hashes state)) where
   -- a window that was taken
   pub taken : (held' : Held) (after : Option Store) → held' ≡ held_with addition held → TakesWindow addition.window held.vault.tables addition.batches before after
       → IsLeftIn hashes (sealed_with window state) held' after
   taken held' after is takes = record {
-    stands = λ fresh. subst (StandsFor hashes (sealed_with window state)) (sym is) (sealed_stands_for hashes state held stands built window addition can);
+    stands = λ fresh. subst (StandsFor hashes (sealed_with window state)) (sym is) (sealed_stands_for hashes state held stands valid_mapping window addition can);
     store_stands = λ now e.
         let (was, at, took) = takes now e in
-        subst (λ (held : Held). Stands held.vault.mapping hashes (sealed_with window state) now) (sym is) (sealed_stands hashes state held stands built window addition can was (told was at) now took);
+        subst (λ (held : Held). Stands held.vault.mapping hashes (sealed_with window state) now) (sym is) (sealed_stands hashes state held stands valid_mapping window addition can was (told was at) now took);
   }
 
   -- the office and the store are left in one of these
@@ -30,8 +30,8 @@ module _ (hashes : Hashes) (state : State) (held : Held) (stands : StandsFor has
       → (state' : State) × LeftState state window state' × Stands held.vault.mapping hashes state' now
   store_left was now stood (inl same) = (state, inl refl, subst (Stands held.vault.mapping hashes state) (sym same) stood)
   store_left was now stood (inr (inl (k, within, is_open))) =
-      (opened window state, inr (inl refl), open_stands hashes state held stands built window addition can was stood now k within is_open)
-  store_left was now stood (inr (inr took)) = (sealed_with window state, inr (inr refl), sealed_stands hashes state held stands built window addition can was stood now took)
+      (opened window state, inr (inl refl), open_stands hashes state held stands valid_mapping window addition can was stood now k within is_open)
+  store_left was now stood (inr (inr took)) = (sealed_with window state, inr (inr refl), sealed_stands hashes state held stands valid_mapping window addition can was stood now took)
 
   -- the keeper failed: the office is stale
   failed_left : (reached : Option ℕ) (after : Option Store) → Became (BrokeOff addition.window held.vault.tables addition.batches) before after → Left (held_broken addition Failed reached held) after
@@ -58,10 +58,10 @@ module _ (hashes : Hashes) (state : State) (held : Held) (stands : StandsFor has
     opened window state,
     inr (inl refl),
     record {
-      stands = λ e. opened_stands_for hashes state held stands built window addition can k false;
+      stands = λ e. opened_stands_for hashes state held stands valid_mapping window addition can k false;
       store_stands = λ now e.
           let (was, at, is_open) = far now e in
-          open_stands hashes state held stands built window addition can was (told was at) now k within is_open;
+          open_stands hashes state held stands valid_mapping window addition can was (told was at) now k within is_open;
     },
   )
 

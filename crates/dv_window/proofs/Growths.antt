@@ -1,6 +1,6 @@
 -- An office and a store with what a window adds, whole or in part: the states that they stand for then.
 use Rattle.dv_window.proofs.Vocabulary.{Bool, List, None, Option, Some, [], and_from, and_parts, ap, drop, map-id, map-map, take-append-drop, table_entry, length, map, map-append, subst, sym, take, true, ℕ, ◌++◌, ◌∙◌, ◌∷◌, ◌≡◌, ◌≤◌, append-nil, arith}
-use Rattle.dv_window.proofs.Vocabulary.{Hashes, Mapping, Rows, TableRows, Window, WindowHead, HasSealed, IsAddition, IsBuilt, RawVault, are_windows_valid, full_at, head_of, is_window, last_head, last_load, late_after, snapshot, tables}
+use Rattle.dv_window.proofs.Vocabulary.{Hashes, Mapping, Rows, TableRows, Window, WindowHead, HasSealed, IsAddition, is_valid, RawVault, are_windows_valid, full_at, head_of, is_window, last_head, last_load, late_after, snapshot, tables}
 use Rattle.dv_window.proofs.Vocabulary.{HasTables, IsMappedBy, Stands, State, Store, are_dates_valid, is_valid_state, opened, sealed_with, Addition, Held, StandsFor, held_with, raw_with}
 use Rattle.dv_window.proofs.Vocabulary.{batch_count, partly_after, sealed_after, entries_with, reached, HasRows, IsOpen, KeepsOthers, TookWindow, has_all, same_tables}
 use Rattle.dv_records.specs.Backwards.{backwards, with_newest}
@@ -36,13 +36,13 @@ stood : (mapping : Mapping) (hashes : Hashes) (sealed : List Window) (begun : Op
 stood mapping hashes sealed None store stand = (_, stand, vault_ids mapping hashes sealed)
 stood mapping hashes sealed (Some window) store (k, within, stand) = (_, stand, partial_ids mapping hashes sealed window k)
 
-module _ (hashes : Hashes) (state : State) (held : Held) (stands : StandsFor hashes state held) (built : IsBuilt held.vault.mapping) (window : Window) (addition : Addition)
+module _ (hashes : Hashes) (state : State) (held : Held) (stands : StandsFor hashes state held) (valid_mapping : is_valid held.vault.mapping ≡ true) (window : Window) (addition : Addition)
     (can : CanAdd hashes held.vault window addition) where
   abbrev raw : RawVault
   raw = held.vault
 
   grown : HasSealed hashes (state.sealed ++ window ∷ []) (raw_with addition raw)
-  grown = sealed_after hashes state.sealed raw stands.sealed_are built window can.whole can.late can.adds.apart addition can.adds can.room
+  grown = sealed_after hashes state.sealed raw stands.sealed_are valid_mapping window can.whole can.late can.adds.apart addition can.adds can.room
 
   windows_valid : are_windows_valid raw.mapping hashes (state.sealed ++ window ∷ []) ≡ true
   windows_valid = grown.valid
@@ -109,9 +109,9 @@ module _ (hashes : Hashes) (state : State) (held : Held) (stands : StandsFor has
       stage = is_open.stage ∙ ap Some can.adds.window_is;
       tables_stand = (
         k,
-        omega (arith, within, batch_count hashes state.sealed raw stands.sealed_are built window can.whole can.late can.adds.apart addition can.adds),
+        omega (arith, within, batch_count hashes state.sealed raw stands.sealed_are valid_mapping window can.whole can.late can.adds.apart addition can.adds),
         subst (HasTables now)
-            (partly_after hashes state.sealed raw stands.sealed_are built window can.whole can.late can.adds.apart addition can.adds k)
+            (partly_after hashes state.sealed raw stands.sealed_are valid_mapping window can.whole can.late can.adds.apart addition can.adds k)
             (all_rows (take k addition.batches) now is_open.tables_are is_open.others),
       );
       snapshots = is_open.snapshots ∙ before.snapshots;

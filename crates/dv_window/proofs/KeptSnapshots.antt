@@ -15,7 +15,7 @@ use Rattle.dv_records.specs.declared.snapshots.SnapHead.{SnapHead}
 use Rattle.dv_records.specs.Steps.{snapshot_refusal, with_date}
 use Rattle.dv_records.specs.Stores.{is_new_snapshot, snap_cmp, with_snapshot}
 use Rattle.dv_start.specs.Restored.{heads_of_state}
-use Rattle.dv_window.specs.Snapshots.{IsSnapshotFor, KeepsTo, MayKeep, head_cmp}
+use Rattle.dv_window.specs.Snapshots.{IsSnapshotIn, KeepsTo, MayKeep, head_cmp}
 use Rattle.dv_window.specs.Stopping.{is_failed}
 
 -- the heads of snapshots with one more
@@ -85,7 +85,7 @@ module _ (held : Held) (snap : Snap) where
       no : true ≡ false → ⊥
       no e = cc
 
-module _ (hashes : Hashes) (state : State) (held : Held) (before : Option Store) (fresh : held.stale ≡ false) (is_in : IsIn hashes state held before) (snap : Snap) (for : IsSnapshotFor held snap) where
+module _ (hashes : Hashes) (state : State) (held : Held) (before : Option Store) (fresh : held.stale ≡ false) (is_in : IsIn hashes state held before) (snap : Snap) (of_state : IsSnapshotIn held.vault.mapping hashes state snap) where
   abbrev mapping : Mapping
   mapping = held.vault.mapping
 
@@ -93,10 +93,10 @@ module _ (hashes : Hashes) (state : State) (held : Held) (before : Option Store)
   stands = is_in.stands fresh
 
   snap_is : snap ≡ snapshot mapping hashes state.sealed snap.head.date
-  snap_is = (for hashes state stands).0
+  snap_is = of_state.0
 
   none : snapshot_refusal mapping hashes state snap.head.date ≡ None
-  none = (for hashes state stands).1
+  none = of_state.1
 
   free : IsFree mapping hashes state snap.head.date
   free = is_free mapping hashes state snap.head.date none

@@ -1,21 +1,21 @@
 -- Where the store of a stale office stands for a state, its mapping is the office's.
-use Rattle.dv_window.proofs.Vocabulary.{None, Some, inl, inr, sym, ◌∙◌, ◌≡◌, ◌⊎◌, Damage, Hashes, IsBuilt, IsNotRead, IsOtherMapping, Mapping, Stands, State, Store, refl, CompletesTo, Held, IsLeftIn, Option, StartFault, StepsTo, WindowIn, unrefreshed, unresumed, Err, Ok, Result}
+use Rattle.dv_window.proofs.Vocabulary.{None, Some, inl, inr, sym, ◌∙◌, ◌≡◌, ◌⊎◌, Damage, Hashes, IsNotRead, IsOtherMapping, Mapping, Stands, State, Store, refl, CompletesTo, Held, IsLeftIn, Option, StartFault, StepsTo, WindowIn, unrefreshed, unresumed, Err, Ok, Result}
 use Rattle.dv_records.specs.declared.answers.LoadAnswer.TheVariants as answers
 use Rattle.dv_records.specs.declared.answers.ResumeAnswer.TheVariants as resumed
 use Rattle.dv_start.specs.declared.faults.StartFault.TheVariants as faults
-use Rattle.dv_start.proofs.StandingStores.{never_unread, read_as, same_mapping}
+use Rattle.dv_start.proofs.StandingStores.{never_unread, same_mapping}
 
-module _ (mapping : Mapping) (hashes : Hashes) (state : State) (store : Store) (stands : Stands mapping hashes state store) (built : IsBuilt mapping) where
+module _ (mapping : Mapping) (hashes : Hashes) (state : State) (store : Store) (stands : Stands mapping hashes state store) where
   pub none_other : (damage : Damage) → IsOtherMapping mapping store damage → ⊥
   none_other damage (inl gone, is) = none (sym stands.mapped.stored_is ∙ gone)
     where
       none : Some stands.mapped.text ≡ None → ⊥
       none e = cc
-  none_other damage (inr (other, read, differs), is) = differs (same_mapping other mapping store read (read_as mapping hashes state store stands built))
+  none_other damage (inr (other, read, differs), is) = differs (same_mapping other mapping store read stands.mapped)
 
   pub not_damaged : (damage : Damage) → IsOtherMapping mapping store damage ⊎ IsNotRead store damage → ⊥
   not_damaged damage (inl other) = none_other damage other
-  not_damaged damage (inr unread) = never_unread mapping hashes state store stands built damage unread
+  not_damaged damage (inr unread) = never_unread mapping hashes state store stands damage unread
 
 -- ---- what a call answers where an office could not be refreshed
 

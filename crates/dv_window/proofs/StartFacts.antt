@@ -1,5 +1,5 @@
 -- The office of no windows stands for the beginning, and what is restored of a store for the store's state.
-use Rattle.dv_window.proofs.Vocabulary.{[], and_from, ap, map, refl, subst, sym, ◌∙◌, ◌≡◌, Hashes, IsBegunAs, Mapping, State, beginning, no_rows, none_sealed, none_valid, tables, Held, IsMappedBy, IsOfState, IsReadAs, StandsFor, Store, built_parts, None}
+use Rattle.dv_window.proofs.Vocabulary.{[], and_from, ap, map, refl, subst, sym, ◌∙◌, ◌≡◌, Hashes, IsBegunAs, Mapping, State, beginning, no_rows, none_sealed, none_valid, tables, Held, IsOfState, StandsFor, None}
 
 module _ (mapping : Mapping) (held : Held) (mapping_is : held.vault.mapping ≡ mapping) (tables_are : held.vault.tables ≡ map (λ id. record { table = id; rows = no_rows id }) (tables mapping))
     (no_heads : held.vault.heads ≡ []) (none_open : held.begun ≡ None) (no_snapshots : held.snapshots ≡ []) where
@@ -17,7 +17,3 @@ module _ (mapping : Mapping) (held : Held) (mapping_is : held.vault.mapping ≡ 
 -- an office of what is of a state
 pub stands_as : (hashes : Hashes) (state : State) (held : Held) → IsOfState hashes state held.vault held.begun held.snapshots → StandsFor hashes state held
 stands_as hashes state held is = record { valid = is.valid; sealed_are = is.sealed_are; begun_is = is.begun_is; snapshots_are = is.snapshots_are }
-
--- a store whose text is read as a mapping in which every form is built has that mapping
-pub mapped_by : (mapping : Mapping) (store : Store) → IsReadAs mapping store → IsMappedBy mapping store.mapping
-mapped_by mapping store is = record { text = is.text; stored_is = is.stored_is; reads = (built_parts is.text mapping is.reads).read }

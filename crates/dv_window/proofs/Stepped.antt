@@ -1,6 +1,6 @@
 -- The answer to a window, or to the completion of the open one, is a step of the machine.
-use Rattle.dv_window.proofs.Vocabulary.{None, Option, Some, ap, false, inl, inr, option_map, refl, subst, sym, ℕ, ◌∙◌, ◌≡◌, ◌⊎◌, Result, Ok, Err}
-use Rattle.dv_window.proofs.Vocabulary.{Hashes, Window, WindowIn, IsBuilt, State, Store, opened, sealed_with, loaded, outcome, window_of, rows_loaded, Addition, Begun, CompletesAs, CompletesTo, Held, IsBegunAs, IsIn, IsLeftIn, IsOpenAgain, IsPlan}
+use Rattle.dv_window.proofs.Vocabulary.{None, Option, Some, ap, false, inl, inr, option_map, refl, subst, sym, ℕ, ◌∙◌, ◌≡◌, ◌⊎◌, Result, Ok, Err, true}
+use Rattle.dv_window.proofs.Vocabulary.{Hashes, Window, WindowIn, is_valid, State, Store, opened, sealed_with, loaded, outcome, window_of, rows_loaded, Addition, Begun, CompletesAs, CompletesTo, Held, IsBegunAs, IsIn, IsLeftIn, IsOpenAgain, IsPlan}
 use Rattle.dv_window.proofs.Vocabulary.{StandsFor, StepsTo, Stop, Stops, TookOrBroke, answer_of, load_answer, resume_answer, staged, KeeperError, LoadBroke, same_Some}
 use Rattle.dv_records.specs.declared.answers.Outcome.TheVariants as outcomes
 use Rattle.dv_records.specs.declared.answers.ResumeAnswer.TheVariants.{NothingOpen}
@@ -12,7 +12,7 @@ use Rattle.dv_window.proofs.BrokenOff.{LeftState, broken, taken}
 use Rattle.dv_window.proofs.Growths.{CanAdd}
 use Rattle.dv_window.specs.declared.stops.Stop.TheVariants as stop
 
-module _ (hashes : Hashes) (state : State) (held : Held) (built : IsBuilt held.vault.mapping) (before : Option Store) (fresh : held.stale ≡ false) (is_in : IsIn hashes state held before) where
+module _ (hashes : Hashes) (state : State) (held : Held) (valid_mapping : is_valid held.vault.mapping ≡ true) (before : Option Store) (fresh : held.stale ≡ false) (is_in : IsIn hashes state held before) where
   stands : StandsFor hashes state held
   stands = is_in.stands fresh
 
@@ -26,7 +26,7 @@ module _ (hashes : Hashes) (state : State) (held : Held) (built : IsBuilt held.v
 
   module _ (given : WindowIn) (why : Stop) (stops : Stops hashes held.vault (staged held) given why) where
     said : StopSays held.vault.mapping hashes state given why
-    said = stopped hashes state held stands built given why (subst (λ begun. Stops hashes held.vault begun given why) begun_same stops)
+    said = stopped hashes state held stands valid_mapping given why (subst (λ begun. Stops hashes held.vault begun given why) begun_same stops)
 
     pub stopped_step : (after : Option Store) → after ≡ before → StepsTo held.vault.mapping hashes state given (answer_of why) held after
     stopped_step after same = by why said
@@ -49,10 +49,10 @@ module _ (hashes : Hashes) (state : State) (held : Held) (built : IsBuilt held.v
     plan_here = subst (λ begun. IsPlan hashes held.vault begun given addition) begun_same plan
 
     can : CanAdd hashes held.vault window addition
-    can = can_add hashes state held stands built given addition plan_here
+    can = can_add hashes state held stands valid_mapping given addition plan_here
 
     to_load : outcome held.vault.mapping hashes state given ≡ outcomes.Load
-    to_load = loads hashes state held stands built given addition plan_here
+    to_load = loads hashes state held stands valid_mapping given addition plan_here
 
     none_begun : held.begun ≡ None
     none_begun = none_staged held plan.none_open
@@ -64,14 +64,14 @@ module _ (hashes : Hashes) (state : State) (held : Held) (built : IsBuilt held.v
     pub new_step : (held' : Held) (after : Option Store) (result : Result ℕ KeeperError) → TookOrBroke None addition held held' before after result → StepsTo held.vault.mapping hashes state given (load_answer result) held' after
     new_step held' after (Ok count) (rows_are, is, took) = (
       sealed_with window state,
-      (to_load, refl, rows_are ∙ rows hashes state held stands built given addition plan_here),
-      taken hashes state held stands built window addition can before is_in.store_stands held' after is took,
+      (to_load, refl, rows_are ∙ rows hashes state held stands valid_mapping given addition plan_here),
+      taken hashes state held stands valid_mapping window addition can before is_in.store_stands held' after is took,
     )
     new_step held' after (Err Failed) broke =
-        let (state', left, is_left) = broken hashes state held stands built window addition can before is_in.store_stands None Failed held' after fresh broke (λ e. none_begun) in
+        let (state', left, is_left) = broken hashes state held stands valid_mapping window addition can before is_in.store_stands None Failed held' after fresh broke (λ e. none_begun) in
         (state', broke_load state' left, is_left)
     new_step held' after (Err Memory) broke =
-        let (state', left, is_left) = broken hashes state held stands built window addition can before is_in.store_stands None Memory held' after fresh broke (λ e. none_begun) in
+        let (state', left, is_left) = broken hashes state held stands valid_mapping window addition can before is_in.store_stands None Memory held' after fresh broke (λ e. none_begun) in
         (state', broke_load state' left, is_left)
 
   -- ---- the open window
@@ -92,7 +92,7 @@ module _ (hashes : Hashes) (state : State) (held : Held) (built : IsBuilt held.v
     open_rows : begun.addition.rows ≡ loaded held.vault.mapping hashes state.sealed open_window
     open_rows =
         let can = adds.2 in
-        rows_loaded hashes state.sealed held.vault stands.sealed_are built open_window can.whole can.late can.adds.apart begun.addition can.adds
+        rows_loaded hashes state.sealed held.vault stands.sealed_are valid_mapping open_window can.whole can.late can.adds.apart begun.addition can.adds
 
     -- where it was broken off, the state is as before, or has it sealed
     abbrev Resumed : Result ℕ KeeperError → State → Type 0
@@ -106,9 +106,9 @@ module _ (hashes : Hashes) (state : State) (held : Held) (built : IsBuilt held.v
 
     resumed : (result : Result ℕ KeeperError) → TookOrBroke (Some begun.there) begun.addition held held' before after result → (state' : State) × Resumed result state' × IsLeftIn hashes state' held' after
     resumed (Ok count) (rows_are, is, took) =
-        (sealed_with open_window state, (refl, rows_are ∙ open_rows), taken hashes state held stands built open_window begun.addition adds.2 before is_in.store_stands held' after is took)
+        (sealed_with open_window state, (refl, rows_are ∙ open_rows), taken hashes state held stands valid_mapping open_window begun.addition adds.2 before is_in.store_stands held' after is took)
     resumed (Err error) broke =
-        let (state', left, is_left) = broken hashes state held stands built open_window begun.addition adds.2 before is_in.store_stands (Some begun.there) error held' after fresh broke (λ no. cc) in
+        let (state', left, is_left) = broken hashes state held stands valid_mapping open_window begun.addition adds.2 before is_in.store_stands (Some begun.there) error held' after fresh broke (λ no. cc) in
         (state', left_so state' left, is_left)
 
     pub open_completes : CompletesTo held.vault.mapping hashes state (resume_answer result) held' after
@@ -129,10 +129,10 @@ module _ (hashes : Hashes) (state : State) (held : Held) (built : IsBuilt held.v
         again_here = subst (λ begun. IsOpenAgain held.vault begun given None) begun_same again
 
         to_load : outcome held.vault.mapping hashes state given ≡ outcomes.Load
-        to_load = completes hashes state held stands built given again_here
+        to_load = completes hashes state held stands valid_mapping given again_here
 
         same_window : open_window ≡ window_of held.vault.mapping given
-        same_window = same_Some open_window again_here.window (sym adds.1 ∙ again_here.is_open) ∙ is_given hashes state held stands built given again_here
+        same_window = same_Some open_window again_here.window (sym adds.1 ∙ again_here.is_open) ∙ is_given hashes state held stands valid_mapping given again_here
 
         by : (result : Result ℕ KeeperError) → (state' : State) × Resumed result state' × IsLeftIn hashes state' held' after → StepsTo held.vault.mapping hashes state given (load_answer result) held' after
         by (Ok count) (state', (same, count_is), left) = (

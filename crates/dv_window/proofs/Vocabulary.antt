@@ -4,14 +4,13 @@ pub use Rattle.dv_catalog.proofs.Vocabulary.{Mapping, first_of, found_member, is
 pub use Rattle.dv_stage.proofs.Vocabulary.{Contains-cons_here, Ok, made_of, option_map_or, option_or-none}
 pub use Rattle.dv_records.proofs.Vocabulary.{Contains-cons_there, Hashes, append-nil, are_windows_valid, ascends, collision, is_window, no_rows, rows_in, vault, vault_weight, ◌&&◌}
 pub use Rattle.dv_records.specs.ReadBack.{any_content_read}
-pub use Rattle.dv_mapfile.proofs.Vocabulary.{IfSome, built_mapping, if◌then◌else◌}
-pub use Rattle.dv_vault.proofs.Vocabulary.{AreApart, HasSealed, IsAddition, IsBuilt, RawVault, TableRows, TakesWindow, Told, and_parts, are_heads_of, arith, full_at, hashes_of, head_of, last_head, last_load, late_after, loaded, map-append, ◌≤◌, ◌⊎◌}
+pub use Rattle.dv_mapfile.proofs.Vocabulary.{IfSome, if◌then◌else◌}
+pub use Rattle.dv_vault.proofs.Vocabulary.{AreApart, HasSealed, IsAddition, RawVault, TableRows, TakesWindow, Told, and_parts, are_heads_of, arith, full_at, hashes_of, head_of, last_head, last_load, late_after, loaded, map-append, ◌≤◌, ◌⊎◌}
 pub use Rattle.dv_judge.proofs.Vocabulary.{feed_twice, no_extracts, unknown_feed, window_of, window_rule}
 pub use Rattle.dv_catalog.specs.declared.rules.Rule.{Rule}
 pub use Rattle.dv_catalog.specs.declared.rules.Rule.TheVariants.{Collision, OpenOther}
 pub use Rattle.dv_catalog.specs.declared.windows.WindowIn.{WindowIn}
 pub use Rattle.dv_judge.proofs.ReadWindows.{window_of-is_window}
-pub use Rattle.dv_mapfile.proofs.ReadMappings.{built_parts}
 pub use Rattle.dv_records.specs.Outcomes.{accepted, collides, differs, has_same_extracts, staged_eq, differs_from, if_new, late, open_other, outcome, refusal, too_long, vault_full, window_at}
 pub use Rattle.dv_records.specs.Snapshots.{snapshot}
 pub use Rattle.dv_records.specs.Standing.{HasTables, IsMappedBy, Stands}

@@ -18,7 +18,7 @@ use Rattle.dv_records.specs.Snapshots.{snapshot}
 use Rattle.dv_records.specs.States.{State}
 use Rattle.dv_records.specs.Steps.{SnapStep, snapshot_refusal}
 use Rattle.dv_records.specs.Stores.{are_snap_tables_apart}
-use Rattle.dv_window.specs.Offices.{Held, IsLeftIn, StandsFor}
+use Rattle.dv_window.specs.Offices.{Held, IsLeftIn}
 
 -- by date
 abbrev pub head_cmp : SnapHead → SnapHead → Ordering
@@ -32,12 +32,10 @@ pub record MayKeep (snapshots : List SnapHead) (snap : Snap) : Type 0 where
   pub light : heads_weight snapshots + snap.head.weight ≤ most_snapshot_weight
   pub few : length snapshots < most_snapshots
 
--- a snapshot is that at its date of each state that an office stands for, and no rule refuses it there
-abbrev pub IsSnapshotFor : Held → Snap → Type 0
-IsSnapshotFor held snap =
-    (hashes : Hashes) (state : State) → StandsFor hashes state held
-    → (snap ≡ snapshot held.vault.mapping hashes state.sealed snap.head.date)
-    × (snapshot_refusal held.vault.mapping hashes state snap.head.date ≡ None)
+-- a snapshot is that at its date of a state, and no rule refuses it there
+abbrev pub IsSnapshotIn : Mapping → Hashes → State → Snap → Type 0
+IsSnapshotIn mapping hashes state snap =
+    (snap ≡ snapshot mapping hashes state.sealed snap.head.date) × (snapshot_refusal mapping hashes state snap.head.date ≡ None)
 
 -- what is said of a snapshot of so many rows that was kept, or broken off
 abbrev pub kept_answer : ℕ → Result (Unit {0}) KeeperError → SnapAnswer

@@ -4,7 +4,8 @@ ghost use Rattle.dv_form.specs.SnapshotHeads.{KeepLimits};
 ghost use Rattle.dv_records.specs.ReadBack.{any_content_read};
 ghost use Rattle.dv_records.specs.Stores.{is_of_kind, rows_in};
 ghost use Rattle.dv_start.specs.Completions.{rows_there};
-ghost use Rattle.dv_vault.specs.Vaults.{IsBuilt, IsVaultOf, are_heads_of, last_head};
+ghost use Rattle.dv_catalog.specs.Mappings.{is_valid};
+ghost use Rattle.dv_vault.specs.Vaults.{IsVaultOf, are_heads_of, last_head};
 ghost use Rattle.dv_window.specs.Offices as spec;
 
 use dv_catalog::{Catalog, TableId};
@@ -54,17 +55,17 @@ fn batch_at(batches: &[Rows], place: usize) -> Option<&Rows>
 }
 
 impl Office {
-    /// The mapping, in which every form is built. Takes no memory.
+    /// The mapping. Takes no memory.
     pub fn catalog(&self) -> &Catalog
         ensures value { result.now ≡ self.now.vault.mapping }
-        ensures built { IsBuilt self.now.vault.mapping }
+        ensures valid_mapping { IsTrue (is_valid self.now.vault.mapping) }
     {
         self.vault.catalog()
     }
 
-    /// Does nothing: a call tells a proof that every form in the mapping is built.
-    pub(crate) fn note_built(&self)
-        ensures { IsBuilt self.now.vault.mapping }
+    /// Does nothing: a call tells a proof that the mapping is valid.
+    pub(crate) fn note_valid(&self)
+        ensures { IsTrue (is_valid self.now.vault.mapping) }
     {
         let _catalog = self.catalog();
     }

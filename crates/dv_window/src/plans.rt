@@ -5,7 +5,7 @@ ghost use Rattle.dv_text.specs.Keys.{hashes_of};
 ghost use Rattle.dv_catalog.specs.Windows.{window_of};
 ghost use Rattle.dv_records.specs.Outcomes.{differs_from, full_at};
 ghost use Rattle.dv_records.specs.States.{is_window};
-ghost use Rattle.dv_vault.specs.Vaults.{IsBuilt};
+ghost use Rattle.dv_catalog.specs.Mappings.{is_valid};
 ghost use Rattle.dv_window.specs.Plans as spec;
 ghost use Rattle.dv_window.specs.Offices.{staged};
 ghost use Rattle.dv_window.specs.Plans.{IsPlan, IsPlanned, Stops};
@@ -117,7 +117,7 @@ impl Office {
         ensures window { IfOk result (λ window. window ≡ window_of self.now.vault.mapping given.now) }
         ensures whole { IfOk result (λ window. IsTrue (is_window self.now.vault.mapping window)) }
         ensures stops { IfErr result (spec.StopsEarly self.now.vault (staged self.now) given.now) }
-        ensures built { IsBuilt self.now.vault.mapping }
+        ensures valid_mapping { IsTrue (is_valid self.now.vault.mapping) }
     {
         let catalog = self.catalog();
         if let Some(rule) = self.given_rule(given)? {
@@ -153,7 +153,7 @@ impl Office {
     pub(crate) fn plan<H: KeyDigest>(&self, given: &WindowIn, digest: &H) -> Result<Planned, Stop>
         ensures plan { IfOk result (IsPlanned (hashes_of H.digest_of H.size) self.now given.now) }
         ensures stops { IfErr result (Stops (hashes_of H.digest_of H.size) self.now.vault (staged self.now) given.now) }
-        ensures built { IsBuilt self.now.vault.mapping }
+        ensures valid_mapping { IsTrue (is_valid self.now.vault.mapping) }
     {
         let window = self.window_of(given)?;
         if let Some(head) = self.head_at(given.load) {

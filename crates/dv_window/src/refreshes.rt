@@ -6,7 +6,6 @@ ghost use Rattle.dv_text.specs.Told.{Told};
 ghost use Rattle.dv_records.specs.declared.answers.Damage.{Damage};
 ghost use Rattle.dv_records.specs.States.{State};
 ghost use Rattle.dv_start.specs.Damages.{IsNotRead, IsReadAs};
-ghost use Rattle.dv_vault.specs.Vaults.{IsBuilt};
 ghost use Rattle.dv_window.specs.Offices.{AgreesUnlessStale, IsDamageFor, IsIn, IsOtherMapping};
 
 use crate::offices::Office;
@@ -26,9 +25,7 @@ impl Office {
     // The mapping of the office, read from its keeper again. One that is gone, or another one, is damage.
     fn same_mapping<K: Keeper>(&self, keeper: &mut K) -> Result<Catalog, StartFault>
         ensures same { IfOk result (λ catalog. catalog ≡ self.now.vault.mapping) }
-        ensures built { IfOk result IsBuilt }
         ensures read { IfOk result (λ catalog. Told (K.store keeper.old) (IsReadAs catalog)) }
-        ensures known { IsBuilt self.now.vault.mapping }
         ensures mapped { IsErrOf result StartFault.NoMapping → ⊥ }
         ensures damaged { (damage : Damage) → IsErrOf result (StartFault.Damaged damage) → Told (K.store keeper.old) (λ s. IsOtherMapping self.now.vault.mapping s damage ⊎ IsNotRead s damage) }
         ensures store { K.store keeper.new ≡ K.store keeper.old }
@@ -36,7 +33,6 @@ impl Office {
         ensures later { K.faults keeper.old ≤ K.faults keeper.new }
     {
         let alloc = self.allocator();
-        self.note_built();
         let catalog = match stored_mapping(alloc, keeper) {
             Err(StartFault::NoMapping) => return Err(StartFault::Damaged(mapping_damage(alloc)?)),
             read => read?,

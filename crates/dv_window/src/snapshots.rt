@@ -7,7 +7,7 @@ ghost use Rattle.dv_text.specs.Sorting.{insert_by};
 ghost use Rattle.dv_records.specs.Changes.{KeeperCause};
 ghost use Rattle.dv_records.specs.States.{State};
 ghost use Rattle.dv_window.specs.Offices.{AgreesUnlessStale, IsIn};
-ghost use Rattle.dv_window.specs.Snapshots.{IsSnapshotFor, KeepsTo, LeavesAll, MayKeep, StaleWhereFailed, head_cmp};
+ghost use Rattle.dv_window.specs.Snapshots.{IsSnapshotIn, KeepsTo, LeavesAll, MayKeep, StaleWhereFailed, head_cmp};
 
 use crate::offices::Office;
 use crate::takings::is_failed;
@@ -58,10 +58,10 @@ fn with_head(alloc: Global, heads: &[SnapHead], head: SnapHead) -> Result<List<S
 impl Office {
     /// Stores a snapshot of the sealed windows in one call of the keeper. With `Failed`, which comes only where the
     /// keeper's count of faults rose, the office is stale, and the keeper's store is as before or has the snapshot. With
-    /// `Memory` nothing has changed. Conditions: the office isn't stale, and its keeper's store, where it is told, is what
-    /// the office holds; the head and the tables are the snapshot at the head's date of each state that the office stands
-    /// for, and no rule refuses it there; no stored snapshot has its date, no table stands twice, and with it the snapshots
-    /// keep their limits.
+    /// `Memory` nothing has changed. It is a step of the machine in a state whose snapshot at the head's date this is, and
+    /// in which no rule refuses it. Conditions: the office isn't stale, and its keeper's store, where it is told, is what
+    /// the office holds; no stored snapshot has the head's date, no table stands twice, and with it the snapshots keep
+    /// their limits.
     pub fn keep_snapshot<K: Keeper>(
         &mut self,
         keeper: &mut K,
@@ -71,8 +71,7 @@ impl Office {
         requires fresh { self.old.stale ≡ false }
         requires agrees { AgreesUnlessStale self.old (K.store keeper.old) }
         requires may { MayKeep self.old.snapshots (record { head = head.now; tables = tables.now }) }
-        requires snapshot { IsSnapshotFor self.old (record { head = head.now; tables = tables.now }) }
-        ensures step { (hashes : Hashes) (state : State) → IsIn hashes state self.old (K.store keeper.old) → KeepsTo self.old.vault.mapping hashes state head.now result self.new (K.store keeper.new) }
+        ensures step { (hashes : Hashes) (state : State) → IsSnapshotIn self.old.vault.mapping hashes state (record { head = head.now; tables = tables.now }) → IsIn hashes state self.old (K.store keeper.old) → KeepsTo self.old.vault.mapping hashes state head.now result self.new (K.store keeper.new) }
         ensures agrees { AgreesUnlessStale self.new (K.store keeper.new) }
         ensures mapping { self.new.vault.mapping ≡ self.old.vault.mapping }
         ensures width { self.new.width ≡ self.old.width }

@@ -11,7 +11,6 @@ ghost use Rattle.dv_records.specs.States.{State, beginning};
 ghost use Rattle.dv_form.specs.SnapshotHeads.{KeepLimits};
 ghost use Rattle.dv_start.specs.Completions.{MayBeTaken};
 ghost use Rattle.dv_start.specs.Damages.{IsFirstDamage, IsInForm};
-ghost use Rattle.dv_vault.specs.Vaults.{IsBuilt};
 ghost use Rattle.dv_window.specs.Offices.{Agrees, StandsFor};
 
 use crate::offices::Office;
@@ -23,10 +22,9 @@ use dv_vault::Vault;
 use std::alloc::Global;
 
 impl Office {
-    /// The office of no windows, by a mapping in which every form is built, for digests of so many bytes. It stands for
+    /// The office of no windows, by a mapping, for digests of so many bytes. It stands for
     /// the beginning.
     pub fn begin(alloc: Global, catalog: Catalog, width: u8) -> Result<Office, Memory>
-        requires { IsBuilt catalog }
         ensures mapping { IfOk result (λ office. office.vault.mapping ≡ catalog) }
         ensures stands { IfOk result (λ office. (hashes : Hashes) → StandsFor hashes beginning office) }
         ensures fresh { IfOk result (λ office. office.stale ≡ false) }
@@ -73,7 +71,7 @@ impl Office {
         ensures in_form { IfOk result (λ office. Told (K.store keeper.old) (IsInForm (hashes_of H.digest_of H.size) H.size office.vault.mapping)) }
         ensures none { IsErrOf result StartFault.NoMapping → Told (K.store keeper.old) (λ s. s.mapping ≡ None) }
         ensures damaged { (damage : Damage) → IsErrOf result (StartFault.Damaged damage) → Told (K.store keeper.old) (λ s. IsFirstDamage (hashes_of H.digest_of H.size) H.size s damage) }
-        ensures undamaged { (damage : Damage) → IsErrOf result (StartFault.Damaged damage) → (mapping : Mapping) → (state : State) → (store : Store) → K.store keeper.old ≡ Some store → IsBuilt mapping → Stands mapping (hashes_of H.digest_of H.size) state store → ⊥ }
+        ensures undamaged { (damage : Damage) → IsErrOf result (StartFault.Damaged damage) → (mapping : Mapping) → (state : State) → (store : Store) → K.store keeper.old ≡ Some store → Stands mapping (hashes_of H.digest_of H.size) state store → ⊥ }
         ensures store { K.store keeper.new ≡ K.store keeper.old }
         ensures cause { IsErrOf result StartFault.KeeperFault → Rose (K.faults keeper.old) (K.faults keeper.new) }
         ensures later { K.faults keeper.old ≤ K.faults keeper.new }

@@ -1,10 +1,10 @@
 // An addition is given to the keeper and to the vault, or broken off.
-ghost use Rattle.std.specs.Prelude.{◌≡◌, ◌≤◌, IfNone, IfSome, None, false, length, option_map};
+ghost use Rattle.std.specs.Prelude.{◌≡◌, ◌≤◌, IfNone, IfSome, IsTrue, None, false, length, option_map};
 ghost use Rattle.dv_text.specs.Told.{Told};
 ghost use Rattle.dv_records.specs.Changes.{KeeperCause};
 ghost use Rattle.dv_vault.specs.Additions.{Fits};
 ghost use Rattle.dv_vault.specs.Keeping.{IsBegun};
-ghost use Rattle.dv_vault.specs.Vaults.{IsBuilt};
+ghost use Rattle.dv_catalog.specs.Mappings.{is_valid};
 ghost use Rattle.dv_window.specs.Offices.{AgreesUnlessStale};
 ghost use Rattle.dv_window.specs.Stopping as spec;
 ghost use Rattle.dv_window.specs.Takings.{CompletesAs, TookOrBroke};
@@ -61,11 +61,11 @@ impl Office {
         requires agrees { AgreesUnlessStale self.old (K.store keeper.old) }
         ensures none { IfNone result ((self.old.begun ≡ None) × (self.new ≡ self.old) × (K.store keeper.new ≡ K.store keeper.old)) }
         ensures some { IfSome result (CompletesAs self.old self.new (K.store keeper.old) (K.store keeper.new)) }
-        ensures built { IsBuilt self.old.vault.mapping }
+        ensures valid_mapping { IsTrue (is_valid self.old.vault.mapping) }
         ensures cause { IfSome result (KeeperCause (K.faults keeper.old) (K.faults keeper.new)) }
         ensures later { K.faults keeper.old ≤ K.faults keeper.new }
     {
-        self.note_built();
+        self.note_valid();
         let begun = self.begun.take()?;
         Some(self.carry_out(keeper, Some(begun.there), begun.addition))
     }

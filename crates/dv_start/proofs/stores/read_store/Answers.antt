@@ -11,15 +11,18 @@ use Rattle.dv_start.proofs.stores.read_store.Goals as goal
 
 pub returns-in_err-heads-clause-undamaged : goal.returns-in_err-heads-clause-undamaged
 returns-in_err-heads-clause-undamaged g c damage is state store at stands =
-    none_broken c.args.catalog g.H.KeyDigest.digest_of g.H.KeyDigest.size c.note_sized.ensures c.requires.built state store stands damage
+    none_broken c.args.catalog g.H.KeyDigest.digest_of g.H.KeyDigest.size c.note_sized.ensures state store stands damage
     (inl (head_first c.args.catalog (hashes_of g.H.KeyDigest.digest_of g.H.KeyDigest.size) g.H.KeyDigest.size store damage (c.stored_heads.ensures.damaged damage (search rules) store at)))
+
+pub returns-in_err-stage-clause-damaged : goal.returns-in_err-stage-clause-damaged
+returns-in_err-stage-clause-damaged g c damage is = λ store at.
+    let windows = c.in_ok-heads.ensures.told store at in
+    inl (stage_damaged c.args.catalog (hashes_of g.H.KeyDigest.digest_of g.H.KeyDigest.size) g.H.KeyDigest.size store c.in_ok-heads.heads store.stage windows refl c.in_ok-heads.ensures.clear damage
+    (c.stored_stage.ensures.damaged damage (search rules) store (c.stored_heads.ensures.store ∙ at) (sym windows ∙ sym c.items.ensures)))
 
 pub returns-in_err-stage-clause-undamaged : goal.returns-in_err-stage-clause-undamaged
 returns-in_err-stage-clause-undamaged g c damage is state store at stands =
-    let windows = c.in_ok-heads.ensures.told store at in
-    none_broken c.args.catalog g.H.KeyDigest.digest_of g.H.KeyDigest.size c.note_sized.ensures c.requires.built state store stands damage
-    (inl (stage_damaged c.args.catalog (hashes_of g.H.KeyDigest.digest_of g.H.KeyDigest.size) g.H.KeyDigest.size store c.in_ok-heads.heads store.stage windows refl c.in_ok-heads.ensures.clear damage
-    (c.stored_stage.ensures.damaged damage (search rules) store (c.stored_heads.ensures.store ∙ at) (sym windows ∙ sym c.items.ensures))))
+    none_broken c.args.catalog g.H.KeyDigest.digest_of g.H.KeyDigest.size c.note_sized.ensures state store stands damage (returns-in_err-stage-clause-damaged g c damage is store at)
 
 pub returns-in_err-read-clause-damaged : goal.returns-in_err-read-clause-damaged
 returns-in_err-read-clause-damaged g c damage is = λ store at.
@@ -34,7 +37,7 @@ returns-in_err-read-clause-damaged g c damage is = λ store at.
 
 pub returns-in_err-read-clause-undamaged : goal.returns-in_err-read-clause-undamaged
 returns-in_err-read-clause-undamaged g c damage is state store at stands =
-    none_broken c.args.catalog g.H.KeyDigest.digest_of g.H.KeyDigest.size c.note_sized.ensures c.requires.built state store stands damage (returns-in_err-read-clause-damaged g c damage is store at)
+    none_broken c.args.catalog g.H.KeyDigest.digest_of g.H.KeyDigest.size c.note_sized.ensures state store stands damage (returns-in_err-read-clause-damaged g c damage is store at)
 
 pub returns-in_err-snapshots-clause-damaged : goal.returns-in_err-snapshots-clause-damaged
 returns-in_err-snapshots-clause-damaged g c damage is = λ store at.
@@ -51,7 +54,7 @@ returns-in_err-snapshots-clause-damaged g c damage is = λ store at.
 
 pub returns-in_err-snapshots-clause-undamaged : goal.returns-in_err-snapshots-clause-undamaged
 returns-in_err-snapshots-clause-undamaged g c damage is state store at stands =
-    none_broken c.args.catalog g.H.KeyDigest.digest_of g.H.KeyDigest.size c.note_sized.ensures c.requires.built state store stands damage (returns-in_err-snapshots-clause-damaged g c damage is store at)
+    none_broken c.args.catalog g.H.KeyDigest.digest_of g.H.KeyDigest.size c.note_sized.ensures state store stands damage (returns-in_err-snapshots-clause-damaged g c damage is store at)
 
 pub returns-in_err-reopened-clause-undamaged : goal.returns-in_err-reopened-clause-undamaged
 returns-in_err-reopened-clause-undamaged g c damage is state store at stands =
@@ -62,7 +65,7 @@ returns-in_err-reopened-clause-undamaged g c damage is state store at stands =
     let staged = c.in_ok-stage.ensures.told store at_stage in
     let read = c.in_ok-read.ensures.told store at_rows in
     (c.restored.ensures.damaged damage (search rules)).1
-    (goes_on c.args.catalog hashes g.H.KeyDigest.size store c.in_ok-heads.heads c.in_ok-stage.stage windows staged (map entry_of c.in_ok-read.read.tables.items) read (keeps_f15 c.args.catalog hashes state store stands c.requires.built))
+    (goes_on c.args.catalog hashes g.H.KeyDigest.size store c.in_ok-heads.heads c.in_ok-stage.stage windows staged (map entry_of c.in_ok-read.read.tables.items) read (keeps_f15 c.args.catalog hashes state store stands))
 
 pub returns-clause-kept : goal.returns-clause-kept
 returns-clause-kept g c = λ store at.

@@ -12,7 +12,7 @@ pub all_deltas-requires-clause-dated : goal.all_deltas-requires-clause-dated
 all_deltas-requires-clause-dated g c κs within =
     let later : late_after (last_head c.self.inside.heads) c.args.window.now.load ≡ None = subst (λ (raw : RawVault). late_after (last_head raw.heads) c.args.window.now.load ≡ None) (sym c.self.view_is) c.requires.later in
     (λ i. are_up_to ((c.in_ok-hashed.ensures {u = tt}).window i).load (map entry_of (c.deref.ensures.value i)))
-    ∙ rows_not_later c.self.inside.heads (entries_of c.self.inside.raw) c.args.window.now.load c.self.invariant.2 later
+    ∙ rows_not_later c.self.inside.heads (entries_of c.self.inside.raw) c.args.window.now.load c.self.invariant.1 later
 
 pub returns-clause-apart : goal.returns-clause-apart
 returns-clause-apart g c =

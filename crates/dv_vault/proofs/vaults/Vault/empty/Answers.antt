@@ -6,7 +6,6 @@ pub invariant_of-result : goal.invariant_of-result
 invariant_of-result c =
     let (order, rows, weight) = new_kept c.args.catalog (entries_of c.in_ok-raw.raw) (c.in_ok-raw.ensures {u = tt}) in (
       order,
-      c.requires,
       subst (λ (heads : List WindowHead). are_rows_kept heads (entries_of c.in_ok-raw.raw) ≡ true) (sym c.new.ensures) rows,
       ap (are_heads_of c.args.catalog) c.new.ensures,
       weight,

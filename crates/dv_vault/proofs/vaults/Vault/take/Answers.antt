@@ -57,11 +57,10 @@ invariant_of-self-2 g c =
     let fits : Fits raw c.args.addition = subst (λ (raw : RawVault). Fits raw c.args.addition) (sym c.self.view_is) c.requires.fits in
     let entries = map entry_of (with_items (with_items c.self.inside.raw.tables c.make_room.new.tables) c.apply_all.new.tables).items in (
       vault_still raw c.args.addition fits entries c.in-Ok.heads after pushed c.self.invariant.0,
-      c.self.invariant.1,
-      rows_still raw c.args.addition fits entries c.in-Ok.heads after pushed c.self.invariant.2,
-      heads_still raw c.args.addition fits entries c.in-Ok.heads after pushed c.self.invariant.3,
+      rows_still raw c.args.addition fits entries c.in-Ok.heads after pushed c.self.invariant.1,
+      heads_still raw c.args.addition fits entries c.in-Ok.heads after pushed c.self.invariant.2,
       fits.weight ∙ ap tables_weight (sym after),
-      c.self.invariant.5,
+      c.self.invariant.4,
     )
 
 pub returns-in_default-clause-broke : goal.returns-in_default-clause-broke

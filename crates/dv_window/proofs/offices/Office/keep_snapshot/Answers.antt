@@ -10,10 +10,10 @@ put_snapshot-requires g c = λ store at.
 -- ---- the keeper refused it
 
 pub returns-in-Err-clause-step : goal.returns-in-Err-clause-step
-returns-in-Err-clause-step g c hashes state is_in =
+returns-in-Err-clause-step g c hashes state of_state is_in =
     let held = c.args.self.now in
     let snap : Snap = record { head = c.args.head.now; tables = c.args.tables.now } in
-    broken_step hashes state held (g.K.Keeper.store c.args.keeper.now) c.requires.fresh is_in snap c.requires.snapshot c.in-Err.error _ (g.K.Keeper.store c.put_snapshot.new.self)
+    broken_step hashes state held (g.K.Keeper.store c.args.keeper.now) c.requires.fresh is_in snap of_state c.in-Err.error _ (g.K.Keeper.store c.put_snapshot.new.self)
     (λ i. record (c.self.view_is i) { stale = c.is_failed-self-inside.ensures i }) c.in-Err.ensures.change
 
 pub returns-in-Err-clause-agrees : goal.returns-in-Err-clause-agrees
@@ -25,12 +25,12 @@ returns-in-Err-clause-agrees g c =
 -- ---- it was stored
 
 pub returns-clause-step : goal.returns-clause-step
-returns-clause-step g c hashes state is_in =
+returns-clause-step g c hashes state of_state is_in =
     let held = c.args.self.now in
     let snap : Snap = record { head = c.args.head.now; tables = c.args.tables.now } in
     let same = c.items.ensures ∙ ap (λ (h : Held). h.snapshots) c.self.view_is in
     let made = made_with held.snapshots snap c.requires.may c.items.result.now c.in_ok-snapshots.snapshots same c.in_ok-snapshots.ensures.made in
-    stored_step hashes state held (g.K.Keeper.store c.args.keeper.now) c.requires.fresh is_in snap c.requires.snapshot _ (g.K.Keeper.store c.put_snapshot.new.self)
+    stored_step hashes state held (g.K.Keeper.store c.args.keeper.now) c.requires.fresh is_in snap of_state _ (g.K.Keeper.store c.put_snapshot.new.self)
     (λ i. record (c.self.view_is i) { snapshots = made i }) c.in_default.ensures.change
 
 pub returns-clause-agrees : goal.returns-clause-agrees

@@ -15,7 +15,7 @@ returns-in-Ok-New-clause-step g c state is_in =
     let after = g.K.Keeper.store c.carry_out.new.keeper in
     let plan = subst (IsPlanned hashes c.args.self.now c.args.given.now) c.in-Ok-New.field-0-is c.in-Ok-New.ensures.plan in
     subst (λ answer. StepsTo c.args.self.now.vault.mapping hashes state c.args.given.now answer c.carry_out.new.self after) (sym c.load_answer.ensures)
-    (new_step hashes state c.args.self.now c.plan.ensures.built (g.K.Keeper.store c.args.keeper.now) c.requires.fresh is_in c.args.given.now c.in-Ok-New.addition plan
+    (new_step hashes state c.args.self.now c.plan.ensures.valid_mapping (g.K.Keeper.store c.args.keeper.now) c.requires.fresh is_in c.args.given.now c.in-Ok-New.addition plan
     c.carry_out.new.self after c.carry_out.result c.carry_out.ensures.came)
 
 pub returns-in-Ok-New-clause-agrees : goal.returns-in-Ok-New-clause-agrees
@@ -30,7 +30,7 @@ returns-in-Some-clause-step g c state is_in =
     let after = g.K.Keeper.store c.complete.new.keeper in
     let plan = subst (IsPlanned hashes c.args.self.now c.args.given.now) c.in-Ok-Open.field-0-is c.in-Ok-Open.ensures.plan in
     subst (λ answer. StepsTo c.args.self.now.vault.mapping hashes state c.args.given.now answer c.complete.new.self after) (sym c.load_answer-in-Some.ensures)
-    (open_step hashes state c.args.self.now c.plan.ensures.built (g.K.Keeper.store c.args.keeper.now) c.requires.fresh is_in c.complete.new.self after c.in-Some.completed (c.in-Some.ensures {u = tt}).some
+    (open_step hashes state c.args.self.now c.plan.ensures.valid_mapping (g.K.Keeper.store c.args.keeper.now) c.requires.fresh is_in c.complete.new.self after c.in-Some.completed (c.in-Some.ensures {u = tt}).some
     c.args.given.now plan)
 
 pub returns-in-Some-clause-agrees : goal.returns-in-Some-clause-agrees
@@ -44,7 +44,7 @@ returns-in-Err-clause-step g c state is_in =
     let hashes = hashes_of g.H.KeyDigest.digest_of g.H.KeyDigest.size in
     let before = g.K.Keeper.store c.args.keeper.now in
     subst (λ answer. StepsTo c.args.self.now.vault.mapping hashes state c.args.given.now answer c.args.self.now before) (sym c.from.ensures)
-    (stopped_step hashes state c.args.self.now c.plan.ensures.built before c.requires.fresh is_in c.args.given.now c.in-Err.stop c.in-Err.ensures.stops before refl)
+    (stopped_step hashes state c.args.self.now c.plan.ensures.valid_mapping before c.requires.fresh is_in c.args.given.now c.in-Err.stop c.in-Err.ensures.stops before refl)
 
 -- ---- whatever is told of the store
 
@@ -55,7 +55,7 @@ returns-in-Ok-New-clause-answer g c state stands =
     let plan = subst (IsPlanned hashes held c.args.given.now) c.in-Ok-New.field-0-is c.in-Ok-New.ensures.plan in
     let came = untold None c.in-Ok-New.addition held c.carry_out.new.self (g.K.Keeper.store c.args.keeper.now) (g.K.Keeper.store c.carry_out.new.keeper) c.carry_out.result c.carry_out.ensures.came in
     subst (λ answer. StepsTo held.vault.mapping hashes state c.args.given.now answer c.carry_out.new.self None) (sym c.load_answer.ensures)
-    (new_step hashes state held c.plan.ensures.built None c.requires.fresh (untold_in hashes state held stands c.requires.fresh) c.args.given.now c.in-Ok-New.addition plan
+    (new_step hashes state held c.plan.ensures.valid_mapping None c.requires.fresh (untold_in hashes state held stands c.requires.fresh) c.args.given.now c.in-Ok-New.addition plan
     c.carry_out.new.self None c.carry_out.result came)
 
 pub returns-in-Some-clause-answer : goal.returns-in-Some-clause-answer
@@ -65,7 +65,7 @@ returns-in-Some-clause-answer g c state stands =
     let plan = subst (IsPlanned hashes held c.args.given.now) c.in-Ok-Open.field-0-is c.in-Ok-Open.ensures.plan in
     let came = untold_open held c.complete.new.self (g.K.Keeper.store c.args.keeper.now) (g.K.Keeper.store c.complete.new.keeper) c.in-Some.completed (c.in-Some.ensures {u = tt}).some in
     subst (λ answer. StepsTo held.vault.mapping hashes state c.args.given.now answer c.complete.new.self None) (sym c.load_answer-in-Some.ensures)
-    (open_step hashes state held c.plan.ensures.built None c.requires.fresh (untold_in hashes state held stands c.requires.fresh) c.complete.new.self None c.in-Some.completed came
+    (open_step hashes state held c.plan.ensures.valid_mapping None c.requires.fresh (untold_in hashes state held stands c.requires.fresh) c.complete.new.self None c.in-Some.completed came
     c.args.given.now plan)
 
 pub returns-in-Err-clause-answer : goal.returns-in-Err-clause-answer
@@ -73,4 +73,4 @@ returns-in-Err-clause-answer g c state stands =
     let hashes = hashes_of g.H.KeyDigest.digest_of g.H.KeyDigest.size in
     let held = c.args.self.now in
     subst (λ answer. StepsTo held.vault.mapping hashes state c.args.given.now answer held None) (sym c.from.ensures)
-    (stopped_step hashes state held c.plan.ensures.built None c.requires.fresh (untold_in hashes state held stands c.requires.fresh) c.args.given.now c.in-Err.stop c.in-Err.ensures.stops None refl)
+    (stopped_step hashes state held c.plan.ensures.valid_mapping None c.requires.fresh (untold_in hashes state held stands c.requires.fresh) c.args.given.now c.in-Err.stop c.in-Err.ensures.stops None refl)

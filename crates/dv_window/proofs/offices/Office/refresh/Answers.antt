@@ -1,13 +1,13 @@
 use Rattle.dv_window.proofs.Vocabulary.{Some, ap, inr, rules, subst, sym, true, ◌∙◌, ◌≡◌, Agrees, Held, IsIn, IsMappedBy, Mapping, Stands, hashes_of}
 use Rattle.dv_window.proofs.Refreshed.{not_damaged}
-use Rattle.dv_window.proofs.StartFacts.{mapped_by, stands_as}
+use Rattle.dv_window.proofs.StartFacts.{stands_as}
 use Rattle.dv_window.proofs.offices.Office.refresh.Goals as goal
 
 pub returns-in_err-catalog-clause-undamaged : goal.returns-in_err-catalog-clause-undamaged
 returns-in_err-catalog-clause-undamaged g c damage is state is_in =
     let stale : c.args.self.now.stale ≡ true = ap (λ (held : Held). held.stale) (sym c.self.view_is) ∙ c.if-not-self.false in
     let (store, at) = is_in.told stale in
-    not_damaged c.args.self.now.vault.mapping (hashes_of g.H.KeyDigest.digest_of g.H.KeyDigest.size) state store (is_in.store_stands store at) c.same_mapping.ensures.known damage
+    not_damaged c.args.self.now.vault.mapping (hashes_of g.H.KeyDigest.digest_of g.H.KeyDigest.size) state store (is_in.store_stands store at) damage
     (c.same_mapping.ensures.damaged damage (search rules) store at)
 
 pub returns-in_err-restored-clause-damaged : goal.returns-in_err-restored-clause-damaged
@@ -25,7 +25,7 @@ returns-in_err-restored-clause-undamaged g c damage is state is_in =
 pub returns-clause-agrees : goal.returns-clause-agrees
 returns-clause-agrees g c = λ fresh store at.
     let before : g.K.Keeper.store c.args.keeper.now ≡ Some store = sym c.same_mapping.ensures.store ∙ sym c.read_store.ensures.store ∙ at in
-    let read : IsMappedBy c.in_ok-catalog.catalog store.mapping = mapped_by c.in_ok-catalog.catalog store (c.in_ok-catalog.ensures.read store before) in
+    let read : IsMappedBy c.in_ok-catalog.catalog store.mapping = c.in_ok-catalog.ensures.read store before in
     subst (λ (held : Held). Agrees held store) (sym (c.change_to.ensures ∙ c.of_restored.ensures)) (record {
       mapped = subst (λ (mapping : Mapping). IsMappedBy mapping store.mapping) (sym c.in_ok-restored.ensures.mapping) read;
       kept = c.in_ok-restored.ensures.kept store (c.same_mapping.ensures.store ∙ before);

@@ -8,4 +8,4 @@ returns-clause-whole c =
     let read : (window_rule raw.mapping c.args.given.now ≡ None) × (c.in_ok-window.window ≡ window_of raw.mapping c.args.given.now) =
     subst (λ (mapping : Mapping). (window_rule mapping c.args.given.now ≡ None) × (c.in_ok-window.window ≡ window_of mapping c.args.given.now)) c.catalog-catalog.ensures.value (c.in_ok-window.ensures {u = tt}).ok in
     let early = early_none raw (staged c.args.self.now) c.args.given.now (sym (c.in_ok-rule.ensures {u = tt}) ∙ c.in_default.is) read.0 in
-    subst (λ (window : Window). is_window raw.mapping window ≡ true) (sym read.1) (read_whole raw (staged c.args.self.now) c.args.given.now c.catalog-catalog.ensures.built.valid early)
+    subst (λ (window : Window). is_window raw.mapping window ≡ true) (sym read.1) (read_whole raw (staged c.args.self.now) c.args.given.now c.catalog-catalog.ensures.valid_mapping early)

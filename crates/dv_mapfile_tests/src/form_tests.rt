@@ -1,10 +1,10 @@
-//! Which mapping files are built.
+//! Every form of an entry is taken.
 
 use crate::sample_files::{
     ACCOUNTS, ASSIGNMENTS, BY_EMPLOYEE, BY_ORDER, CUSTOMERS, NAMES, ORDERS, PHONES, SITES, SOLD,
     TEAMS, fault,
 };
-use dv_mapfile::read_built_catalog;
+use dv_mapfile::read_catalog;
 use std::test::Fail;
 
 /// A second feed of the customers, with several rows of one key.
@@ -76,8 +76,9 @@ const FORMS: &[(&str, &str, &str)] = &[
     (ASSIGNMENTS, BY_EMPLOYEE, ""),
     (STAFF, BY_EMPLOYEE, ""),
     ("", TEAMS, ""),
-    (SOLD, BY_ORDER, "0 NotYet place=path 1 name"),
-    (WORKED, ASSIGNMENTS, "0 NotYet place=path 1 name"),
+    (SOLD, BY_ORDER, ""),
+    (WORKED, ASSIGNMENTS, ""),
+    (SOLD, "via = []", "12 PathBroken path=sold"),
     (
         PHONES,
         "driver = [\"customer\"]",
@@ -97,19 +98,19 @@ const FORMS: &[(&str, &str, &str)] = &[
 ];
 
 #[test]
-fn all_but_paths_is_built(rt: HostRuntime) -> Result<(), Fail> {
+fn every_form_is_taken(rt: HostRuntime) -> Result<(), Fail> {
     for (first, second, expected) in FORMS {
         let file = format!(in rt.alloc(); "{first}{second}")?;
-        let found = fault(rt.alloc(), read_built_catalog(rt.alloc(), file.as_bytes()))?;
+        let found = fault(rt.alloc(), read_catalog(rt.alloc(), file.as_bytes()))?;
         assert_eq!(rt; found.bytes(), expected.as_bytes(), "at {file}");
     }
     let file = format!(in rt.alloc(); "{WORKED}{ASSIGNMENTS}{BY_EMPLOYEE}")?;
-    let found = fault(rt.alloc(), read_built_catalog(rt.alloc(), file.as_bytes()))?;
-    assert_eq!(rt; found.bytes(), b"0 NotYet place=path 1 name".as_slice());
+    let found = fault(rt.alloc(), read_catalog(rt.alloc(), file.as_bytes()))?;
+    assert_eq!(rt; found.bytes(), b"".as_slice());
     let (without_path, _) = SOLD.split_once("[[path]]").ok_or("no path")?;
     let found = fault(
         rt.alloc(),
-        read_built_catalog(rt.alloc(), without_path.as_bytes()),
+        read_catalog(rt.alloc(), without_path.as_bytes()),
     )?;
     assert_eq!(rt; found.bytes(), b"".as_slice());
     Ok(())
