@@ -1,0 +1,14 @@
+pub mod BridgesTell
+pub mod Choices
+pub mod FeedLinks
+pub mod JoinSteps
+pub mod Joined
+pub mod KeyPlaces
+pub mod KeyedLinks
+pub mod LinkedFeeds
+pub mod LongerBridges
+pub mod MatchingRows
+pub mod SortedLengths
+pub mod Vocabulary
+pub mod WholeLinks
+pub mod ZeroKeys

@@ -1,0 +1,4 @@
+pub mod BridgeRows
+pub mod BridgeTables
+pub mod Joins
+pub mod ZeroKeys
