@@ -1,4 +1,4 @@
--- The feeds of a hub, one after another in declared order.
+-- The feeds of a hub, one after another in declared order, and the link of a feed.
 use Rattle.dv_texts.proofs.Vocabulary.{◌≡◌, ◌∙◌, ◌++◌, ℕ, true, false, List, [], Some, ap, arith, filter, map, refl, slice_get, sym, take, Mapping}
 use Rattle.std.specs.Prelude.{◌+◌, ◌∷◌, None, suc, zero}
 use Rattle.std.specs.List.{enumerate_from}
@@ -7,7 +7,11 @@ use Rattle.std.proofs.lemmas.List.Elements.{All-push, filter-append}
 use Rattle.std.specs.Prelude.{All}
 use Rattle.std.proofs.Common.{append-nil}
 use Rattle.dv_catalog.specs.declared.entries.FeedDef.{FeedDef}
-use Rattle.dv_catalog.specs.declared.entries.Parent.TheVariants.{Hub}
+use Rattle.dv_catalog.specs.declared.entries.Parent.TheVariants.{Hub, Link}
+use Rattle.dv_catalog.proofs.ValidReads.{valid_feed}
+use Rattle.dv_catalog.specs.Mappings.{is_declared, is_valid}
+use Rattle.std.proofs.Common.{length, ◌<◌}
+use Rattle.std.proofs.lemmas.Bool.Decides.{nat_tests}
 use Rattle.dv_catalog.specs.Feeds.{is_fed_by}
 use Rattle.dv_texts.specs.HubFeeds.{told}
 use Rattle.dv_texts.specs.declared.hub_feeds.HubFeed.{HubFeed}
@@ -52,3 +56,9 @@ fed_pushed mapping hub n feed found at fed place so_far = (
   map-append told found (feed ∷ []) ∙ (λ i. so_far.0 i ++ (place i, feed.definition.now) ∷ []) ∙ sym (next_fed mapping hub n feed.definition.now at fed),
   All-push (λ (one : HubFeed). slice_get mapping.feeds one.place ≡ Some one.definition.now) found feed so_far.1 (ap (slice_get mapping.feeds) place ∙ at),
 )
+
+-- a feed's link is in the mapping
+pub link_within : (mapping : Mapping) → is_valid mapping ≡ true → (feed : ℕ) (definition : FeedDef) → slice_get mapping.feeds feed ≡ Some definition → (link : ℕ) → definition.parent ≡ Link link → link < length mapping.links
+link_within mapping valid feed definition at link parent =
+    let declared : is_declared mapping (Link link) ≡ true = ap (is_declared mapping) (sym parent) ∙ (valid_feed mapping valid feed definition at).declared in
+    grind (arith, nat_tests, declared)

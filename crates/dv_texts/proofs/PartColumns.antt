@@ -1,6 +1,10 @@
--- The columns of a hub's table, one key part after the other.
+-- The columns of the parts of a hub's keys, one after the other.
 use Rattle.dv_texts.proofs.Vocabulary.{◌≡◌, ℕ, ◌+◌, List, [], ◌∷◌, ◌++◌, append_assoc, codes, map, ap, arith, sym, ◌∙◌, decimal, range_with_len, map-range_with_len_more, raw_header}
-use Rattle.dv_texts.specs.Texts.{numbered}
+use Rattle.dv_texts.proofs.Vocabulary.{append-nil, hub_name, refl, slice_get, Mapping}
+use Rattle.std.proofs.Common.{◌≤◌, length}
+use Rattle.std.specs.Prelude.{None}
+use Rattle.dv_catalog.specs.Feeds.{parts_of}
+use Rattle.dv_texts.specs.Texts.{dotted, hub_columns, numbered}
 
 abbrev part_column : ℕ → List ℕ
 part_column n = codes "part_" ++ decimal n
@@ -17,3 +21,16 @@ one_numbered_more name n start header pushed so_far push =
     push ∙ ap (λ h. h ++ numbered name (n + 1) ∷ []) so_far
     ∙ append_assoc start (map (numbered name) (range_with_len 1 n)) (numbered name (n + 1) ∷ [])
     ∙ ap (λ columns. start ++ columns) (sym (map-range_with_len_more (numbered name) 1 n (n + 1) (omega arith)))
+
+-- a number behind two names is behind the second, and with it behind the first
+pub behind_both : (feed hub : List ℕ) (ns : List ℕ) → map (numbered (dotted feed hub)) ns ≡ map (dotted feed) (map (numbered hub) ns)
+behind_both feed hub [] = refl
+behind_both feed hub (n ∷ ns) =
+    let first = append_assoc feed (46 ∷ hub) (46 ∷ decimal n) in
+    let rest = behind_both feed hub ns in
+    λ i. first i ∷ rest i
+
+-- a hub that isn't there has no columns
+pub no_columns : (mapping : Mapping) (feed : List ℕ) (hub : ℕ) (header : List (List ℕ)) → slice_get mapping.hubs hub ≡ None → header ≡ header ++ hub_columns mapping feed hub
+no_columns mapping feed hub header none =
+    sym (ap (λ o. header ++ map (dotted feed) (map (numbered (hub_name o)) (range_with_len 1 (parts_of o)))) none ∙ append-nil header)

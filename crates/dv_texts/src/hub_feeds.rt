@@ -1,7 +1,7 @@
-//! The feeds of a hub, in declared order.
+//! The feeds of a hub, in declared order, and the hubs of a feed.
 
 ghost use Rattle.std.specs.Prelude.{◌≡◌, Some, All, map, slice_get, IfOk};
-ghost use Rattle.dv_catalog.specs.Feeds.{is_fed_by};
+ghost use Rattle.dv_catalog.specs.Feeds as spec;
 ghost use Rattle.dv_catalog.specs.declared.entries.Parent.TheVariants as parents;
 ghost use Rattle.dv_records.specs.Marts.{hub_feeds};
 ghost use Rattle.dv_texts.specs.HubFeeds.{told};
@@ -9,6 +9,7 @@ ghost use Rattle.dv_texts.specs.HubFeeds.{told};
 use dv_catalog::{Catalog, FeedDef, Parent};
 use dv_text::Memory;
 use std::alloc::Global;
+use std::slice::from_ref;
 
 /// A feed, by its place in declared order.
 #[derive(Clone, Copy)]
@@ -19,7 +20,7 @@ pub struct HubFeed<'a> {
 
 // Whether a feed delivers the keys of a hub.
 fn is_of_hub(feed: &FeedDef, hub: u32) -> bool
-    ensures { result ≡ is_fed_by (parents.Hub hub) (Some feed.now) }
+    ensures { result ≡ spec.is_fed_by (parents.Hub hub) (Some feed.now) }
 {
     feed.parent == Parent::Hub(hub)
 }
@@ -37,4 +38,17 @@ pub fn feeds_of(alloc: Global, catalog: &Catalog, hub: u32) -> Result<Vec<HubFee
         }
     }
     Ok(found)
+}
+
+/// The hubs of a feed's references, by their places; none where the feed isn't in the mapping. Takes no memory.
+pub fn feed_hubs(catalog: &Catalog, feed: u32) -> &[u32]
+    ensures { result.now ≡ spec.feed_hubs catalog.now feed }
+{
+    if feed >= catalog.feed_count() {
+        return &[];
+    }
+    match &catalog.feed(feed).parent {
+        Parent::Hub(hub) => from_ref(hub),
+        Parent::Link(link) => catalog.link(*link).hubs.items(),
+    }
 }

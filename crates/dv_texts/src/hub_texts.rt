@@ -1,16 +1,15 @@
 //! The texts of hub marts.
 
 ghost use Rattle.std.specs.Prelude.{◌≡◌, ◌<◌, ◌∷◌, ◌++◌, flat_map, length, map, IfOk, OnOk};
-ghost use Rattle.std.specs.List.{range_with_len};
 ghost use Rattle.dv_texts.specs.HubFeeds.{told};
 ghost use Rattle.dv_texts.specs.Texts as spec;
 
-use crate::columns::{push_dotted, push_numbered};
+use crate::columns::{push_dotted, push_parts};
 use crate::csv_texts::rows_text;
 use crate::fields::Fields;
 use crate::hub_feeds::{HubFeed, feeds_of};
 use crate::recorded::Recorded;
-use dv_catalog::{Catalog, FeedDef, HubDef};
+use dv_catalog::{Catalog, FeedDef};
 use dv_records::{HubCell, HubMartRow};
 use dv_text::{Memory, Text};
 use std::alloc::Global;
@@ -33,16 +32,6 @@ impl Recorded for HubMartRow {
         fields.push_texts(self.key.parts.items())?;
         push_cells(fields, self.cells.items())
     }
-}
-
-// Puts a column at the end for each part of a hub's keys.
-fn push_parts(alloc: Global, header: &mut Fields, hub: &HubDef) -> Result<(), Memory>
-    ensures { OnOk result (header.new ≡ header.old ++ map (spec.numbered hub.now.name) (range_with_len 1 hub.now.parts)) }
-{
-    for n in 0..hub.parts {
-        push_numbered(alloc, header, hub.name.bytes(), n + 1)?;
-    }
-    Ok(())
 }
 
 // Puts a column at the end for each attribute of a feed.
@@ -82,7 +71,8 @@ fn hub_header(alloc: Global, catalog: &Catalog, hub: u32) -> Result<Fields, Memo
 {
     let feeds = feeds_of(alloc, catalog, hub)?;
     let mut header = Fields::new(alloc);
-    push_parts(alloc, &mut header, catalog.hub(hub))?;
+    let definition = catalog.hub(hub);
+    push_parts(alloc, &mut header, definition.name.bytes(), definition.parts)?;
     push_feeds(alloc, &mut header, feeds.as_slice())?;
     Ok(header)
 }

@@ -1,13 +1,16 @@
 //! The texts of marts and tables, given their rows: the CSV of each, with its header, and of the windows; and the feeds of a
-//! hub, by which a hub's texts have their columns.
+//! hub and the hubs of a feed, by which texts have their columns.
 #![tactic(auto)]
 
+mod bridge_texts;
 mod columns;
 mod csv_texts;
 mod feed_texts;
 mod fields;
 mod hub_feeds;
 mod hub_texts;
+mod names;
+mod path_texts;
 mod period_texts;
 mod pit_texts;
 mod raw_records;
@@ -15,11 +18,13 @@ mod recorded;
 mod table_texts;
 mod windows_texts;
 
+pub use bridge_texts::bridge_text;
 pub use csv_texts::{new_writer, put_record, put_row, put_rows, text_of};
 pub use feed_texts::{feed_header, feed_text};
 pub use fields::Fields;
-pub use hub_feeds::{HubFeed, feeds_of};
+pub use hub_feeds::{HubFeed, feed_hubs, feeds_of};
 pub use hub_texts::hub_text;
+pub use path_texts::path_text;
 pub use period_texts::period_text;
 pub use pit_texts::pit_text;
 pub use recorded::Recorded;

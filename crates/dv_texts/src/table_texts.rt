@@ -12,6 +12,7 @@ ghost use Rattle.dv_texts.specs.Texts as spec;
 
 use crate::csv_texts::rows_text_up_to;
 use crate::fields::Fields;
+use crate::names::name_of_hub;
 use dv_catalog::{Catalog, FeedDef, HubDef, TableId};
 use dv_records::{EffectRow, HubRow, LinkRow, MultiRow, Rows, SatRow, StatusRow};
 use dv_text::{Memory, Stamp, Text};
@@ -47,23 +48,12 @@ fn hub_header(alloc: Global, hub: &HubDef) -> Result<Fields, Memory>
     Ok(header)
 }
 
-// The name of the hub at a place; none where there is no such hub.
-fn name_at(catalog: &Catalog, hub: u32) -> &[u8]
-    ensures { result.now ≡ hub_name (slice_get catalog.now.hubs hub) }
-{
-    if hub < catalog.hub_count() {
-        catalog.hub(hub).name.bytes()
-    } else {
-        b""
-    }
-}
-
 // The names of hubs, by their places.
 fn push_hub_names(catalog: &Catalog, header: &mut Fields, hubs: &[u32]) -> Result<(), Memory>
     ensures { OnOk result (header.new ≡ header.old ++ map (λ hub. hub_name (slice_get catalog.now.hubs hub)) hubs.now) }
 {
     for hub in hubs {
-        header.push(name_at(catalog, *hub))?;
+        header.push(name_of_hub(catalog, *hub))?;
     }
     Ok(())
 }

@@ -12,6 +12,7 @@ ghost use Rattle.dv_texts.specs.Writers.{IsBetweenRecords};
 
 use crate::csv_texts::{new_writer, put_record, put_row, text_of};
 use crate::fields::Fields;
+use crate::names::name_of_feed;
 use crate::recorded::Recorded;
 use csv::Writer;
 use dv_catalog::Catalog;
@@ -27,24 +28,13 @@ struct StatedHead<'a> {
     head: &'a WindowHead,
 }
 
-// The name of the feed at a place; without bytes where there is no such feed.
-fn name_at(catalog: &Catalog, feed: u32) -> &[u8]
-    ensures { result.now ≡ feed_name (slice_get catalog.now.feeds feed) }
-{
-    if feed < catalog.feed_count() {
-        catalog.feed(feed).name.bytes()
-    } else {
-        b""
-    }
-}
-
 // Puts the names of feeds behind others, each with a space before it.
 fn push_names(names: &mut Vec<u8>, catalog: &Catalog, feeds: &[u32]) -> Result<(), Memory>
     ensures { OnOk result (names.new.items ≡ names.old.items ++ flat_map (λ feed. 32 ∷ feed_name (slice_get catalog.now.feeds feed)) feeds.now) }
 {
     for feed in feeds {
         names.push(b' ')?;
-        names.extend_from_slice(name_at(catalog, *feed))?;
+        names.extend_from_slice(name_of_feed(catalog, *feed))?;
     }
     Ok(())
 }
@@ -57,7 +47,7 @@ fn joined_names(catalog: &Catalog, feeds: &[u32]) -> Result<Vec<u8>, Memory>
     let Some((first, rest)) = feeds.split_first() else {
         return Ok(Vec::new(alloc));
     };
-    let mut names = Vec::from_slice(alloc, name_at(catalog, *first))?;
+    let mut names = Vec::from_slice(alloc, name_of_feed(catalog, *first))?;
     push_names(&mut names, catalog, rest)?;
     Ok(names)
 }

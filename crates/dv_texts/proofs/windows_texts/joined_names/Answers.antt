@@ -6,5 +6,5 @@ pub returns : goal.returns
 returns c =
     all_spaced (λ feed. feed_name (slice_get c.args.catalog.now.feeds feed)) c.args.feeds.now c.in-Some.rest.now c.in-Some.first.now _ _
     c.in-Some.ensures.cases.0
-    (c.in_ok-names.ensures.items ∙ c.name_at.ensures)
+    (c.in_ok-names.ensures.items ∙ c.name_of_feed.ensures)
     c.in_ok-push_names.ensures
