@@ -3,6 +3,9 @@ pub mod HubContents
 pub mod NoNames
 pub mod OfferedMarts
 pub mod OfferedTables
+pub mod PathBridges
+pub mod PathFeeds
+pub mod PathsBack
 pub mod PitCells
 pub mod TableRecords
 pub mod VaultMarts

@@ -1,15 +1,16 @@
 -- A mart that a word names is what the word names.
-use Rattle.dv_mart.proofs.Vocabulary.{◌≡◌, ℕ, List, Option, Some, None, sym, IfSome, option_and_then, Mapping, What, Table, IsOffered, if_mart, offered_mart, offered_what}
-use Rattle.dv_mart.specs.declared.whats.What.TheVariants.{Pit}
+use Rattle.dv_mart.proofs.Vocabulary.{◌≡◌, ℕ, List, Option, Some, None, sym, IfSome, option_and_then, Mapping, What, Table, IsOffered, if_mart, offered_mart, what_of}
+use Rattle.dv_mart.specs.declared.whats.What.TheVariants.{Bridge, Pit}
 
 mart_itself : (named : Option What) (what : What) → option_and_then if_mart named ≡ Some what → named ≡ Some what
 mart_itself None what e = let no : None ≡ Some what = e in cc
 mart_itself (Some (Table table)) what e = let no : None ≡ Some what = e in cc
 mart_itself (Some (Pit hub)) what e = let no : None ≡ Some what = e in cc
+mart_itself (Some (Bridge path)) what e = let no : None ≡ Some what = e in cc
 mart_itself (Some named) what e = e
 
-pub mart_named : (mapping : Mapping) (word : List ℕ) (what : What) → offered_mart mapping word ≡ Some what → offered_what mapping word ≡ Some what
-mart_named mapping word what e = mart_itself (offered_what mapping word) what e
+pub mart_named : (mapping : Mapping) (word : List ℕ) (what : What) → offered_mart mapping word ≡ Some what → what_of mapping word ≡ Some what
+mart_named mapping word what e = mart_itself (what_of mapping word) what e
 
 pub marts_offered : (mapping : Mapping) (word : List ℕ) (named : Option What) → named ≡ offered_mart mapping word → IfSome named (IsOffered mapping)
 marts_offered mapping word None e = tt

@@ -1,9 +1,9 @@
--- What an offered word can name: a feed or a hub of the mapping, a feed that has an effectivity table, or a table.
+-- What an offered word can name: a feed, a hub or a path of the mapping, a feed that has an effectivity table, or a table.
 use Rattle.dv_mart.proofs.Vocabulary.{◌≡◌, ℕ, ◌<◌, Bool, true, false, List, [], ◌∷◌, Option, Some, None, refl, subst, arith, codes, length, nat_lt, option_map, slice_get, Contains, cond, if◌then◌else◌, option_and_then, position_or_len, bytes_eq, nat_tests, TableId, Effect}
 use Rattle.dv_mart.proofs.Vocabulary.{Mapping, first_of, table_name, tables, found_member, What, Feed, Period, Table, IsOffered, behind, driver_feed_place, feed_place, feed_word, has_driver, if_driver, period_word, table_named, table_word}
 use Rattle.dv_mart.proofs.DrivenFeeds.{has_effect}
-use Rattle.dv_mart.specs.Whats.{hub_place, hub_word, pit_word}
-use Rattle.dv_mart.specs.declared.whats.What.TheVariants.{Hub, Pit}
+use Rattle.dv_mart.specs.Whats.{bridge_word, hub_place, hub_word, path_place, path_word, pit_word}
+use Rattle.dv_mart.specs.declared.whats.What.TheVariants.{Bridge, Hub, Path, Pit}
 
 abbrev pub CanBe : Mapping → What → Type 0
 CanBe mapping (Feed feed) = feed < length mapping.feeds
@@ -11,7 +11,8 @@ CanBe mapping (Hub hub) = hub < length mapping.hubs
 CanBe mapping (Pit hub) = hub < length mapping.hubs
 CanBe mapping (Period feed) = Contains (tables mapping) (Effect feed)
 CanBe mapping (Table table) = Contains (tables mapping) table
-CanBe mapping what = ⊥
+CanBe mapping (Path path) = path < length mapping.paths
+CanBe mapping (Bridge path) = path < length mapping.paths
 
 found_under : (n i count : ℕ) → cond (nat_lt n count) (Some n) None ≡ Some i → i < count
 found_under n i count e = by (nat_lt n count) refl e
@@ -78,6 +79,19 @@ hub_named mapping make fits (Some name) what e = by (hub_place mapping name) ref
         let same : make hub ≡ what = cc in
         subst (CanBe mapping) same (fits hub (found_under (position_or_len (λ hub. bytes_eq hub.name name) mapping.hubs) hub (length mapping.hubs) at))
 
+-- a path, as its mart or as its bridge table
+path_named : (mapping : Mapping) (make : ℕ → What) → ((path : ℕ) → path < length mapping.paths → CanBe mapping (make path)) → (rest : Option (List ℕ)) (what : What)
+    → option_map make (option_and_then (path_place mapping) rest) ≡ Some what → CanBe mapping what
+path_named mapping make fits None what e = let no : None ≡ Some what = e in cc
+path_named mapping make fits (Some name) what e = by (path_place mapping name) refl e
+  where
+    by : (place : Option ℕ) → path_place mapping name ≡ place → option_map make place ≡ Some what → CanBe mapping what
+    by None at is = let no : None ≡ Some what = is in cc
+    by (Some path) at is =
+        let got : Some (make path) ≡ Some what = is in
+        let same : make path ≡ what = cc in
+        subst (CanBe mapping) same (fits path (found_under (position_or_len (λ path. bytes_eq path.name name) mapping.paths) path (length mapping.paths) at))
+
 -- the first word that names something
 either : (mapping : Mapping) (first : Option What) (rest : List (Option What)) (what : What) → (first ≡ Some what → CanBe mapping what) → (first_of rest ≡ Some what → CanBe mapping what)
     → first_of (first ∷ rest) ≡ Some what → CanBe mapping what
@@ -89,12 +103,14 @@ nothing mapping what e = let no : None ≡ Some what = e in cc
 
 pub can_be : (mapping : Mapping) (what : What) → IsOffered mapping what → CanBe mapping what
 can_be mapping what offered =
-    either mapping (feed_word mapping word) (hub_word mapping word ∷ period_word mapping word ∷ table_word mapping word ∷ pit_word mapping word ∷ []) what (feed_named mapping (behind (codes "feed:") word) what) (
-    either mapping (hub_word mapping word) (period_word mapping word ∷ table_word mapping word ∷ pit_word mapping word ∷ []) what (hub_named mapping (λ hub. Hub hub) (λ hub fits. fits) (behind (codes "hub:") word) what) (
-    either mapping (period_word mapping word) (table_word mapping word ∷ pit_word mapping word ∷ []) what (period_named mapping (behind (codes "period:") word) what) (
-    either mapping (table_word mapping word) (pit_word mapping word ∷ []) what (table_found mapping (behind (codes "table:") word) what) (
-    either mapping (pit_word mapping word) [] what (hub_named mapping (λ hub. Pit hub) (λ hub fits. fits) (behind (codes "pit:") word) what)
-    (nothing mapping what)))))
+    either mapping (feed_word mapping word) (hub_word mapping word ∷ path_word mapping word ∷ period_word mapping word ∷ table_word mapping word ∷ pit_word mapping word ∷ bridge_word mapping word ∷ []) what (feed_named mapping (behind (codes "feed:") word) what) (
+    either mapping (hub_word mapping word) (path_word mapping word ∷ period_word mapping word ∷ table_word mapping word ∷ pit_word mapping word ∷ bridge_word mapping word ∷ []) what (hub_named mapping (λ hub. Hub hub) (λ hub fits. fits) (behind (codes "hub:") word) what) (
+    either mapping (path_word mapping word) (period_word mapping word ∷ table_word mapping word ∷ pit_word mapping word ∷ bridge_word mapping word ∷ []) what (path_named mapping (λ path. Path path) (λ path fits. fits) (behind (codes "path:") word) what) (
+    either mapping (period_word mapping word) (table_word mapping word ∷ pit_word mapping word ∷ bridge_word mapping word ∷ []) what (period_named mapping (behind (codes "period:") word) what) (
+    either mapping (table_word mapping word) (pit_word mapping word ∷ bridge_word mapping word ∷ []) what (table_found mapping (behind (codes "table:") word) what) (
+    either mapping (pit_word mapping word) (bridge_word mapping word ∷ []) what (hub_named mapping (λ hub. Pit hub) (λ hub fits. fits) (behind (codes "pit:") word) what) (
+    either mapping (bridge_word mapping word) [] what (path_named mapping (λ path. Bridge path) (λ path fits. fits) (behind (codes "bridge:") word) what)
+    (nothing mapping what)))))))
     offered.offered
   where
     word : List ℕ

@@ -9,7 +9,7 @@ pub use Rattle.dv_catalog.specs.declared.tables.TableId.{TableId}
 pub use Rattle.dv_catalog.specs.declared.tables.TableId.TheVariants.{Effect, Hub, Link, Multi, Sat, Status}
 pub use Rattle.dv_mart.specs.MartTexts.{HasKind, mart_text, raw_text, rows_behind}
 pub use Rattle.dv_mart.specs.OfferedMarts.{IsOffered}
-pub use Rattle.dv_mart.specs.Whats.{behind, driver_feed_place, feed_place, feed_word, has_driver, if_driver, if_mart, offered_mart, offered_what, period_word, table_named, table_word}
+pub use Rattle.dv_mart.specs.Whats.{behind, driver_feed_place, feed_place, feed_word, has_driver, if_driver, if_mart, offered_mart, period_word, table_named, table_word, what_of}
 pub use Rattle.dv_mart.specs.declared.whats.What.{What}
 pub use Rattle.dv_mart.specs.declared.whats.What.TheVariants.{Feed, Period, Table}
 pub use Rattle.dv_records.proofs.VaultRows.{vault_holds}

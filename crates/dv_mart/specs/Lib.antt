@@ -1,6 +1,7 @@
 pub mod HubContents
 pub mod MartTexts
 pub mod OfferedMarts
+pub mod PathTables
 pub mod PitCells
 pub mod QueryTexts
 pub mod Whats

@@ -1,5 +1,6 @@
 -- The text of a mart or a table at a date: of marts over the sealed windows, of raw tables by the rows that the store has.
-use Rattle.std.specs.Prelude.{◌≡◌, ℕ, true, List, [], Option, Some, None, Result, Ok, Err, slice_get, if◌then◌else◌}
+use Rattle.std.specs.Prelude.{◌≡◌, ℕ, Bool, true, false, List, [], Option, Some, None, Result, Ok, Err, slice_get, if◌then◌else◌}
+use Rattle.std.specs.Option.{option_map_or}
 use Rattle.dv_text.specs.declared.rows.Window.{Window}
 use Rattle.dv_text.specs.Keys.{Hashes}
 use Rattle.dv_catalog.specs.declared.entries.FeedDef.{FeedDef}
@@ -55,6 +56,10 @@ path_text_by mapping sealed path date def = path_text mapping (path_feeds def) (
 abbrev pub bridge_text_by : Mapping → Hashes → List Window → ℕ → ℕ → Option PathDef → List ℕ
 bridge_text_by mapping hashes sealed path date def =
     bridge_text mapping (path_feeds def) date (bridge mapping hashes sealed path date)
+
+-- some first steps of the path at a place give too many rows
+abbrev pub is_path_too_large : Mapping → List Window → ℕ → ℕ → Bool
+is_path_too_large mapping sealed path date = option_map_or (is_too_large mapping sealed date) (slice_get mapping.paths path) false
 
 -- what is asked of a path: its text, or the rule Q3, where some first steps of the path give too many rows
 abbrev pub if_not_too_large : Mapping → List Window → ℕ → Option PathDef → List ℕ → Result (List ℕ) QueryRule

@@ -67,18 +67,13 @@ what_of mapping word =
     feed_word mapping word ∷ hub_word mapping word ∷ path_word mapping word ∷ period_word mapping word ∷ table_word mapping word
     ∷ pit_word mapping word ∷ bridge_word mapping word ∷ [])
 
--- what this stage offers: the marts of feeds and of hubs, the periods of feeds with a driver, the raw tables, and the
--- point-in-time tables of hubs
-abbrev pub offered_what : Mapping → List ℕ → Option What
-offered_what mapping word =
-    first_of (feed_word mapping word ∷ hub_word mapping word ∷ period_word mapping word ∷ table_word mapping word ∷ pit_word mapping word ∷ [])
-
--- a mart itself; a raw table and a point-in-time table are none
+-- a mart itself; a raw table, a point-in-time table and a bridge table are none
 abbrev pub if_mart : What → Option What
 if_mart (Table table) = None
 if_mart (Pit hub) = None
+if_mart (Bridge path) = None
 if_mart what = Some what
 
--- the mart that a word names; a raw table and a point-in-time table are none
+-- the mart that a word names; a raw table, a point-in-time table and a bridge table are none
 abbrev pub offered_mart : Mapping → List ℕ → Option What
-offered_mart mapping word = option_and_then if_mart (offered_what mapping word)
+offered_mart mapping word = option_and_then if_mart (what_of mapping word)

@@ -1,27 +1,30 @@
 //! The marts of feeds and of their periods over the sealed windows of a vault, and the text of what is offered, at a date.
 
-ghost use Rattle.std.specs.Prelude.{◌≡◌, ◌<◌, Contains, Err, IfErr, IfOk, List as list_of, Ok, length, slice_get};
+ghost use Rattle.std.specs.Prelude.{◌≡◌, ◌<◌, Contains, Err, IfErr, IfOk, IsErrOf, List as list_of, Ok, length, slice_get};
 ghost use Rattle.dv_text.specs.declared.rows.Window.{Window};
 ghost use Rattle.dv_text.specs.Keys.{Hashes};
 ghost use Rattle.dv_catalog.specs.Tables.{tables};
 ghost use Rattle.dv_records.specs.Marts as marts;
 ghost use Rattle.dv_vault.specs.Vaults.{HasSealed};
 ghost use Rattle.dv_records.specs.Snapshots as snapshots;
+ghost use Rattle.dv_bridge.specs.ZeroKeys.{HasZeroKeys};
 ghost use Rattle.dv_mart.specs.MartTexts as spec;
 ghost use Rattle.dv_texts.specs.Texts as texts;
 ghost use Rattle.dv_mart.specs.declared.query_rules.QueryRule.TheVariants as rules;
 ghost use Rattle.dv_mart.specs.OfferedMarts.{IsOffered};
 
+use crate::bridges::bridge_rows;
 use crate::hub_marts::hub_mart;
 use crate::lent_texts::lent_feed_text;
 use crate::mart_faults::MartFault;
+use crate::path_marts::path_mart;
 use crate::pits::pit_rows;
 use crate::vault_tables::table_text;
 use crate::whats::What;
 use dv_catalog::TableId;
 use dv_records::PeriodRow;
 use dv_text::{List, Memory, NRow, Stamp, Text};
-use dv_texts::{hub_text, period_text, pit_text};
+use dv_texts::{bridge_text, hub_text, path_text, period_text, pit_text};
 use dv_vault::Vault;
 use std::alloc::Global;
 
@@ -81,31 +84,51 @@ fn pit_mart_text(alloc: Global, vault: &Vault, hub: u32, date: Stamp) -> Result<
     pit_text(alloc, vault.catalog(), hub, date, rows.items())
 }
 
-// The text of what is offered.
-fn offered_text(alloc: Global, vault: &Vault, what: &What, date: Stamp) -> Result<Text, Memory>
-    requires { IsOffered vault.now.mapping what.now }
-    ensures { IfOk result (λ text. (hashes : Hashes) (sealed : list_of Window) → HasSealed hashes sealed vault.now
-        → spec.mart_text vault.now.mapping hashes sealed vault.now.tables what.now date ≡ Ok text) }
+// The text of a path's mart.
+fn path_mart_text(alloc: Global, vault: &Vault, path: u32, date: Stamp) -> Result<Text, MartFault>
+    requires { path < length vault.now.mapping.paths }
+    ensures text { IfOk result (λ text. (hashes : Hashes) (sealed : list_of Window) → HasZeroKeys hashes → HasSealed hashes sealed vault.now
+        → spec.mart_text vault.now.mapping hashes sealed vault.now.tables (What.Path path) date ≡ Ok text) }
+    ensures too_large { IsErrOf result MartFault.TooLarge → (hashes : Hashes) (sealed : list_of Window) → HasZeroKeys hashes → HasSealed hashes sealed vault.now
+        → spec.mart_text vault.now.mapping hashes sealed vault.now.tables (What.Path path) date ≡ Err (rules.TooLarge (spec.path_name vault.now.mapping (What.Path path))) }
 {
-    match what {
-        What::Feed(feed) => feed_mart_text(alloc, vault, *feed, date),
-        What::Period(feed) => period_mart_text(alloc, vault, *feed, date),
-        What::Hub(hub) => hub_mart_text(alloc, vault, *hub, date),
-        What::Table(table) => table_text(alloc, vault, *table, date),
-        What::Pit(hub) => pit_mart_text(alloc, vault, *hub, date),
-        What::Path(_) | What::Bridge(_) => unreachable!(),
-    }
+    let rows = path_mart(alloc, vault, path, date)?;
+    let catalog = vault.catalog();
+    let text = path_text(alloc, catalog, catalog.path(path), rows.items())?;
+    Ok(text)
 }
 
-/// The text of a mart over the sealed windows, or of a raw table with its rows that are not later than the date.
-/// Condition: a word that is offered names the mart or the table. Only of a path could a mart be too large: none
-/// is offered in this stage, so that `TooLarge` is never answered.
+// The text of a path's bridge table.
+fn bridge_mart_text(alloc: Global, vault: &Vault, path: u32, date: Stamp) -> Result<Text, MartFault>
+    requires { path < length vault.now.mapping.paths }
+    ensures text { IfOk result (λ text. (hashes : Hashes) (sealed : list_of Window) → HasZeroKeys hashes → HasSealed hashes sealed vault.now
+        → spec.mart_text vault.now.mapping hashes sealed vault.now.tables (What.Bridge path) date ≡ Ok text) }
+    ensures too_large { IsErrOf result MartFault.TooLarge → (hashes : Hashes) (sealed : list_of Window) → HasZeroKeys hashes → HasSealed hashes sealed vault.now
+        → spec.mart_text vault.now.mapping hashes sealed vault.now.tables (What.Bridge path) date ≡ Err (rules.TooLarge (spec.path_name vault.now.mapping (What.Bridge path))) }
+{
+    let rows = bridge_rows(alloc, vault, path, date)?;
+    let catalog = vault.catalog();
+    let text = bridge_text(alloc, catalog, catalog.path(path), date, rows.items())?;
+    Ok(text)
+}
+
+/// The text of a mart over the sealed windows, or of a table with its rows that are not later than the date.
+/// Condition: a word names the mart or the table. `TooLarge` comes exactly where a mart or a bridge table is of a path
+/// of which some first steps give more than 1,000,000 rows.
 pub fn mart_text(alloc: Global, vault: &Vault, what: &What, date: Stamp) -> Result<Text, MartFault>
     requires offered { IsOffered vault.now.mapping what.now }
-    ensures text { IfOk result (λ text. (hashes : Hashes) (sealed : list_of Window) → HasSealed hashes sealed vault.now
+    ensures text { IfOk result (λ text. (hashes : Hashes) (sealed : list_of Window) → HasZeroKeys hashes → HasSealed hashes sealed vault.now
         → spec.mart_text vault.now.mapping hashes sealed vault.now.tables what.now date ≡ Ok text) }
-    ensures too_large { IfErr result (λ fault. fault ≡ MartFault.TooLarge → (hashes : Hashes) (sealed : list_of Window) → HasSealed hashes sealed vault.now
+    ensures too_large { IfErr result (λ fault. fault ≡ MartFault.TooLarge → (hashes : Hashes) (sealed : list_of Window) → HasZeroKeys hashes → HasSealed hashes sealed vault.now
         → spec.mart_text vault.now.mapping hashes sealed vault.now.tables what.now date ≡ Err (rules.TooLarge (spec.path_name vault.now.mapping what.now))) }
 {
-    Ok(offered_text(alloc, vault, what, date)?)
+    match what {
+        What::Path(path) => path_mart_text(alloc, vault, *path, date),
+        What::Bridge(path) => bridge_mart_text(alloc, vault, *path, date),
+        What::Feed(feed) => Ok(feed_mart_text(alloc, vault, *feed, date)?),
+        What::Period(feed) => Ok(period_mart_text(alloc, vault, *feed, date)?),
+        What::Hub(hub) => Ok(hub_mart_text(alloc, vault, *hub, date)?),
+        What::Table(table) => Ok(table_text(alloc, vault, *table, date)?),
+        What::Pit(hub) => Ok(pit_mart_text(alloc, vault, *hub, date)?),
+    }
 }

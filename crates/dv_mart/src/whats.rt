@@ -84,6 +84,32 @@ fn driver_feed(catalog: &Catalog, name: &Text) -> Option<u32>
     }
 }
 
+// The place of the path that a word of a kind names.
+fn path_behind(
+    alloc: Global,
+    catalog: &Catalog,
+    kind: &[u8],
+    word: &Text,
+) -> Result<Option<u32>, Memory>
+    ensures { IfOk result (λ path. path ≡ option_and_then (spec.path_place catalog.now) (spec.behind kind.now word.now)) }
+{
+    let Some(rest) = behind(kind, word.bytes()) else {
+        return Ok(None);
+    };
+    let name = Text::of(alloc, rest)?;
+    Ok(catalog.find_path(&name))
+}
+
+// The mart of a path that a word names.
+fn path_word(alloc: Global, catalog: &Catalog, word: &Text) -> Result<Option<What>, Memory>
+    ensures { IfOk result (λ what. what ≡ spec.path_word catalog.now word.now) }
+{
+    match path_behind(alloc, catalog, b"path:", word)? {
+        Some(path) => Ok(Some(What::Path(path))),
+        None => Ok(None),
+    }
+}
+
 // The mart of a feed's periods that a word names.
 fn period_word(alloc: Global, catalog: &Catalog, word: &Text) -> Result<Option<What>, Memory>
     ensures { IfOk result (λ what. what ≡ spec.period_word catalog.now word.now) }
@@ -122,23 +148,32 @@ fn pit_word(alloc: Global, catalog: &Catalog, word: &Text) -> Result<Option<What
     }
 }
 
-// A mart itself; a raw table and a point-in-time table are none.
+// The bridge table of a path that a word names.
+fn bridge_word(alloc: Global, catalog: &Catalog, word: &Text) -> Result<Option<What>, Memory>
+    ensures { IfOk result (λ what. what ≡ spec.bridge_word catalog.now word.now) }
+{
+    match path_behind(alloc, catalog, b"bridge:", word)? {
+        Some(path) => Ok(Some(What::Bridge(path))),
+        None => Ok(None),
+    }
+}
+
+// A mart itself; a raw table, a point-in-time table and a bridge table are none.
 fn if_mart(what: What) -> Option<What>
     ensures { result ≡ spec.if_mart what }
 {
     match what {
-        What::Table(_) | What::Pit(_) => None,
-        What::Feed(_) | What::Hub(_) | What::Path(_) => Some(what),
-        What::Period(_) | What::Bridge(_) => Some(what),
+        What::Table(_) | What::Pit(_) | What::Bridge(_) => None,
+        What::Feed(_) | What::Hub(_) | What::Path(_) | What::Period(_) => Some(what),
     }
 }
 
 impl What {
-    /// What a word names; none where it names nothing that is offered. In this stage the marts of feeds are
-    /// offered, as `feed:F`, those of hubs, as `hub:H`, the periods of feeds with a driver, as `period:F`, the raw
-    /// tables, as `table:T`, and the point-in-time tables of hubs, as `pit:H`.
+    /// What a word names; none where it names nothing of the mapping. The marts of feeds are named as `feed:F`, those
+    /// of hubs as `hub:H`, those of paths as `path:P`, the periods of feeds with a driver as `period:F`, the raw tables
+    /// as `table:T`, the point-in-time tables of hubs as `pit:H`, and the bridge tables of paths as `bridge:P`.
     pub fn read(alloc: Global, catalog: &Catalog, word: &Text) -> Result<Option<What>, Memory>
-        ensures { IfOk result (λ what. what ≡ spec.offered_what catalog.now word.now) }
+        ensures { IfOk result (λ what. what ≡ spec.what_of catalog.now word.now) }
     {
         if let Some(what) = feed_word(alloc, catalog, word)? {
             return Ok(Some(what));
@@ -146,16 +181,22 @@ impl What {
         if let Some(what) = hub_word(alloc, catalog, word)? {
             return Ok(Some(what));
         }
+        if let Some(what) = path_word(alloc, catalog, word)? {
+            return Ok(Some(what));
+        }
         if let Some(what) = period_word(alloc, catalog, word)? {
             return Ok(Some(what));
         }
-        match table_word(alloc, catalog, word)? {
+        if let Some(what) = table_word(alloc, catalog, word)? {
+            return Ok(Some(what));
+        }
+        match pit_word(alloc, catalog, word)? {
             Some(what) => Ok(Some(what)),
-            None => pit_word(alloc, catalog, word),
+            None => bridge_word(alloc, catalog, word),
         }
     }
 
-    /// What a word names, where it is a mart: a raw table and a point-in-time table are none.
+    /// What a word names, where it is a mart: a raw table, a point-in-time table and a bridge table are none.
     pub fn read_mart(alloc: Global, catalog: &Catalog, word: &Text) -> Result<Option<What>, Memory>
         ensures mart { IfOk result (λ what. what ≡ spec.offered_mart catalog.now word.now) }
         ensures offered { IfOk result (λ what. IfSome what (IsOffered catalog.now)) }

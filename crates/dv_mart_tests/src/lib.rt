@@ -10,6 +10,8 @@ mod multis;
 #[cfg(test)]
 mod offices;
 #[cfg(test)]
+mod paths;
+#[cfg(test)]
 mod periods;
 #[cfg(test)]
 mod pits;

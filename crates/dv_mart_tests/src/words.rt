@@ -5,7 +5,7 @@ use dv_text::{Stamp, Text};
 use std::process::Abort;
 use std::test::Fail;
 
-// Two feeds of a hub, and two of a link, of which the second has a driver.
+// Two feeds of a hub, two of a link, of which the second has a driver, and a path over these.
 const MAPPING: &[u8] = b"[[hub]]\n\
     name = \"customer\"\n\
     parts = 1\n\
@@ -35,7 +35,11 @@ const MAPPING: &[u8] = b"[[hub]]\n\
     source = \"shop\"\n\
     link = \"owned\"\n\
     keys = [[\"CUST_NO\"], [\"ITEM\"]]\n\
-    driver = [\"item\"]\n";
+    driver = [\"item\"]\n\
+    [[path]]\n\
+    name = \"sold\"\n\
+    feeds = [\"purchases\", \"owners\"]\n\
+    via = [\"item\"]\n";
 
 fn prints(rt: &(impl Abort + AllocGlobal), rule: &QueryRule, expected: &str) -> Result<(), Fail> {
     let printed = rule.printed(rt.alloc())?;
@@ -91,7 +95,7 @@ fn rules_are_printed_with_their_dates(rt: HostRuntime) -> Result<(), Fail> {
 }
 
 #[test]
-fn words_name_the_marts_of_feeds_and_hubs_periods_and_tables(rt: HostRuntime) -> Result<(), Fail> {
+fn words_name_marts_and_tables(rt: HostRuntime) -> Result<(), Fail> {
     let alloc = rt.alloc();
     let catalog = read_catalog(alloc, MAPPING).ok().ok_or("no mapping")?;
     for (word, expected) in [
@@ -123,12 +127,19 @@ fn words_name_the_marts_of_feeds_and_hubs_periods_and_tables(rt: HostRuntime) ->
         ("pit:customer", Some(What::Pit(0))),
         ("pit:item", Some(What::Pit(1))),
         ("pit:owned", None),
-        ("path:sold", None),
+        ("path:sold", Some(What::Path(0))),
+        ("path:owned", None),
+        ("path:purchases", None),
+        ("path:", None),
+        ("bridge:sold", Some(What::Bridge(0))),
+        ("bridge:owned", None),
+        ("bridge:item", None),
+        ("bridge:", None),
     ] {
         let word = Text::of(alloc, word.as_bytes())?;
         assert_eq!(rt; What::read(alloc, &catalog, &word)?, expected);
         let mart = match expected {
-            Some(What::Table(_) | What::Pit(_)) => None,
+            Some(What::Table(_) | What::Pit(_) | What::Bridge(_)) => None,
             what => what,
         };
         assert_eq!(rt; What::read_mart(alloc, &catalog, &word)?, mart);
