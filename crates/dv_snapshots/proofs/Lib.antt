@@ -1,8 +1,10 @@
+pub mod HubCounts
 pub mod HubFeedCounts
 pub mod Places
 pub mod PlannedSnapshots
 pub mod RefusedStates
 pub mod SnapTables
+pub mod SoundTables
 pub mod StandingRows
 pub mod StateTexts
 pub mod StoredPages

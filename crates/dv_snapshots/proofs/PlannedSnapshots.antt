@@ -1,11 +1,10 @@
 -- What is decided of a snapshot is what a state decides whose sealed windows a vault has.
-use Rattle.dv_snapshots.proofs.Vocabulary.{Hashes, IsBuilt, IsOf, List, None, Option, RawVault, SnapAnswer, SnapHead, SnapTable, Some, State, ap, early_refusal, last_head, last_load, late_refusal, option_or}
-use Rattle.dv_snapshots.proofs.Vocabulary.{snap_head, snap_tables, snapshot, sym, tables_read, ℕ, ◌∙◌, ◌≡◌}
+use Rattle.dv_snapshots.proofs.Vocabulary.{Hashes, IsOf, List, None, Option, RawVault, SnapAnswer, SnapHead, SnapTable, Some, State, ap, early_refusal, first_large, last_head, last_load, late_refusal, snap_head, snap_tables, snapshot, sym, ℕ, ◌∙◌, ◌≡◌}
+use Rattle.dv_records.specs.declared.answers.SnapAnswer.TheVariants.{TooLarge}
 use Rattle.dv_records.specs.Steps.{snapshot_refusal}
 use Rattle.dv_start.specs.Restored.{heads_of_state}
 use Rattle.dv_vault.proofs.AddedWindows.{last_same}
-use Rattle.dv_snapshots.proofs.RefusedStates.{refusal_told, refused_first}
-use Rattle.dv_snapshots.proofs.SnapTables.{no_paths, tables_tell}
+use Rattle.dv_snapshots.proofs.RefusedStates.{refusal_told, refused_first, refused_large}
 
 module _ (hashes : Hashes) (state : State) (raw : RawVault) (heads : List SnapHead) (date : ℕ) (of : IsOf hashes state raw heads) where
   abbrev own_head : SnapHead
@@ -21,21 +20,21 @@ module _ (hashes : Hashes) (state : State) (raw : RawVault) (heads : List SnapHe
   pub refused_early : (answer : SnapAnswer) → early_refusal (last_head raw.heads) heads date ≡ Some answer → snapshot_refusal raw.mapping hashes state date ≡ Some answer
   refused_early answer early = refused_first raw.mapping hashes state date answer (early_is ∙ early)
 
-  module _ (built : IsBuilt raw.mapping) (head : SnapHead) (tables : List SnapTable) (early : early_refusal (last_head raw.heads) heads date ≡ None) (tables_are : tables ≡ tables_read raw.mapping raw.tables date) (head_is : head ≡ snap_head date tables) where
-    tables_told : tables ≡ snap_tables raw.mapping hashes state.sealed date
-    tables_told = tables_are ∙ tables_tell hashes state.sealed raw date of.sealed_are built
+  -- one that a path gives
+  pub refused_by_path : (path : ℕ) → early_refusal (last_head raw.heads) heads date ≡ None → first_large raw.mapping state.sealed date ≡ Some path → snapshot_refusal raw.mapping hashes state date ≡ Some (TooLarge path)
+  refused_by_path path early large = refused_large raw.mapping hashes state date path (early_is ∙ early) large
 
+  module _ (head : SnapHead) (tables : List SnapTable) (tables_are : tables ≡ snap_tables raw.mapping hashes state.sealed date) (head_is : head ≡ snap_head date tables) where
     head_told : head ≡ own_head
-    head_told = head_is ∙ ap (snap_head date) tables_told
+    head_told = head_is ∙ ap (snap_head date) tables_are
 
     -- one that its head gives, or none
-    pub refused_late : (refusal : Option SnapAnswer) → late_refusal heads head ≡ refusal → snapshot_refusal raw.mapping hashes state date ≡ refusal
-    refused_late refusal late =
-        refusal_told raw.mapping hashes state date (no_paths raw.mapping built)
-        ∙ (λ i. option_or (early_is i) (late_refusal (sym of.heads_are i) own_head))
-        ∙ (λ i. option_or (early i) (late_refusal heads (sym head_told i)))
+    pub refused_late : early_refusal (last_head raw.heads) heads date ≡ None → first_large raw.mapping state.sealed date ≡ None → (refusal : Option SnapAnswer) → late_refusal heads head ≡ refusal → snapshot_refusal raw.mapping hashes state date ≡ refusal
+    refused_late early large refusal late =
+        refusal_told raw.mapping hashes state date (early_is ∙ early) large
+        ∙ (λ i. late_refusal (sym of.heads_are i) (sym head_told i))
         ∙ late
 
     -- it is the snapshot of the state
     pub snapshot_is : record { head = head; tables = tables } ≡ snapshot raw.mapping hashes state.sealed date
-    snapshot_is i = record { head = head_told i; tables = tables_told i }
+    snapshot_is i = record { head = head_told i; tables = tables_are i }

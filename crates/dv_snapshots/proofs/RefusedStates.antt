@@ -1,7 +1,7 @@
 -- The refusals of a snapshot, told from the last sealed load date and the heads of the stored ones, are those of a state.
-use Rattle.dv_snapshots.proofs.Vocabulary.{Hashes, List, Mapping, None, Option, Some, SnapAnswer, SnapHead, State, [], ap, arith, first_of, if◌then◌else◌, last_load, length-map, list_any-map, map, option_map, option_or, position, refl, snapshot, snapshots_weight, sum_by, sum_by-append, sum_by-cons, sym, ℕ, ◌+◌, ◌++◌, ◌==◌, ◌∙◌, ◌∷◌, ◌≡◌}
+use Rattle.dv_snapshots.proofs.Vocabulary.{Hashes, List, Mapping, None, Option, Some, SnapAnswer, SnapHead, State, [], ap, arith, first_large, first_of, if◌then◌else◌, last_load, length-map, list_any-map, map, option_map, option_or, refl, snapshot, snapshots_weight, sum_by, sum_by-append, sum_by-cons, sym, ℕ, ◌+◌, ◌++◌, ◌==◌, ◌∙◌, ◌∷◌, ◌≡◌}
 use Rattle.dv_records.specs.declared.answers.SnapAnswer.TheVariants.{Repeated, TooLarge}
-use Rattle.dv_records.specs.Steps.{full_with, future, is_too_large, snapshot_refusal, snapshots_full, taken, too_large}
+use Rattle.dv_records.specs.Steps.{full_with, future, snapshot_refusal, snapshots_full, taken, too_large}
 use Rattle.dv_form.specs.SnapshotHeads.{heads_weight}
 use Rattle.dv_snapshots.specs.Refusals.{early_refusal, late_refusal, taken_among}
 
@@ -10,12 +10,13 @@ sum_by-map : {X Y : Type 0} (w : Y → ℕ) (f : X → Y) (xs : List X) → sum_
 sum_by-map w f [] = refl
 sum_by-map w f (x ∷ xs) = sum_by-cons w (f x) (map f xs) ∙ ap (λ n. w (f x) + n) (sum_by-map w f xs) ∙ sym (sum_by-cons (λ x. w (f x)) x xs)
 
--- two answers that come first, and the later ones, of which the first is none
-in_turn : {X : Type 0} (a b late : Option X) → option_or a (option_or b (option_or None (option_or late None))) ≡ option_or (option_or a (option_or b None)) late
-in_turn (Some x) b late = refl
-in_turn None (Some y) late = refl
-in_turn None None (Some z) = refl
-in_turn None None None = refl
+-- the later two of four answers, where neither of the first two is given
+in_turn : {X : Type 0} (a b c late : Option X) → option_or a (option_or b None) ≡ None → option_or a (option_or b (option_or c (option_or late None))) ≡ option_or c late
+in_turn (Some x) b c late none = cc
+in_turn None (Some y) c late none = cc
+in_turn None None (Some z) late none = refl
+in_turn None None None (Some w) none = refl
+in_turn None None None None none = refl
 
 -- one of the two that come first
 first_given : {X : Type 0} (a b late : Option X) (x : X) → option_or a (option_or b None) ≡ Some x → option_or a (option_or b late) ≡ Some x
@@ -44,8 +45,8 @@ module _ (mapping : Mapping) (hashes : Hashes) (state : State) (date : ℕ) wher
   full_is : snapshots_full mapping hashes state date ≡ late_refusal heads (head_on date)
   full_is = (λ i. full_with (sym (length-map state.dates head_on) i) (weighs i))
 
-  no_path : mapping.paths ≡ [] → too_large mapping state date ≡ None
-  no_path none = ap (λ paths. option_map (λ path. TooLarge path) (position (is_too_large mapping state.sealed date) paths)) none
+  too_large_is : (path : Option ℕ) → first_large mapping state.sealed date ≡ path → too_large mapping state date ≡ option_map (λ path. TooLarge path) path
+  too_large_is path large = ap (option_map (λ path. TooLarge path)) large
 
   -- a refusal that is told before the tables are made
   pub refused_first : (answer : SnapAnswer) → early_refusal (last_load state.sealed) heads date ≡ Some answer → snapshot_refusal mapping hashes state date ≡ Some answer
@@ -53,8 +54,16 @@ module _ (mapping : Mapping) (hashes : Hashes) (state : State) (date : ℕ) wher
       (λ i. option_or (future state date) (option_or (taken_is i) (first_of (too_large mapping state date ∷ snapshots_full mapping hashes state date ∷ []))))
       ∙ first_given (future state date) (taken_among heads date) (first_of (too_large mapping state date ∷ snapshots_full mapping hashes state date ∷ [])) answer early
 
-  -- the first refusal: of those told before the tables are made, and then of the others, where the mapping has no paths
-  pub refusal_told : mapping.paths ≡ [] → snapshot_refusal mapping hashes state date ≡ option_or (early_refusal (last_load state.sealed) heads date) (late_refusal heads (head_on date))
-  refusal_told none =
-      (λ i. option_or (future state date) (option_or (taken_is i) (option_or (no_path none i) (option_or (full_is i) None))))
-      ∙ in_turn (future state date) (taken_among heads date) (late_refusal heads (head_on date))
+  module _ (early : early_refusal (last_load state.sealed) heads date ≡ None) (path : Option ℕ) (large : first_large mapping state.sealed date ≡ path) where
+    refusal_is : snapshot_refusal mapping hashes state date ≡ option_or (option_map (λ path. TooLarge path) path) (late_refusal heads (head_on date))
+    refusal_is =
+        (λ i. option_or (future state date) (option_or (taken_is i) (option_or (too_large_is path large i) (option_or (full_is i) None))))
+        ∙ in_turn (future state date) (taken_among heads date) (option_map (λ path. TooLarge path) path) (late_refusal heads (head_on date)) early
+
+  -- a path that is too large, where none is told before
+  pub refused_large : (path : ℕ) → early_refusal (last_load state.sealed) heads date ≡ None → first_large mapping state.sealed date ≡ Some path → snapshot_refusal mapping hashes state date ≡ Some (TooLarge path)
+  refused_large path early large = refusal_is early (Some path) large
+
+  -- what the head tells, where none is told before, and no path is too large
+  pub refusal_told : early_refusal (last_load state.sealed) heads date ≡ None → first_large mapping state.sealed date ≡ None → snapshot_refusal mapping hashes state date ≡ late_refusal heads (head_on date)
+  refusal_told early large = refusal_is early None large

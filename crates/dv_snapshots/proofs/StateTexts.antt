@@ -1,33 +1,46 @@
--- The text of a stored point-in-time table, where the store stands for a state that the office is in.
-use Rattle.dv_snapshots.proofs.Vocabulary.{Hashes, Key, List, None, Pits, Rows, SnapHead, Some, State, Store, ap, asked_of, flawed_row, head_at, length, pit, pits_in, read_rows, refl, sym, ℕ, ◌<◌, ◌∙◌, ◌≡◌, false}
+-- The text of a stored table of a snapshot, where the store stands for a state that the office is in.
+use Rattle.dv_snapshots.proofs.Vocabulary.{Asked, Hashes, Key, List, Mapping, None, SnapHead, SnapId, Some, State, Store, ap, asked_of, false, head_at, length, read_rows, refl, subst, sym, ℕ, ◌∙◌, ◌≡◌}
 use Rattle.dv_records.specs.declared.answers.Damage.{Damage}
-use Rattle.dv_snapshots.proofs.StandingRows.{head_dated, pits_sound, rows_stand}
-use Rattle.dv_snapshots.specs.StoredTexts.{IsStoredDamage, IsStoredText}
+use Rattle.dv_records.specs.declared.snapshots.SnapId.TheVariants.{Pit, Bridge}
+use Rattle.dv_snapshots.proofs.SoundTables.{unflawed_rows}
+use Rattle.dv_snapshots.proofs.StandingRows.{head_dated, rows_stand, table_rows}
+use Rattle.dv_snapshots.specs.StoredTexts.{HasTable, IsStoredDamage, IsStoredText, flawed_row, rows_text, table_text}
 use Rattle.dv_start.specs.Restored.{heads_of_state}
-use Rattle.dv_texts.specs.Texts.{pit_text}
 use Rattle.dv_window.specs.Offices.{Held, IsIn}
 
-module _ (hashes : Hashes) (state : State) (held : Held) (store : Store) (is : IsIn hashes state held (Some store)) (fresh : held.stale ≡ false) (hub date : ℕ) (under : hub < length held.vault.mapping.hubs) where
+-- the text of a table's own rows
+shown : (mapping : Mapping) (hashes : Hashes) (state : State) (date : ℕ) (id : SnapId) → rows_text mapping id date (table_rows mapping hashes state date id) ≡ table_text mapping hashes state.sealed id date
+shown mapping hashes state date (Pit hub) = refl
+shown mapping hashes state date (Bridge path) = refl
+
+-- what holds of what is asked for by one mapping and width holds of the same by the same
+pub asked_alike : (P : Mapping → ℕ → Asked → Type 0) (m m' : Mapping) (w w' : ℕ) (a a' : Asked) → m ≡ m' → w ≡ w' → a ≡ a' → P m w a → P m' w' a'
+asked_alike P m m' w w' a a' mapping width asked holds = subst (λ a. P m' w' a) asked (subst (λ w. P m' w a) width (subst (λ m. P m w a) mapping holds))
+
+module _ (hashes : Hashes) (state : State) (held : Held) (store : Store) (is : IsIn hashes state held (Some store)) (fresh : held.stale ≡ false) (id : SnapId) (date : ℕ) (has : HasTable held.vault.mapping id) where
+  abbrev mapping : Mapping
+  mapping = held.vault.mapping
+
   module _ (head : SnapHead) (found : head_at date held.snapshots ≡ Some head) where
-    of_state : head_at date (heads_of_state held.vault.mapping hashes state) ≡ Some head
+    of_state : head_at date (heads_of_state mapping hashes state) ≡ Some head
     of_state = ap (head_at date) (sym (is.stands fresh).snapshots_are) ∙ found
 
-    rows_are : read_rows (asked_of held.vault.mapping held.width hub head) store.snapshots ≡ Pits (pit held.vault.mapping hashes state.sealed hub date)
-    rows_are = rows_stand held.vault.mapping hashes state hub date held.width head of_state store (is.store_stands store refl) under
+    rows_are : read_rows (asked_of id head) store.snapshots ≡ table_rows mapping hashes state date id
+    rows_are = rows_stand mapping hashes state date id head of_state store (is.store_stands store refl) has
 
     dated : head.date ≡ date
-    dated = head_dated held.vault.mapping hashes state hub date held.width head of_state
+    dated = head_dated mapping hashes state date id head of_state
 
-    sound : ((refs : List Key) → length (hashes.hash refs) ≡ held.width) → flawed_row (asked_of held.vault.mapping held.width hub head) (read_rows (asked_of held.vault.mapping held.width hub head) store.snapshots) ≡ None
-    sound wide = ap (flawed_row (asked_of held.vault.mapping held.width hub head)) rows_are ∙ pits_sound held.vault.mapping hashes state hub date held.width head of_state wide
+    sound : ((refs : List Key) → length (hashes.hash refs) ≡ held.width) → flawed_row mapping held.width id (read_rows (asked_of id head) store.snapshots) ≡ None
+    sound wide = ap (flawed_row mapping held.width id) rows_are ∙ unflawed_rows mapping hashes state date held.width wide (is.stands fresh).sealed_are.valid id
 
   -- it has the state's table
-  pub text_stands : (text : List ℕ) → IsStoredText held hub date store.snapshots text → text ≡ pit_text held.vault.mapping hub date (pit held.vault.mapping hashes state.sealed hub date)
+  pub text_stands : (text : List ℕ) → IsStoredText held id date store.snapshots text → text ≡ table_text mapping hashes state.sealed id date
   text_stands text of =
       of.text_is.text_is
-      ∙ ap (λ (rows : Rows). pit_text held.vault.mapping hub of.head.date (pits_in rows)) (rows_are of.head of.head_is)
-      ∙ ap (λ d. pit_text held.vault.mapping hub d (pit held.vault.mapping hashes state.sealed hub date)) (dated of.head of.head_is)
+      ∙ (λ i. rows_text mapping id (dated of.head of.head_is i) (rows_are of.head of.head_is i))
+      ∙ shown mapping hashes state date id
 
   -- and there is no damage
-  pub undamaged : (damage : Damage) → IsStoredDamage held hub date store.snapshots damage → ((refs : List Key) → length (hashes.hash refs) ≡ held.width) → ⊥
+  pub undamaged : (damage : Damage) → IsStoredDamage held id date store.snapshots damage → ((refs : List Key) → length (hashes.hash refs) ≡ held.width) → ⊥
   undamaged damage of wide = let no : None ≡ Some damage.row = sym (sound of.head of.head_is wide) ∙ of.damage_is.row_is in cc

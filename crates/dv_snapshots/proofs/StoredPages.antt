@@ -1,9 +1,8 @@
--- What a page tells of a stored point-in-time table, behind the rows that were read before it.
-use Rattle.dv_snapshots.proofs.Vocabulary.{AreFirst, Asked, Bool, Flawed, Last, List, None, Option, PitRow, Rows, Some, TellsPage, [], all_pass, all_pass_both, ap, arith, drop, eqb-true, false, first_place, flaw_place, flawed_row, if◌then◌else◌, is_sound, is_unsound, length}
-use Rattle.dv_snapshots.proofs.Vocabulary.{length-take, list_all, min, nat_tests, nil_from_length, none_placed, not, not-false, option_map, page, passes_at, pits_in, position, refl, row_count, same_Some, subst, suc, sym, take, take-add, take-nil, take_all, true, unplaced, zero, ℕ}
+-- What a page tells of a stored table of a snapshot, behind the rows that were read before it.
+use Rattle.dv_snapshots.proofs.Vocabulary.{AreFirst, Bool, Flawed, Last, List, None, Option, Rows, Some, TellsPage, [], all_pass, all_pass_both, ap, arith, drop, eqb-true, false, first_flaw, first_place, flaw_in, flaw_place, if◌then◌else◌, length}
+use Rattle.dv_snapshots.proofs.Vocabulary.{length-take, list_all, min, nat_tests, none_placed, not, not-false, option_map, own_rows, page, passes_at, position, refl, row_count, same_Some, subst, suc, sym, take, take-add, take-nil, take_all, take_min, true, unplaced, zero, ℕ}
 use Rattle.dv_snapshots.proofs.Vocabulary.{◌+◌, ◌++◌, ◌-◌, ◌<◌, ◌==◌, ◌∙◌, ◌≡◌, ◌≤◌}
-use Rattle.dv_form.proofs.RowPages.{page_count, page_exact}
-use Rattle.dv_records.specs.declared.stores.Rows.TheVariants.{Pits}
+use Rattle.dv_form.proofs.RowPages.{page_count}
 use Rattle.dv_snapshots.proofs.Places.{position-behind, position-front}
 
 -- ---- lists
@@ -13,16 +12,8 @@ none_taken zero most = take-nil most
 none_taken (suc from) most = take-nil most
 
 -- as many first items as there are first items
-taken_exact : (n : ℕ) (rows : List PitRow) → take (length (take n rows)) rows ≡ take n rows
-taken_exact n rows = ap pits_in (page_exact n (Pits rows))
-
--- ---- pages
-
-pits-page : (from most : ℕ) (stored : Rows) → pits_in (page from most stored) ≡ take most (drop from (pits_in stored))
-pits-page from most (Pits rows) = refl
-pits-page from most other = sym (none_taken from most)
-
--- ---- flaws
+taken_exact : {X : Type 0} (n : ℕ) (xs : List X) → take (length (take n xs)) xs ≡ take n xs
+taken_exact n xs = ap (λ k. take k xs) (length-take n xs) ∙ take_min n xs
 
 -- the place of the first of so many rows
 abbrev first_unless : Bool → Option ℕ
@@ -42,122 +33,156 @@ placed_first count place some = by (count == 0) refl some
     by true e some = cc
     by false e some = let same : 0 ≡ place = same_Some 0 place some in (sym same, grind (arith, nat_tests, e))
 
-abbrev are_pits : Rows → Bool
-are_pits (Pits rows) = true
-are_pits rows = false
+first_of_some : (count : ℕ) → 0 < count → first_place count ≡ Some 0
+first_of_some count some = let not_none : (count == 0) ≡ false = grind (arith, nat_tests, some) in rw not_none refl
 
-pits-kind : (from most : ℕ) (rows : Rows) → are_pits (page from most rows) ≡ are_pits rows
-pits-kind from most (Pits rows) = refl
-pits-kind from most other = refl
+-- ---- a form
 
--- rows without a flaw are sound
-sound_page : (asked : Asked) (rows : Rows) → flaw_place asked rows ≡ None → list_all (is_sound asked) (pits_in rows) ≡ true
-sound_page asked (Pits rows) none = all_pass (is_sound asked) rows (λ row has. not-false (is_sound asked row) (none_placed (is_unsound asked) rows none row has))
-sound_page asked other none = refl
+module _ {R : Type 0} (own : Rows → Option (List R)) (is_sound : R → Bool) (paged : (from most : ℕ) (rows : Rows) → own (page from most rows) ≡ option_map (λ xs. take most (drop from xs)) (own rows)) where
+  abbrev is_unsound : R → Bool
+  is_unsound row = not (is_sound row)
 
--- and there are none of another kind
-none_other : (asked : Asked) (rows : Rows) → are_pits rows ≡ false → flaw_place asked rows ≡ None → row_count rows ≡ 0
-none_other asked (Pits rows) kind none = cc
-none_other asked other kind none = none_first (row_count other) none
+  abbrev numbered : Option ℕ → Option ℕ
+  numbered place = option_map (λ place. place + 1) place
 
--- the first of them is flawed
-first_other : (asked : Asked) (rows : Rows) (place : ℕ) → are_pits rows ≡ false → flaw_place asked rows ≡ Some place → (place ≡ 0) × (0 < row_count rows)
-first_other asked (Pits rows) place kind some = cc
-first_other asked other place kind some = placed_first (row_count other) place some
+  -- ---- rows of its kind, and of another one
 
-some_other : (asked : Asked) (rows : Rows) → are_pits rows ≡ false → 0 < row_count rows → flawed_row asked rows ≡ Some 1
-some_other asked (Pits rows) kind some = cc
-some_other asked other kind some = let not_none : (row_count other == 0) ≡ false = grind (arith, nat_tests, some) in rw not_none refl
+  own_flaw : (rows : Rows) (xs : List R) → own rows ≡ Some xs → flaw_place own is_sound rows ≡ position is_unsound xs
+  own_flaw rows xs e = ap (flaw_in is_sound (row_count rows)) e
 
--- sound rows have no flaw
-pub unflawed : (asked : Asked) (rows : List PitRow) → list_all (is_sound asked) rows ≡ true → flawed_row asked (Pits rows) ≡ None
-unflawed asked rows sound = ap (option_map (λ place. place + 1)) (unplaced (is_unsound asked) rows (λ row has. ap not (passes_at (is_sound asked) rows row sound has)))
+  other_flaw : (rows : Rows) → own rows ≡ None → flaw_place own is_sound rows ≡ first_place (row_count rows)
+  other_flaw rows e = ap (flaw_in is_sound (row_count rows)) e
 
--- and where there is no row there is none
-no_rows : (asked : Asked) (rows : Rows) → row_count rows ≡ 0 → flawed_row asked rows ≡ None
-no_rows asked (Pits rows) e = ap (λ rows. flawed_row asked (Pits rows)) (nil_from_length rows e)
-no_rows asked other e = rw e refl
+  own_page : (from most : ℕ) (rows : Rows) (xs : List R) → own rows ≡ Some xs → own (page from most rows) ≡ Some (take most (drop from xs))
+  own_page from most rows xs e = paged from most rows ∙ ap (option_map (λ xs. take most (drop from xs))) e
 
--- ---- what is read
+  other_page : (from most : ℕ) (rows : Rows) → own rows ≡ None → own (page from most rows) ≡ None
+  other_page from most rows e = paged from most rows ∙ ap (option_map (λ xs. take most (drop from xs))) e
 
--- as many rows are read as are asked for
-pub enough : (asked : Asked) (stored : Rows) (rows : List PitRow) → AreFirst asked stored rows → asked.most ≤ length rows → TellsPage asked stored rows Last
-enough asked (Pits xs) rows first reached =
-    let same : length rows ≡ asked.most = omega (arith, reached, first.within) in
-    let all : rows ≡ take asked.most xs = first.first ∙ ap (λ n. take n xs) same in (
-      subst (λ rows. flawed_row asked (Pits rows) ≡ None) all (unflawed asked rows first.sound),
-      all,
-    )
-enough asked other rows first reached =
-    let none : rows ≡ [] = first.first ∙ take-nil (length rows) in
-    let count : length rows ≡ 0 = ap length none in (
-      no_rows asked (page 0 asked.most other) (page_count 0 asked.most other ∙ omega (arith, reached, count)),
-      none,
-    )
+  page_rows : (from most : ℕ) (rows : Rows) → own_rows (own (page from most rows)) ≡ take most (drop from (own_rows (own rows)))
+  page_rows from most rows = by (own rows) refl
+    where
+      by : (o : Option (List R)) → own rows ≡ o → own_rows (own (page from most rows)) ≡ take most (drop from (own_rows (own rows)))
+      by (Some xs) e = ap own_rows (own_page from most rows xs e) ∙ ap (λ o. take most (drop from (own_rows o))) (sym e)
+      by None e = ap own_rows (other_page from most rows e) ∙ sym (none_taken from most) ∙ ap (λ o. take most (drop from (own_rows o))) (sym e)
 
-module _ (asked : Asked) (stored more : Rows) (rows : List PitRow) (most : ℕ) (first : AreFirst asked stored rows) (is : more ≡ page (length rows) most stored) where
-  abbrev have : ℕ
-  have = length rows
+  -- sound rows have no flaw
+  unplaced_sound : (xs : List R) → list_all is_sound xs ≡ true → position is_unsound xs ≡ None
+  unplaced_sound xs sound = unplaced is_unsound xs (λ row has. ap not (passes_at is_sound xs row sound has))
 
-  -- the rows with those of the page
-  grown : rows ++ pits_in more ≡ take (have + most) (pits_in stored)
-  grown =
-      ap (λ xs. xs ++ pits_in more) first.first
-      ∙ ap (λ ys. take have (pits_in stored) ++ ys) (ap pits_in is ∙ pits-page have most stored)
-      ∙ sym (take-add have most (pits_in stored))
+  pub unflawed : (rows : Rows) (xs : List R) → own rows ≡ Some xs → list_all is_sound xs ≡ true → first_flaw own is_sound rows ≡ None
+  unflawed rows xs e sound = ap numbered (own_flaw rows xs e ∙ unplaced_sound xs sound)
 
-  -- the first rows with a page without a flaw
-  pub first_then : have + most ≤ asked.most → flaw_place asked more ≡ None → AreFirst asked stored (rows ++ pits_in more)
-  first_then fits none = record {
-    first = subst (λ xs. xs ≡ take (length xs) (pits_in stored)) (sym grown) (sym (taken_exact (have + most) (pits_in stored)));
-    within = let count = ap length grown ∙ length-take (have + most) (pits_in stored) in omega (arith, fits, count);
-    sound = all_pass_both (is_sound asked) rows (pits_in more) first.sound (sound_page asked more none);
-  }
+  -- and where there is no row there is none
+  pub no_rows : (rows : Rows) → own rows ≡ None → row_count rows ≡ 0 → first_flaw own is_sound rows ≡ None
+  no_rows rows e none = ap numbered (other_flaw rows e ∙ ap first_place none)
 
--- a page without a flaw that has fewer rows than were asked for
-pub short_page : (asked : Asked) (stored more : Rows) (rows : List PitRow) (most : ℕ) → AreFirst asked stored rows → more ≡ page (length rows) most stored → length rows + most ≤ asked.most
-    → flaw_place asked more ≡ None → length (pits_in more) < most → TellsPage asked stored (rows ++ pits_in more) Last
-short_page asked (Pits xs) more rows most first is fits none short =
-    let count : length (pits_in more) ≡ min most (length xs - length rows) = ap (λ (rows : Rows). length (pits_in rows)) is ∙ page_count (length rows) most (Pits xs) in
-    let ends : length xs ≤ length rows + most = omega (arith, short, count) in
-    let all : rows ++ pits_in more ≡ take asked.most xs = grown asked (Pits xs) more rows most first is ∙ take_all (length rows + most) xs ends ∙ sym (take_all asked.most xs (omega (arith, ends, fits))) in (
-      subst (λ rows. flawed_row asked (Pits rows) ≡ None) all (unflawed asked (rows ++ pits_in more) (first_then asked (Pits xs) more rows most first is fits none).sound),
-      all,
-    )
-short_page asked other more rows most first is fits none short =
-    let have : length rows ≡ 0 = ap length (first.first ∙ take-nil (length rows)) in
-    let empty : row_count more ≡ 0 = none_other asked more (ap are_pits is ∙ pits-kind (length rows) most other) none in
-    let count : row_count more ≡ min most (row_count other - length rows) = ap row_count is ∙ page_count (length rows) most other in
-    let stored_none : row_count other ≡ 0 = omega (arith, empty, count, have, short) in (
-      no_rows asked (page 0 asked.most other) (page_count 0 asked.most other ∙ omega (arith, stored_none)),
-      grown asked other more rows most first is ∙ take-nil (length rows + most),
-    )
+  -- rows without a flaw are sound
+  sound_page : (rows : Rows) → flaw_place own is_sound rows ≡ None → list_all is_sound (own_rows (own rows)) ≡ true
+  sound_page rows none = by (own rows) refl
+    where
+      by : (o : Option (List R)) → own rows ≡ o → list_all is_sound (own_rows (own rows)) ≡ true
+      by (Some xs) e =
+          ap (λ o. list_all is_sound (own_rows o)) e
+          ∙ all_pass is_sound xs (λ row has. not-false (is_sound row) (none_placed is_unsound xs (sym (own_flaw rows xs e) ∙ none) row has))
+      by None e = ap (λ o. list_all is_sound (own_rows o)) e
 
--- a page with a flawed row
-pub flawed_page : (asked : Asked) (stored more : Rows) (rows : List PitRow) (most place row : ℕ) → AreFirst asked stored rows → more ≡ page (length rows) most stored → length rows + most ≤ asked.most
-    → flaw_place asked more ≡ Some place → row ≡ length rows + place + 1 → TellsPage asked stored rows (Flawed row)
-flawed_page asked (Pits xs) more rows most place row first is fits flaw e =
-    ap (option_map (λ place. place + 1)) (ap (position (is_unsound asked)) whole ∙ position-front (is_sound asked) (take (have + most) xs) (take rest (drop (have + most) xs)) (have + place) (ap (position (is_unsound asked)) (sym front) ∙ here))
-    ∙ ap Some (sym e)
-  where
-    have : ℕ
+  -- ---- what is read
+
+  -- as many rows are read as are asked for
+  pub enough : (most : ℕ) (stored : Rows) (rows : List R) → AreFirst own is_sound most stored rows → most ≤ length rows → TellsPage own is_sound most stored rows Last
+  enough most stored rows first reached = by (own stored) refl
+    where
+      by : (o : Option (List R)) → own stored ≡ o → TellsPage own is_sound most stored rows Last
+      by (Some xs) e =
+          let same : length rows ≡ most = omega (arith, reached, first.within) in
+          let all : rows ≡ take most xs = first.first ∙ ap (λ o. take (length rows) (own_rows o)) e ∙ ap (λ n. take n xs) same in (
+            unflawed (page 0 most stored) rows (own_page 0 most stored xs e ∙ ap Some (sym all)) first.sound,
+            all ∙ ap own_rows (sym (own_page 0 most stored xs e)),
+          )
+      by None e =
+          let none : rows ≡ [] = first.first ∙ ap (λ o. take (length rows) (own_rows o)) e ∙ take-nil (length rows) in
+          let count : length rows ≡ 0 = ap length none in (
+            no_rows (page 0 most stored) (other_page 0 most stored e) (page_count 0 most stored ∙ omega (arith, reached, count)),
+            none ∙ ap own_rows (sym (other_page 0 most stored e)),
+          )
+
+  module _ (asked : ℕ) (stored more : Rows) (rows : List R) (most : ℕ) (first : AreFirst own is_sound asked stored rows) (is : more ≡ page (length rows) most stored) (fits : length rows + most ≤ asked) where
+    abbrev have : ℕ
     have = length rows
 
-    rest : ℕ
-    rest = asked.most - (have + most)
+    abbrev added : List R
+    added = own_rows (own more)
 
-    front : rows ++ take most (drop have xs) ≡ take (have + most) xs
-    front = ap (λ ys. ys ++ take most (drop have xs)) first.first ∙ sym (take-add have most xs)
+    -- the rows with those of the page
+    grown : rows ++ added ≡ take (have + most) (own_rows (own stored))
+    grown =
+        ap (λ xs. xs ++ added) first.first
+        ∙ ap (λ ys. take have (own_rows (own stored)) ++ ys) (ap (λ page. own_rows (own page)) is ∙ page_rows have most stored)
+        ∙ sym (take-add have most (own_rows (own stored)))
 
-    whole : take asked.most xs ≡ take (have + most) xs ++ take rest (drop (have + most) xs)
-    whole = ap (λ n. take n xs) (omega (arith, fits)) ∙ take-add (have + most) rest xs
+    -- the first rows with a page without a flaw
+    pub first_then : flaw_place own is_sound more ≡ None → AreFirst own is_sound asked stored (rows ++ added)
+    first_then none = record {
+      first = subst (λ xs. xs ≡ take (length xs) (own_rows (own stored))) (sym grown) (sym (taken_exact (have + most) (own_rows (own stored))));
+      within = let count = ap length grown ∙ length-take (have + most) (own_rows (own stored)) in omega (arith, fits, count);
+      sound = all_pass_both is_sound rows added first.sound (sound_page more none);
+    }
 
-    here : position (is_unsound asked) (rows ++ take most (drop have xs)) ≡ Some (have + place)
-    here = position-behind (is_sound asked) rows (take most (drop have xs)) place first.sound (sym (ap (flaw_place asked) is) ∙ flaw)
-flawed_page asked other more rows most place row first is fits flaw e =
-    let have : length rows ≡ 0 = ap length (first.first ∙ take-nil (length rows)) in
-    let (place_is, some) = first_other asked more place (ap are_pits is ∙ pits-kind (length rows) most other) flaw in
-    let count : row_count more ≡ min most (row_count other - length rows) = ap row_count is ∙ page_count (length rows) most other in
-    let all : row_count (page 0 asked.most other) ≡ min asked.most (row_count other - 0) = page_count 0 asked.most other in
-    some_other asked (page 0 asked.most other) (pits-kind 0 asked.most other) (omega (arith, some, count, all, fits))
-    ∙ ap Some (omega (arith, e, have, place_is))
+    count_is : row_count more ≡ min most (row_count stored - have)
+    count_is = ap row_count is ∙ page_count have most stored
+
+    -- a page without a flaw that has fewer rows than were asked for
+    pub short_page : ((rows : Rows) (xs : List R) → own rows ≡ Some xs → row_count rows ≡ length xs) → flaw_place own is_sound more ≡ None → length added < most → TellsPage own is_sound asked stored (rows ++ added) Last
+    short_page counted none short = by (own stored) refl
+      where
+        by : (o : Option (List R)) → own stored ≡ o → TellsPage own is_sound asked stored (rows ++ added) Last
+        by (Some xs) e =
+            let here : own more ≡ Some (take most (drop have xs)) = ap own is ∙ own_page have most stored xs e in
+            let long : length added ≡ row_count more = ap (λ o. length (own_rows o)) here ∙ sym (counted more _ here) in
+            let ends : length xs ≤ have + most = omega (arith, short, long, count_is, counted stored xs e) in
+            let all : rows ++ added ≡ take asked xs =
+            grown ∙ ap (λ o. take (have + most) (own_rows o)) e ∙ take_all (have + most) xs ends ∙ sym (take_all asked xs (omega (arith, ends, fits))) in (
+              unflawed (page 0 asked stored) (rows ++ added) (own_page 0 asked stored xs e ∙ ap Some (sym all)) (first_then none).sound,
+              all ∙ ap own_rows (sym (own_page 0 asked stored xs e)),
+            )
+        by None e =
+            let before : length rows ≡ 0 = ap length (first.first ∙ ap (λ o. take have (own_rows o)) e ∙ take-nil have) in
+            let other : own more ≡ None = ap own is ∙ other_page have most stored e in
+            let empty : row_count more ≡ 0 = none_first (row_count more) (sym (other_flaw more other) ∙ none) in
+            let stored_none : row_count stored ≡ 0 = omega (arith, empty, count_is, before, short) in (
+              no_rows (page 0 asked stored) (other_page 0 asked stored e) (page_count 0 asked stored ∙ omega (arith, stored_none)),
+              grown ∙ ap (λ o. take (have + most) (own_rows o)) e ∙ take-nil (have + most) ∙ ap own_rows (sym (other_page 0 asked stored e)),
+            )
+
+    -- a page with a flawed row
+    pub flawed_page : (place row : ℕ) → flaw_place own is_sound more ≡ Some place → row ≡ have + place + 1 → TellsPage own is_sound asked stored rows (Flawed row)
+    flawed_page place row flaw e = by (own stored) refl
+      where
+        by : (o : Option (List R)) → own stored ≡ o → TellsPage own is_sound asked stored rows (Flawed row)
+        by (Some xs) o =
+            ap numbered (own_flaw (page 0 asked stored) (take asked xs) (own_page 0 asked stored xs o) ∙ ap (position is_unsound) whole
+            ∙ position-front is_sound (take (have + most) xs) (take rest (drop (have + most) xs)) (have + place) (ap (position is_unsound) (sym front) ∙ here))
+            ∙ ap Some (sym e)
+          where
+            rest : ℕ
+            rest = asked - (have + most)
+
+            front : rows ++ take most (drop have xs) ≡ take (have + most) xs
+            front = ap (λ ys. ys ++ take most (drop have xs)) (first.first ∙ ap (λ o. take have (own_rows o)) o) ∙ sym (take-add have most xs)
+
+            whole : take asked xs ≡ take (have + most) xs ++ take rest (drop (have + most) xs)
+            whole = ap (λ n. take n xs) (omega (arith, fits)) ∙ take-add (have + most) rest xs
+
+            placed : position is_unsound (take most (drop have xs)) ≡ Some place
+            placed = sym (own_flaw more (take most (drop have xs)) (ap own is ∙ own_page have most stored xs o)) ∙ flaw
+
+            here : position is_unsound (rows ++ take most (drop have xs)) ≡ Some (have + place)
+            here = position-behind is_sound rows (take most (drop have xs)) place first.sound placed
+        by None o =
+            let before : length rows ≡ 0 = ap length (first.first ∙ ap (λ o. take have (own_rows o)) o ∙ take-nil have) in
+            let other : own more ≡ None = ap own is ∙ other_page have most stored o in
+            let (place_is, some) = placed_first (row_count more) place (sym (other_flaw more other) ∙ flaw) in
+            let all : row_count (page 0 asked stored) ≡ min asked (row_count stored - 0) = page_count 0 asked stored in
+            ap numbered (other_flaw (page 0 asked stored) (other_page 0 asked stored o) ∙ first_of_some (row_count (page 0 asked stored)) (omega (arith, some, count_is, all, fits)))
+            ∙ ap Some (omega (arith, e, before, place_is))

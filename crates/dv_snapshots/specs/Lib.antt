@@ -1,6 +1,7 @@
 pub mod Pages
 pub mod Plans
 pub mod Refusals
+pub mod RowForms
 pub mod SnapSteps
 pub mod StoredFaults
 pub mod StoredRows

@@ -4,25 +4,9 @@ ghost use Rattle.dv_records.specs.Snapshots.{snap_head};
 ghost use Rattle.dv_records.specs.Stores as stores;
 ghost use Rattle.dv_records.specs.Weights.{rows_weight};
 
-use dv_records::{Rows, SnapHead, SnapTable, weight};
+use crate::row_counts::count;
+use dv_records::{SnapHead, SnapTable, weight};
 use dv_text::{Memory, Stamp};
-
-// How many rows there are.
-fn count(rows: &Rows) -> u64
-    ensures { result ≡ stores.row_count rows.now }
-{
-    let count = match rows {
-        Rows::Hubs(rows) => rows.items().len(),
-        Rows::Links(rows) => rows.items().len(),
-        Rows::Sats(rows) => rows.items().len(),
-        Rows::Multis(rows) => rows.items().len(),
-        Rows::Statuses(rows) => rows.items().len(),
-        Rows::Effects(rows) => rows.items().len(),
-        Rows::Pits(rows) => rows.items().len(),
-        Rows::Bridges(rows) => rows.items().len(),
-    };
-    count as u64
-}
 
 // How many rows tables have together. More than a number of 64 bits has room for find no room in
 // memory.

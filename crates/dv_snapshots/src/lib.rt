@@ -2,10 +2,15 @@
 #![tactic(auto)]
 
 mod asked;
+mod bridge_forms;
+mod damages;
 mod heads;
 mod pages;
+mod pit_forms;
 mod plans;
 mod refusals;
+mod row_counts;
+mod row_forms;
 mod snapshots;
 mod stored;
 mod stored_texts;

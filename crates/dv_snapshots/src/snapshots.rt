@@ -2,10 +2,11 @@
 ghost use Rattle.std.specs.Prelude.{◌≡◌, ◌≤◌, false};
 ghost use Rattle.dv_text.specs.Causes.{Rose};
 ghost use Rattle.dv_text.specs.Keys.{Hashes};
+ghost use Rattle.dv_bridge.specs.ZeroKeys.{HasZeroKeys};
 ghost use Rattle.dv_records.specs.States.{State};
 ghost use Rattle.dv_snapshots.specs.SnapSteps.{LeavesBoth, SnapsTo, StaleAfter};
 ghost use Rattle.dv_window.specs.Offices.{AgreesUnlessStale, IsIn};
-ghost use Rattle.dv_window.specs.Snapshots.{IsSnapshotFor, MayKeep};
+ghost use Rattle.dv_window.specs.Snapshots.{IsSnapshotIn, MayKeep};
 
 use crate::plans::{Planned, plan};
 use dv_records::{Keeper, KeeperError, Snap, SnapAnswer};
@@ -18,8 +19,7 @@ fn keep<K: Keeper>(office: &mut Office, keeper: &mut K, snap: &Snap) -> SnapAnsw
     requires fresh { office.old.stale ≡ false }
     requires agrees { AgreesUnlessStale office.old (K.store keeper.old) }
     requires may { MayKeep office.old.snapshots snap.now }
-    requires snapshot { IsSnapshotFor office.old snap.now }
-    ensures step { (hashes : Hashes) (state : State) → IsIn hashes state office.old (K.store keeper.old) → SnapsTo office.old.vault.mapping hashes state snap.now.head.date result office.new (K.store keeper.new) }
+    ensures step { (hashes : Hashes) (state : State) → IsSnapshotIn office.old.vault.mapping hashes state snap.now → IsIn hashes state office.old (K.store keeper.old) → SnapsTo office.old.vault.mapping hashes state snap.now.head.date result office.new (K.store keeper.new) }
     ensures kept { LeavesBoth result office.old office.new (K.store keeper.old) (K.store keeper.new) }
     ensures agrees { AgreesUnlessStale office.new (K.store keeper.new) }
     ensures mapping { office.new.vault.mapping ≡ office.old.vault.mapping }
@@ -37,17 +37,19 @@ fn keep<K: Keeper>(office: &mut Office, keeper: &mut K, snap: &Snap) -> SnapAnsw
     }
 }
 
-/// Stores the snapshot of the sealed windows at a date: the point-in-time table of each hub, by one
-/// call of the keeper.
+/// Stores the snapshot of the sealed windows at a date: the point-in-time table of each hub and the
+/// bridge of each path, by one call of the keeper.
 ///
 /// The first that holds is answered: `Future`, where the date is later than the last sealed load
-/// date, or none is sealed; `Repeated`, where a snapshot is stored at the date; `Full`, where the
-/// stored ones and this one weigh more than 268,435,456 together, which it tells, or 1,000 are
-/// stored. `TooLarge` can't come as long as no mapping has a path. These, and `Memory`, leave the
-/// office and the keeper's store as they are. `Stored` gives the number of rows of all tables.
-/// `KeeperFault` comes only where the keeper's count of faults rose, and leaves the office stale;
-/// the store is then as before, or has the snapshot. Conditions: the office isn't stale, and the
-/// keeper's store, where it is told, is what the office holds.
+/// date, or none is sealed; `Repeated`, where a snapshot is stored at the date; `TooLarge`, where
+/// some first steps of a path give more than 1,000,000 rows, with the first such path; `Full`,
+/// where the stored ones and this one weigh more than 268,435,456 together, which it tells, or
+/// 1,000 are stored. These, and `Memory`, leave the office and the keeper's store as they are.
+/// `Stored` gives the number of rows of all tables. `KeeperFault` comes only where the keeper's
+/// count of faults rose, and leaves the office stale; the store is then as before, or has the
+/// snapshot. What is said of a state is said of one whose missing keys have the zero key.
+/// Conditions: the office isn't stale, and the keeper's store, where it is told, is what the office
+/// holds.
 pub fn snapshot<K: Keeper>(
     alloc: Global,
     office: &mut Office,
@@ -56,7 +58,7 @@ pub fn snapshot<K: Keeper>(
 ) -> SnapAnswer
     requires fresh { office.old.stale ≡ false }
     requires agrees { AgreesUnlessStale office.old (K.store keeper.old) }
-    ensures step { (hashes : Hashes) (state : State) → IsIn hashes state office.old (K.store keeper.old) → SnapsTo office.old.vault.mapping hashes state date result office.new (K.store keeper.new) }
+    ensures step { (hashes : Hashes) (state : State) → HasZeroKeys hashes → IsIn hashes state office.old (K.store keeper.old) → SnapsTo office.old.vault.mapping hashes state date result office.new (K.store keeper.new) }
     ensures kept { LeavesBoth result office.old office.new (K.store keeper.old) (K.store keeper.new) }
     ensures agrees { AgreesUnlessStale office.new (K.store keeper.new) }
     ensures mapping { office.new.vault.mapping ≡ office.old.vault.mapping }

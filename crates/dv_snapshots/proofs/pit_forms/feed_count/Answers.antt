@@ -4,7 +4,7 @@ use Rattle.dv_catalog.specs.Feeds.{is_fed_by}
 use Rattle.dv_catalog.specs.declared.entries.FeedDef.{FeedDef}
 use Rattle.dv_catalog.specs.declared.entries.Parent.TheVariants.{Hub}
 use Rattle.dv_snapshots.proofs.HubFeedCounts.{feeds_counted}
-use Rattle.dv_snapshots.proofs.asked.feed_count.Goals as goal
+use Rattle.dv_snapshots.proofs.pit_forms.feed_count.Goals as goal
 
 pub returns : goal.returns
 returns c =
