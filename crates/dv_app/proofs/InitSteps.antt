@@ -3,11 +3,9 @@ use Rattle.std.specs.Prelude.{◌≡◌, ℕ, List, Option, Some, None, Result, 
 use Rattle.std.proofs.Common.{◌∙◌, ap, inl, inr, refl, subst, sym}
 use Rattle.dv_text.specs.Keys.{Hashes}
 use Rattle.dv_text.specs.Told.{Told}
-use Rattle.dv_catalog.specs.Built.{built_if, built_mapping, unless_unbuilt}
 use Rattle.dv_catalog.specs.Entries.{Mapping}
 use Rattle.dv_catalog.specs.MappingFiles.{read_mapping}
 use Rattle.dv_catalog.specs.declared.map_error.MapError.{MapError}
-use Rattle.dv_mapfile.proofs.ReadMappings.{built_parts}
 use Rattle.dv_outside.specs.declared.folders.NamedFile.{NamedFile}
 use Rattle.dv_outside.specs.declared.statuses.Status.TheVariants as statuses
 use Rattle.dv_records.specs.declared.answers.Damage.{Damage}
@@ -34,10 +32,6 @@ use Rattle.dv_app.specs.Lines.{kept_line, stored_line}
 use Rattle.dv_app.specs.Stops.{IsStopCause, said_of, stop_of_error}
 use Rattle.dv_app.specs.Works.{Comes, memory_said}
 
--- a file that is read as a mapping in which every form is built is read as that mapping
-read_as : (file : List ℕ) (mapping : Mapping) → built_mapping file ≡ Ok mapping → read_mapping file ≡ Ok mapping
-read_as file mapping built = (built_parts file mapping built).read
-
 -- why the keeper's call failed
 pub error_cause : {T : Type 0} (rises : Rises) (e : KeeperError) → (IsErrOf {T = T} (Err e) errors.Failed → rises.keeper) → IsStopCause rises (stop_of_error e)
 error_cause rises errors.Failed failed = failed refl
@@ -61,7 +55,7 @@ module _ (rises : Rises) (file : List ℕ) (store : Store) (after : Option Store
       kept,
     )
 
-    module _ (stored catalog : Mapping) (stored_as : IsReadAs stored store) (reads : built_mapping file ≡ Ok catalog) where
+    module _ (stored catalog : Mapping) (stored_as : IsReadAs stored store) (reads : read_mapping file ≡ Ok catalog) where
       pub equal_kept : stored ≡ catalog → Says (ended statuses.Done kept_line)
       equal_kept same = inl (record {
         answer = init.Kept;
@@ -74,8 +68,8 @@ module _ (rises : Rises) (file : List ℕ) (store : Store) (after : Option Store
           record {
             text = stored_as.text;
             stored_is = stored_as.stored_is;
-            stored_reads = read_as stored_as.text catalog (stored_as.reads ∙ ap Ok same);
-            file_reads = read_as file catalog reads;
+            stored_reads = stored_as.reads ∙ ap Ok same;
+            file_reads = reads;
           },
           refl,
         );
@@ -94,17 +88,17 @@ module _ (rises : Rises) (file : List ℕ) (store : Store) (after : Option Store
           record {
             text = stored_as.text;
             stored_is = stored_as.stored_is;
-            stored_reads = read_as stored_as.text stored stored_as.reads;
-            file_reads = read_as file catalog reads;
+            stored_reads = stored_as.reads;
+            file_reads = reads;
           },
           (λ same. other (sym same)),
           refl,
         );
       })
 
-  module _ (catalog : Mapping) (reads : built_mapping file ≡ Ok catalog) (none : store.mapping ≡ None) where
+  module _ (catalog : Mapping) (reads : read_mapping file ≡ Ok catalog) (none : store.mapping ≡ None) where
     is_stored : IsStored file store (with_mapping file store)
-    is_stored = record { mapping = catalog; reads = read_as file catalog reads; none_before = none; changed = refl }
+    is_stored = record { mapping = catalog; reads = reads; none_before = none; changed = refl }
 
     module _ (stored : after ≡ Some (with_mapping file store)) where
       pub stored_says : Says (ended statuses.Done stored_line)
@@ -130,7 +124,7 @@ not_read_sound hashes told damage not_read standing =
     let bad : IsNotRead standing.store damage = not_read standing.store standing.told_is in
     let good = standing.stands.mapped in
     let same : bad.text ≡ good.text = texts_same (sym bad.stored_is ∙ good.stored_is) in
-    bad.refused standing.mapping (ap built_mapping same ∙ ap built_if good.reads ∙ ap (λ place. unless_unbuilt place standing.mapping) standing.built.built)
+    bad.refused standing.mapping (ap read_mapping same ∙ good.reads)
   where
     texts_same : {a b : List ℕ} → Some a ≡ Some b → a ≡ b
     texts_same e = cc
@@ -144,15 +138,15 @@ module _ (rises : Rises) (files : List NamedFile) (store : Store) (after : Optio
 
     absent_by : (file : Option (List ℕ)) → mapping_bytes files ≡ file → mapping_at files ≡ None → mapping_bytes files ≡ None
     absent_by None is none = is
-    absent_by (Some bytes) is none = let no : Some (built_mapping bytes) ≡ None = sym (ap (option_map built_mapping) is) ∙ none in cc
+    absent_by (Some bytes) is none = let no : Some (read_mapping bytes) ≡ None = sym (ap (option_map read_mapping) is) ∙ none in cc
 
     refused_by : (e : MapError) (file : Option (List ℕ)) → mapping_bytes files ≡ file → mapping_at files ≡ Some (Err e)
         → InitWith rises store after (said_of (stop.Ended (endings.BadMapping e))) file
-    refused_by e None is none = let no : None ≡ Some (Err e) = sym (ap (option_map built_mapping) is) ∙ none in cc
+    refused_by e None is none = let no : None ≡ Some (Err e) = sym (ap (option_map read_mapping) is) ∙ none in cc
     refused_by e (Some bytes) is refused = subst (InitBy rises bytes store after (said_of (stop.Ended (endings.BadMapping e)))) (sym reads) (refl, kept)
       where
-        reads : built_mapping bytes ≡ Err e
-        reads = let same : Some (built_mapping bytes) ≡ Some (Err e) = sym (ap (option_map built_mapping) is) ∙ refused in cc
+        reads : read_mapping bytes ≡ Err e
+        reads = let same : Some (read_mapping bytes) ≡ Some (Err e) = sym (ap (option_map read_mapping) is) ∙ refused in cc
 
     ending_says : (ending : Ending) → MappingEnds files ending → IsStopCause rises (stop.Ended ending) → InitSays rises files store after (said_of (stop.Ended ending))
     ending_says (endings.BadMapping e) refused cause = inl (refused_by e (mapping_bytes files) refl refused)
@@ -166,7 +160,7 @@ module _ (rises : Rises) (files : List NamedFile) (store : Store) (after : Optio
     ending_comes ending ends cause = (ending_says ending ends cause, init_memory)
 
   -- what is said of the file that was read
-  pub read_says : (file : List ℕ) (catalog : Mapping) → mapping_bytes files ≡ Some file → built_mapping file ≡ Ok catalog → (said : Tried) → InitFor rises file store after said → InitSays rises files store after said
+  pub read_says : (file : List ℕ) (catalog : Mapping) → mapping_bytes files ≡ Some file → read_mapping file ≡ Ok catalog → (said : Tried) → InitFor rises file store after said → InitSays rises files store after said
   read_says file catalog there reads said says =
       inl (subst (InitWith rises store after said) (sym there) (subst (InitBy rises file store after said) (sym reads) says))
 
@@ -183,7 +177,7 @@ module _ (Read Lost : Type 0) (told : Option (List NamedFile)) (store : Store) (
     (λ files e. (ending_comes rises files store after kept ending (ends files e) cause).1),
   )
 
-  module _ (file : List ℕ) (catalog : Mapping) (there : Told told (λ files. mapping_bytes files ≡ Some file)) (reads : built_mapping file ≡ Ok catalog) where
+  module _ (file : List ℕ) (catalog : Mapping) (there : Told told (λ files. mapping_bytes files ≡ Some file)) (reads : read_mapping file ≡ Ok catalog) where
     by_file : (said : Tried) → InitFor (record { folder = ⊥; keeper = Lost }) file store after said → Told told (λ files. InitSays rises files store after said)
     by_file said says = λ files e. read_says rises files store after file catalog (there files e) reads said
         (init_for_more (record { folder = ⊥; keeper = Lost }) rises (λ none. absurd none) (λ rose. rose) file store after said says)

@@ -2,7 +2,6 @@ pub mod InitSteps
 pub mod LoadComes
 pub mod LoadSteps
 pub mod MoreRises
-pub mod PitComes
 pub mod ReplySteps
 pub mod ResumeComes
 pub mod ResumeSteps
@@ -10,6 +9,7 @@ pub mod RunSteps
 pub mod ShutStores
 pub mod SnapshotComes
 pub mod SnapshotSteps
+pub mod StoredComes
 pub mod TextComes
 pub mod TextSteps
 pub mod WholeLoads

@@ -2,8 +2,8 @@
 use Rattle.std.specs.Prelude.{ℕ, List, Option, Some, None, Result, Ok, Err}
 use Rattle.std.proofs.Common.{inl, inr}
 use Rattle.dv_text.specs.Keys.{Hashes}
-use Rattle.dv_catalog.specs.Built.{built_mapping}
 use Rattle.dv_catalog.specs.Entries.{Mapping}
+use Rattle.dv_catalog.specs.MappingFiles.{read_mapping}
 use Rattle.dv_catalog.specs.declared.map_error.MapError.{MapError}
 use Rattle.dv_outside.specs.declared.folders.NamedFile.{NamedFile}
 use Rattle.dv_records.specs.declared.answers.InitAnswer.{InitAnswer}
@@ -16,13 +16,13 @@ use Rattle.dv_app.specs.declared.stops.Stop.{Stop}
 use Rattle.dv_app.specs.declared.stops.Stop.TheVariants as stop
 use Rattle.dv_try.specs.Causes.{Faults}
 use Rattle.dv_try.specs.declared.endings.Ending.TheVariants as endings
-use Rattle.dv_app.specs.Kept.{EndsAtFault, InitBy, InitFor, InitSays, InitWith, IsInitCause, KeptSays, LoadSays, OpenedSays, OpensOr, ResumeSays, Rises, SnapshotSays, TextSays, mart_says, pit_says, table_says, windows_say}
+use Rattle.dv_app.specs.Kept.{EndsAtFault, InitBy, InitFor, InitSays, InitWith, IsInitCause, KeptSays, LoadSays, OpenedSays, OpensOr, ResumeSays, Rises, SnapshotSays, TextSays, mart_says, stored_says, table_says, windows_say}
 use Rattle.dv_outside.specs.declared.statuses.Status.{Status}
 use Rattle.dv_outside.specs.declared.statuses.Status.TheVariants as statuses
 use Rattle.dv_app.specs.Replies as replies
 use Rattle.dv_app.specs.Replies.{IsCauseOf}
 use Rattle.dv_app.specs.Stops.{IsStopCause, said_of}
-use Rattle.dv_app.specs.Words.{Init, KeptCommand, Load, Mart, Pit, Resume, Snapshot, Table, Windows}
+use Rattle.dv_app.specs.Words.{Init, KeptCommand, Load, Mart, Resume, Snapshot, Stored, Table, Windows}
 use Rattle.dv_app.specs.Works.{Comes, ComesFor, memory_said}
 
 module _ (rises more : Rises) (read_so : rises.folder → more.folder) (loss_so : rises.keeper → more.keeper) where
@@ -83,7 +83,7 @@ module _ (rises more : Rises) (read_so : rises.folder → more.folder) (loss_so 
 
   init_with_more : (store : Store) (now : Option Store) (said : Tried) (file : Option (List ℕ)) → InitWith rises store now said file → InitWith more store now said file
   init_with_more store now said None is = is
-  init_with_more store now said (Some file) is = init_by_more file store now said (built_mapping file) is
+  init_with_more store now said (Some file) is = init_by_more file store now said (read_mapping file) is
 
   init_more : (files : List NamedFile) (store : Store) (now : Option Store) (said : Tried) → InitSays rises files store now said → InitSays more files store now said
   init_more files store now said (inl is) = inl (init_with_more store now said (mapping_bytes files) is)
@@ -99,7 +99,7 @@ module _ (rises more : Rises) (read_so : rises.folder → more.folder) (loss_so 
   opened_more hashes told (Table name) store now mapping said so = text_more (table_says mapping store name) said (Some store) now so
   opened_more hashes told Windows store now mapping said so = text_more (windows_say mapping store) said (Some store) now so
   opened_more hashes told (Snapshot date) store now mapping said so = λ state stands. snapshot_more mapping hashes date state (Some store) now said (so state stands)
-  opened_more hashes told (Pit hub date) store now mapping said so = λ state stands. text_more (pit_says mapping hashes state hub date) said (Some store) now (so state stands)
+  opened_more hashes told (Stored table date) store now mapping said so = λ state stands. text_more (stored_says mapping hashes state table date) said (Some store) now (so state stands)
 
   opens_by : (hashes : Hashes) (width : ℕ) (told : Option (List NamedFile)) (command : KeptCommand) (store : Store) (now : Option Store) (said : Tried)
       → OpensOr rises hashes width store now (OpenedSays rises hashes told command store now) said → OpensOr more hashes width store now (OpenedSays more hashes told command store now) said
@@ -116,7 +116,7 @@ module _ (rises more : Rises) (read_so : rises.folder → more.folder) (loss_so 
   kept_more hashes width told (Table name) store now said says = opens_by hashes width told (Table name) store now said says
   kept_more hashes width told Windows store now said says = opens_by hashes width told Windows store now said says
   kept_more hashes width told (Snapshot date) store now said says = opens_by hashes width told (Snapshot date) store now said says
-  kept_more hashes width told (Pit hub date) store now said says = opens_by hashes width told (Pit hub date) store now said says
+  kept_more hashes width told (Stored table date) store now said says = opens_by hashes width told (Stored table date) store now said says
 
   -- why a command stops
   pub stop_cause_more : (s : Stop) → IsStopCause rises s → IsStopCause more s

@@ -11,13 +11,12 @@ use Rattle.dv_records.specs.States.{State}
 use Rattle.dv_start.specs.Damages.{IsFirstDamage}
 use Rattle.dv_start.specs.declared.faults.StartFault.{StartFault}
 use Rattle.dv_start.specs.declared.faults.StartFault.TheVariants as faults
-use Rattle.dv_vault.specs.Vaults.{IsBuilt}
 use Rattle.dv_try.specs.declared.endings.Ending.TheVariants as endings
 use Rattle.dv_try.specs.Tried.{Tried}
 use Rattle.dv_app.specs.declared.stops.Stop.{Stop}
 use Rattle.dv_app.specs.declared.stops.Stop.TheVariants as stop
 use Rattle.dv_outside.specs.declared.folders.NamedFile.{NamedFile}
-use Rattle.dv_app.specs.Words.{Init, KeptCommand, Load, Mart, Pit, Resume, Snapshot, Table, Windows}
+use Rattle.dv_app.specs.Words.{Init, KeptCommand, Load, Mart, Resume, Snapshot, Stored, Table, Windows}
 use Rattle.dv_app.specs.Kept.{KeptSays, OpenedSays, EndsAtFault, IsOpenedBy, IsShut, IsStanding, OpensOr, ReadsNone, Rises}
 use Rattle.dv_app.specs.Stops.{IsStopCause, said_of, stop_of_start}
 use Rattle.dv_app.specs.Takings.{IsBreak}
@@ -55,9 +54,9 @@ module _ (hashes : Hashes) (width : ℕ) (told : Option Store) where
   start_shut faults.KeeperFault none damaged = λ s e. inr tt
   start_shut faults.Memory none damaged = λ s e. inr tt
 
-  pub start_sound : {T : Type 0} (fault : StartFault) → ((damage : Damage) → IsErrOf {T = T} (Err fault) (faults.Damaged damage) → (mapping : Mapping) → (state : State) → (store : Store) → told ≡ Some store → IsBuilt mapping → Stands mapping hashes state store → ⊥)
+  pub start_sound : {T : Type 0} (fault : StartFault) → ((damage : Damage) → IsErrOf {T = T} (Err fault) (faults.Damaged damage) → (mapping : Mapping) → (state : State) → (store : Store) → told ≡ Some store → Stands mapping hashes state store → ⊥)
       → (damage : Damage) → stop_of_start fault ≡ stop.Damaged damage → IsStanding hashes told → ⊥
-  start_sound (faults.Damaged damage) undamaged other is standing = undamaged damage refl standing.mapping standing.state standing.store standing.told_is standing.built standing.stands
+  start_sound (faults.Damaged damage) undamaged other is standing = undamaged damage refl standing.mapping standing.state standing.store standing.told_is standing.stands
   start_sound faults.NoMapping undamaged damage is standing = cc
   start_sound faults.KeeperFault undamaged damage is standing = cc
   start_sound faults.Memory undamaged damage is standing = cc
@@ -81,7 +80,7 @@ module _ (rises : Rises) (hashes : Hashes) (width : ℕ) (told : Option (List Na
   kept_shut (Table name) opens = shut_comes rises hashes width store after (By (Table name)) kept s shut cause
   kept_shut Windows opens = shut_comes rises hashes width store after (By Windows) kept s shut cause
   kept_shut (Snapshot date) opens = shut_comes rises hashes width store after (By (Snapshot date)) kept s shut cause
-  kept_shut (Pit hub date) opens = shut_comes rises hashes width store after (By (Pit hub date)) kept s shut cause
+  kept_shut (Stored table date) opens = shut_comes rises hashes width store after (By (Stored table date)) kept s shut cause
 
 -- the text of an opened store, where the command writes one by what the store has, or in each state
 module _ (rises : Rises) (hashes : Hashes) (width : ℕ) (store : Store) (after : Option Store) where
@@ -93,4 +92,4 @@ module _ (rises : Rises) (hashes : Hashes) (width : ℕ) (store : Store) (after 
   memory_shut_kept kept told (Table name) opens = memory_shut rises hashes width store after (OpenedSays rises hashes told (Table name) store after) kept
   memory_shut_kept kept told Windows opens = memory_shut rises hashes width store after (OpenedSays rises hashes told Windows store after) kept
   memory_shut_kept kept told (Snapshot date) opens = memory_shut rises hashes width store after (OpenedSays rises hashes told (Snapshot date) store after) kept
-  memory_shut_kept kept told (Pit hub date) opens = memory_shut rises hashes width store after (OpenedSays rises hashes told (Pit hub date) store after) kept
+  memory_shut_kept kept told (Stored table date) opens = memory_shut rises hashes width store after (OpenedSays rises hashes told (Stored table date) store after) kept

@@ -4,6 +4,7 @@ use Rattle.std.proofs.Common.{ap, refl, subst, sym, ◌∙◌}
 use Rattle.dv_text.specs.Keys.{Hashes}
 use Rattle.dv_text.specs.Stamps.{stamp_of}
 use Rattle.dv_text.specs.declared.rows.Window.{Window}
+use Rattle.dv_bridge.specs.ZeroKeys.{HasZeroKeys}
 use Rattle.dv_catalog.specs.Entries.{Mapping}
 use Rattle.dv_catalog.specs.declared.tables.TableId.{TableId}
 use Rattle.dv_mart.specs.declared.query_rules.QueryRule.{QueryRule}
@@ -82,15 +83,15 @@ module _ (hashes : Hashes) (width : ℕ) (kept : Option Store) (office : Held) (
 
       module _ (at : ℕ) (dated : stamp_of date ≡ Some at) (raw : RawVault) (raw_is : raw ≡ office.vault) where
         -- what is said of the office's vault is said of the sealed windows of a state
-        sealed_text : (r : Result (List ℕ) QueryRule) → ((hashes : Hashes) (sealed : List Window) → HasSealed hashes sealed raw → mart_text raw.mapping hashes sealed raw.tables what at ≡ r)
+        sealed_text : (r : Result (List ℕ) QueryRule) → ((hashes : Hashes) (sealed : List Window) → HasZeroKeys hashes → HasSealed hashes sealed raw → mart_text raw.mapping hashes sealed raw.tables what at ≡ r)
             → (state : State) → Stands mapping hashes state store → text_or r ≡ mart_says mapping hashes state word date
         sealed_text r makes state stands =
             let stood : StandsFor hashes state office = is_open.stands store told_is state stands in
             mart_text_is mapping hashes state word date what offered at dated r
             (ap (λ entries. mart_text mapping hashes state.sealed entries what at) (sym stood.sealed_are.tables_are)
-            ∙ subst (λ (v : RawVault). mart_text v.mapping hashes state.sealed v.tables what at ≡ r) raw_is (makes hashes state.sealed (subst (HasSealed hashes state.sealed) (sym raw_is) stood.sealed_are)))
+            ∙ subst (λ (v : RawVault). mart_text v.mapping hashes state.sealed v.tables what at ≡ r) raw_is (makes hashes state.sealed is_open.zero_keys (subst (HasSealed hashes state.sealed) (sym raw_is) stood.sealed_are)))
 
-        pub mart_texted : (text : List ℕ) → ((hashes : Hashes) (sealed : List Window) → HasSealed hashes sealed raw → mart_text raw.mapping hashes sealed raw.tables what at ≡ Ok text)
+        pub mart_texted : (text : List ℕ) → ((hashes : Hashes) (sealed : List Window) → HasZeroKeys hashes → HasSealed hashes sealed raw → mart_text raw.mapping hashes sealed raw.tables what at ≡ Ok text)
             → SaysMart (text_or (Ok text))
         mart_texted text makes = mart_by (text_or (Ok text)) (λ state stands.
             text_says rises (mart_says mapping hashes state word date) (Some store) kept told_is (text_or (Ok text)) (sealed_text (Ok text) makes state stands))

@@ -10,8 +10,9 @@ use Rattle.dv_mart.specs.declared.query_rules.QueryRule.TheVariants.{BadDate, Un
 use Rattle.dv_mart.specs.declared.whats.What.{What}
 use Rattle.dv_mart.specs.MartTexts.{mart_text}
 use Rattle.dv_texts.specs.TableTexts.{table_text}
-use Rattle.dv_mart.specs.Whats.{hub_place, offered_mart, table_named}
+use Rattle.dv_mart.specs.Whats.{offered_mart, table_named}
 use Rattle.dv_outside.specs.declared.statuses.Status.TheVariants as statuses
+use Rattle.dv_records.specs.declared.snapshots.SnapId.{SnapId}
 use Rattle.dv_records.specs.declared.stores.Store.{Store}
 use Rattle.dv_records.specs.States.{State}
 use Rattle.dv_records.specs.Stores.{rows_in}
@@ -22,8 +23,9 @@ use Rattle.dv_try.specs.Endings.{QueryEnds}
 use Rattle.dv_try.specs.Given.{query_line}
 use Rattle.dv_try.specs.Tried.{Tried, ended}
 use Rattle.dv_app.specs.declared.stops.Stop.TheVariants as stop
-use Rattle.dv_app.specs.Kept.{Rises, TextSays, mart_at, mart_for, mart_says, pit_at, pit_for, pit_says, stored_pit, table_for, table_says, text_or}
+use Rattle.dv_app.specs.Kept.{Rises, TextSays, mart_at, mart_for, mart_says, name_of_stored, stored_at, stored_for, stored_id, stored_says, stored_text, table_for, table_says, text_or}
 use Rattle.dv_app.specs.Stops.{said_of}
+use Rattle.dv_app.specs.Words.{StoredTable}
 use Rattle.dv_app.specs.Works.{memory_said}
 
 module _ (rises : Rises) (text : Tried) (before after : Option Store) (kept : after ≡ before) where
@@ -62,19 +64,19 @@ module _ (mapping : Mapping) (hashes : Hashes) (state : State) (word date : List
 
 -- ---- stored tables
 
-module _ (mapping : Mapping) (hashes : Hashes) (state : State) (name date : List ℕ) where
-  pub unknown_hub : (rule : QueryRule) → (rule ≡ UnknownMart name) × (hub_place mapping name ≡ None) → ended statuses.Refused (query_line rule) ≡ pit_says mapping hashes state name date
-  unknown_hub rule broken = ap (λ r. ended statuses.Refused (query_line r)) broken.0 ∙ sym (ap (pit_for mapping hashes state name date) broken.1)
+module _ (mapping : Mapping) (hashes : Hashes) (state : State) (table : StoredTable) (date : List ℕ) where
+  pub unknown_stored : (rule : QueryRule) → (rule ≡ UnknownMart (name_of_stored table)) × (stored_id mapping table ≡ None) → ended statuses.Refused (query_line rule) ≡ stored_says mapping hashes state table date
+  unknown_stored rule broken = ap (λ r. ended statuses.Refused (query_line r)) broken.0 ∙ sym (ap (stored_for mapping hashes state table date) broken.1)
 
-  module _ (hub : ℕ) (named : hub_place mapping name ≡ Some hub) where
-    pit_is : pit_says mapping hashes state name date ≡ pit_at mapping hashes state hub date (stamp_of date)
-    pit_is = ap (pit_for mapping hashes state name date) named
+  module _ (id : SnapId) (named : stored_id mapping table ≡ Some id) where
+    stored_is : stored_says mapping hashes state table date ≡ stored_at mapping hashes state id date (stamp_of date)
+    stored_is = ap (stored_for mapping hashes state table date) named
 
-    pub bad_pit_date : (rule : QueryRule) → (rule ≡ BadDate date) × (stamp_of date ≡ None) → ended statuses.Refused (query_line rule) ≡ pit_says mapping hashes state name date
-    bad_pit_date rule broken = ap (λ r. ended statuses.Refused (query_line r)) broken.0 ∙ sym (pit_is ∙ ap (pit_at mapping hashes state hub date) broken.1)
+    pub bad_stored_date : (rule : QueryRule) → (rule ≡ BadDate date) × (stamp_of date ≡ None) → ended statuses.Refused (query_line rule) ≡ stored_says mapping hashes state table date
+    bad_stored_date rule broken = ap (λ r. ended statuses.Refused (query_line r)) broken.0 ∙ sym (stored_is ∙ ap (stored_at mapping hashes state id date) broken.1)
 
-    pub pit_text_is : (at : ℕ) → stamp_of date ≡ Some at → (r : Result (List ℕ) QueryRule) → stored_pit mapping hashes state hub at ≡ r → text_or r ≡ pit_says mapping hashes state name date
-    pit_text_is at dated r is = sym (pit_is ∙ ap (pit_at mapping hashes state hub date) dated ∙ ap text_or is)
+    pub stored_text_is : (at : ℕ) → stamp_of date ≡ Some at → (r : Result (List ℕ) QueryRule) → stored_text mapping hashes state id at ≡ r → text_or r ≡ stored_says mapping hashes state table date
+    stored_text_is at dated r is = sym (stored_is ∙ ap (stored_at mapping hashes state id date) dated ∙ ap text_or is)
 
 -- ---- raw tables
 

@@ -5,19 +5,19 @@ use Rattle.dv_text.specs.declared.rows.Window.{Window}
 use Rattle.dv_text.specs.Keys.{Hashes}
 use Rattle.dv_text.specs.Stamps.{stamp_of}
 use Rattle.dv_text.specs.Told.{Told}
-use Rattle.dv_catalog.specs.Built.{built_mapping}
 use Rattle.dv_catalog.specs.declared.map_error.MapError.{MapError}
 use Rattle.dv_catalog.specs.declared.tables.TableId.{TableId}
 use Rattle.dv_catalog.specs.declared.windows.WindowIn.{WindowIn}
 use Rattle.dv_catalog.specs.Entries.{Mapping}
+use Rattle.dv_catalog.specs.MappingFiles.{read_mapping}
 use Rattle.dv_catalog.specs.Windows.{window_of}
 use Rattle.dv_mart.specs.declared.query_rules.QueryRule.{QueryRule}
 use Rattle.dv_mart.specs.declared.query_rules.QueryRule.TheVariants.{UnknownMart, BadDate, TooLarge, Future, NoSnapshot, UnknownTable, SnapshotsFull, NothingOpen}
 use Rattle.dv_mart.specs.declared.whats.What.{What}
 use Rattle.dv_mart.specs.MartTexts.{mart_text, name_of_path}
 use Rattle.dv_texts.specs.TableTexts.{table_text}
-use Rattle.dv_texts.specs.Texts.{pit_text, windows_text}
-use Rattle.dv_mart.specs.Whats.{hub_place, offered_mart, table_named}
+use Rattle.dv_texts.specs.Texts.{windows_text}
+use Rattle.dv_mart.specs.Whats.{hub_place, offered_mart, path_place, table_named}
 use Rattle.dv_outside.specs.declared.folders.NamedFile.{NamedFile}
 use Rattle.dv_outside.specs.declared.statuses.Status.TheVariants as statuses
 use Rattle.dv_records.specs.declared.answers.Damage.{Damage}
@@ -27,23 +27,25 @@ use Rattle.dv_records.specs.declared.answers.Outcome.{Outcome}
 use Rattle.dv_records.specs.declared.answers.Outcome.TheVariants as outcomes
 use Rattle.dv_records.specs.declared.answers.SnapAnswer.{SnapAnswer}
 use Rattle.dv_records.specs.declared.answers.SnapAnswer.TheVariants as snap
+use Rattle.dv_records.specs.declared.snapshots.SnapId.{SnapId}
+use Rattle.dv_records.specs.declared.snapshots.SnapId.TheVariants as ids
 use Rattle.dv_records.specs.declared.stores.Store.{Store}
 use Rattle.dv_records.specs.Loads.{loaded}
 use Rattle.dv_records.specs.Outcomes.{outcome}
-use Rattle.dv_records.specs.Snapshots.{pit, snapshot}
+use Rattle.dv_records.specs.Snapshots.{snapshot}
 use Rattle.dv_records.specs.Standing.{IsMappedBy, Stands}
 use Rattle.dv_records.specs.States.{State, head_of}
 use Rattle.dv_records.specs.Steps.{InitStep, LoadBroke, ResumeBroke, sealed_with, snapshot_refusal, with_date}
 use Rattle.dv_records.specs.Stores.{rows_in}
 use Rattle.dv_records.specs.Vault.{vault}
+use Rattle.dv_snapshots.specs.StoredTexts.{table_text as snap_text}
 use Rattle.dv_start.specs.Damages.{IsFirstDamage, IsInForm, IsNotRead, mapping_damage}
-use Rattle.dv_vault.specs.Vaults.{IsBuilt}
 use Rattle.dv_try.specs.Given.{absent_line, query_line, read_fault_line, refused_mapping_line}
 use Rattle.dv_try.specs.Lines.{mapping_file, memory_line}
 use Rattle.dv_try.specs.Says.{IsReadFor}
 use Rattle.dv_try.specs.Tried.{Absent, Arrival, Broken, Brought, Tried, arrival, ended, is_refused, mapping_bytes, outcome_text, refusal_text, status_for, window_line}
 use Rattle.dv_app.specs.Lines.{damaged_line, differs_line, keeper_line, kept_line, none_line, repeated_line, resumed_line, snapshot_line, stored_line}
-use Rattle.dv_app.specs.Words.{KeptCommand, Init, Load, Resume, Mart, Table, Windows, Snapshot, Pit}
+use Rattle.dv_app.specs.Words.{KeptCommand, StoredTable, Init, Load, Resume, Mart, Table, Windows, Snapshot, Stored, Pit, Bridge}
 
 -- ---- the answers, in a state of the warehouse
 
@@ -127,22 +129,34 @@ mart_for mapping hashes state word date (Some what) = mart_at mapping hashes sta
 abbrev pub mart_says : Mapping → Hashes → State → List ℕ → List ℕ → Tried
 mart_says mapping hashes state word date = mart_for mapping hashes state word date (offered_mart mapping word)
 
--- the text of a hub's point-in-time table in the snapshot at a date, or that none is stored at it
-abbrev pub stored_pit : Mapping → Hashes → State → ℕ → ℕ → Result (List ℕ) QueryRule
-stored_pit mapping hashes state hub at =
-    if list_any (λ other. other == at) state.dates then Ok (pit_text mapping hub at (pit mapping hashes state.sealed hub at)) else Err (NoSnapshot at)
+-- ---- the tables of stored snapshots
 
-abbrev pub pit_at : Mapping → Hashes → State → ℕ → List ℕ → Option ℕ → Tried
-pit_at mapping hashes state hub date None = ended statuses.Refused (query_line (BadDate date))
-pit_at mapping hashes state hub date (Some at) = text_or (stored_pit mapping hashes state hub at)
+-- the name that a table is asked by
+abbrev pub name_of_stored : StoredTable → List ℕ
+name_of_stored (Pit hub) = hub
+name_of_stored (Bridge path) = path
 
-abbrev pub pit_for : Mapping → Hashes → State → List ℕ → List ℕ → Option ℕ → Tried
-pit_for mapping hashes state name date None = ended statuses.Refused (query_line (UnknownMart name))
-pit_for mapping hashes state name date (Some hub) = pit_at mapping hashes state hub date (stamp_of date)
+-- the table that is asked for, where the mapping has the hub or the path
+abbrev pub stored_id : Mapping → StoredTable → Option SnapId
+stored_id mapping (Pit hub) = option_map (λ place. ids.Pit place) (hub_place mapping hub)
+stored_id mapping (Bridge path) = option_map (λ place. ids.Bridge place) (path_place mapping path)
 
--- the text of the stored point-in-time table of the hub with a name
-abbrev pub pit_says : Mapping → Hashes → State → List ℕ → List ℕ → Tried
-pit_says mapping hashes state name date = pit_for mapping hashes state name date (hub_place mapping name)
+-- the text of a table of the snapshot of the sealed windows at a date, or that none is stored at it
+abbrev pub stored_text : Mapping → Hashes → State → SnapId → ℕ → Result (List ℕ) QueryRule
+stored_text mapping hashes state id at =
+    if list_any (λ other. other == at) state.dates then Ok (snap_text mapping hashes state.sealed id at) else Err (NoSnapshot at)
+
+abbrev pub stored_at : Mapping → Hashes → State → SnapId → List ℕ → Option ℕ → Tried
+stored_at mapping hashes state id date None = ended statuses.Refused (query_line (BadDate date))
+stored_at mapping hashes state id date (Some at) = text_or (stored_text mapping hashes state id at)
+
+abbrev pub stored_for : Mapping → Hashes → State → StoredTable → List ℕ → Option SnapId → Tried
+stored_for mapping hashes state table date None = ended statuses.Refused (query_line (UnknownMart (name_of_stored table)))
+stored_for mapping hashes state table date (Some id) = stored_at mapping hashes state id date (stamp_of date)
+
+-- the text of a stored table: the point-in-time table of the hub, or the bridge of the path, with a name
+abbrev pub stored_says : Mapping → Hashes → State → StoredTable → List ℕ → Tried
+stored_says mapping hashes state table date = stored_for mapping hashes state table date (stored_id mapping table)
 
 -- ---- the texts of what a store has
 
@@ -233,10 +247,9 @@ IsShut hashes width store said =
     ((store.mapping ≡ None) × (said ≡ ended statuses.Mapping none_line))
     ⊎ ((damage : Damage) × IsFirstDamage hashes width store damage × (said ≡ ended statuses.Damaged (damaged_line damage)))
 
--- a mapping is stored in which every form is built, and the store breaks no rule of form
+-- a mapping is stored, and the store breaks no rule of form
 pub record IsOpenedBy (hashes : Hashes) (width : ℕ) (store : Store) (mapping : Mapping) : Type 0 where
   pub mapped : IsMappedBy mapping store.mapping
-  pub built : IsBuilt mapping
   pub in_form : IsInForm hashes width mapping store
 
 -- a command on what is kept: the store is shut, it could not be read whole, or by the mapping the command says what Says says
@@ -245,13 +258,12 @@ OpensOr rises hashes width store after Says said =
     ((IsShut hashes width store said ⊎ EndsAtFault rises ReadsNone (Unit {0}) (Unit {0}) said) × (after ≡ Some store))
     ⊎ ((mapping : Mapping) × IsOpenedBy hashes width store mapping × Says mapping said)
 
--- the keeper's store stands for a state of some mapping in which every form is built
+-- the keeper's store stands for a state of some mapping
 pub record IsStanding (hashes : Hashes) (told : Option Store) : Type 0 where
   pub mapping : Mapping
   pub state : State
   pub store : Store
   pub told_is : told ≡ Some store
-  pub built : IsBuilt mapping
   pub stands : Stands mapping hashes state store
 
 -- ---- the storing of the mapping
@@ -289,7 +301,7 @@ InitBy rises file store after said (Err e) = (said ≡ ended statuses.Mapping (r
 
 abbrev pub InitWith : Rises → Store → Option Store → Tried → Option (List ℕ) → Type 0
 InitWith rises store after said None = (said ≡ ended statuses.ReadFault (absent_line mapping_file)) × (after ≡ Some store)
-InitWith rises store after said (Some file) = InitBy rises file store after said (built_mapping file)
+InitWith rises store after said (Some file) = InitBy rises file store after said (read_mapping file)
 
 abbrev pub InitSays : Rises → List NamedFile → Store → Option Store → Tried → Type 0
 InitSays rises files store after said =
@@ -314,8 +326,8 @@ OpenedSays rises hashes told (Table name) store after mapping said = TextSays ri
 OpenedSays rises hashes told Windows store after mapping said = TextSays rises (windows_say mapping store) (Some store) after said
 OpenedSays rises hashes told (Snapshot date) store after mapping said =
     InEach mapping hashes store (λ state. SnapshotSays rises mapping hashes date state (Some store) after said)
-OpenedSays rises hashes told (Pit hub date) store after mapping said =
-    InEach mapping hashes store (λ state. TextSays rises (pit_says mapping hashes state hub date) (Some store) after said)
+OpenedSays rises hashes told (Stored table date) store after mapping said =
+    InEach mapping hashes store (λ state. TextSays rises (stored_says mapping hashes state table date) (Some store) after said)
 
 -- what a command says over a keeper's store, and what the keeper tells behind it; the folder's files are those that it tells
 abbrev pub KeptSays : Rises → Hashes → ℕ → Option (List NamedFile) → KeptCommand → Store → Option Store → Tried → Type 0

@@ -3,6 +3,7 @@ use Rattle.std.specs.Prelude.{◌≡◌, ℕ, false, List, Option, length}
 use Rattle.dv_text.specs.declared.rows.Key.{Key}
 use Rattle.dv_text.specs.Keys.{Hashes}
 use Rattle.dv_text.specs.Told.{Told}
+use Rattle.dv_bridge.specs.ZeroKeys.{HasZeroKeys}
 use Rattle.dv_records.specs.declared.stores.Store.{Store}
 use Rattle.dv_window.specs.Offices.{Agrees, Held, StandsFor}
 use Rattle.dv_app.specs.Kept.{InEach, IsOpenedBy}
@@ -14,4 +15,5 @@ pub record IsOpen (hashes : Hashes) (width : ℕ) (told : Option Store) (office 
   pub fresh : office.stale ≡ false
   pub width_is : office.width ≡ width
   pub sized : (refs : List Key) → length (hashes.hash refs) ≡ width
+  pub zero_keys : HasZeroKeys hashes
   pub stands : Told told (λ s. InEach office.vault.mapping hashes s (λ state. StandsFor hashes state office))

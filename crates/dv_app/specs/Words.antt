@@ -4,9 +4,18 @@ use Rattle.std.specs.Prelude.{ℕ, ◌==◌, ◌+◌, Bool, false, List, [], ◌
 use Rattle.std.specs.Str.{bytes_eq}
 use Rattle.dv_app.specs.declared.words.KeptCommand.{KeptCommand as Given}
 use Rattle.dv_app.specs.declared.words.KeptCommand.TheVariants as given
+use Rattle.dv_app.specs.declared.words.StoredTable.{StoredTable as GivenTable}
+use Rattle.dv_app.specs.declared.words.StoredTable.TheVariants as tables
 use Rattle.dv_app.specs.declared.words.Parts.{Parts}
 use Rattle.dv_app.specs.declared.words.Command.{Command as Parsed}
 use Rattle.dv_app.specs.declared.words.Command.TheVariants as parsed
+
+-- a table of a stored snapshot
+pub data StoredTable : Type 0 where
+  -- the point-in-time table of the hub with a name
+  Pit : (hub : List ℕ) → StoredTable
+  -- the bridge of the path with a name
+  Bridge : (path : List ℕ) → StoredTable
 
 -- a command on the vault that is kept
 pub data KeptCommand : Type 0 where
@@ -24,8 +33,8 @@ pub data KeptCommand : Type 0 where
   Windows : KeptCommand
   -- a snapshot is stored, at a date
   Snapshot : (date : List ℕ) → KeptCommand
-  -- the point-in-time table of a hub in the snapshot at a date
-  Pit : (hub date : List ℕ) → KeptCommand
+  -- a table of the snapshot that is stored at a date
+  Stored : (table : StoredTable) (date : List ℕ) → KeptCommand
 
 pub data Command : Type 0 where
   -- the mart of a word, at a date, over the windows of manifests alone
@@ -69,7 +78,8 @@ with_one word name =
 abbrev pub with_two : List ℕ → List ℕ → List ℕ → Command
 with_two word what date =
     if bytes_eq word (codes "mart") then OnKeeper (Mart what date)
-    else (if bytes_eq word (codes "pit") then OnKeeper (Pit what date) else NoCommand)
+    else (if bytes_eq word (codes "pit") then OnKeeper (Stored (Pit what) date)
+    else (if bytes_eq word (codes "bridge") then OnKeeper (Stored (Bridge what) date) else NoCommand))
 
 abbrev pub with_more : List ℕ → List ℕ → List ℕ → List (List ℕ) → Command
 with_more word what date manifests = if bytes_eq word (codes "try") then Tries what date manifests else NoCommand
@@ -97,6 +107,10 @@ command_in (Some parts) = command parts.first parts.behind
 
 -- ---- the command, as the code has it
 
+abbrev pub stored_of : GivenTable → StoredTable
+stored_of (tables.Pit hub) = Pit hub.now
+stored_of (tables.Bridge path) = Bridge path.now
+
 abbrev pub kept_of : Given → KeptCommand
 kept_of given.Init = Init
 kept_of (given.Load manifest) = Load manifest.now
@@ -105,7 +119,7 @@ kept_of (given.Mart what date) = Mart what.now date.now
 kept_of (given.Table name) = Table name.now
 kept_of given.Windows = Windows
 kept_of (given.Snapshot date) = Snapshot date.now
-kept_of (given.Pit hub date) = Pit hub.now date.now
+kept_of (given.Stored table date) = Stored (stored_of table) date.now
 
 abbrev pub command_of : Option Parsed → Command
 command_of None = NoCommand

@@ -3,7 +3,7 @@ ghost use Rattle.std.specs.Prelude.{◌≡◌, ◌≤◌, ℕ, None, Ok, Option,
 ghost use Rattle.dv_text.specs.Causes.{Rose};
 ghost use Rattle.dv_text.specs.Keys.{Hashes};
 ghost use Rattle.dv_text.specs.Told.{Told};
-ghost use Rattle.dv_catalog.specs.Built.{built_mapping};
+ghost use Rattle.dv_catalog.specs.MappingFiles.{read_mapping};
 ghost use Rattle.dv_records.specs.declared.stores.Store.{Store};
 ghost use Rattle.dv_start.specs.Damages.{IsReadAs};
 ghost use Rattle.dv_app.specs.Kept.{InitFor, KeptSays};
@@ -29,7 +29,7 @@ fn store_mapping<K: Keeper>(
     file: &MappingFile,
 ) -> Result<Reply, Stop>
     requires none { Told (K.store keeper.old) (λ s. s.mapping ≡ None) }
-    requires reads { built_mapping file.now.bytes ≡ Ok file.now.catalog }
+    requires reads { read_mapping file.now.bytes ≡ Ok file.now.catalog }
     ensures comes { Told (K.store keeper.old) (λ s. Comes (InitFor (record { folder = ⊥; keeper = Rose (K.faults keeper.old) (K.faults keeper.new) }) file.now.bytes s (K.store keeper.new)) result) }
     ensures cause { (f : Faults) → ComesFor f (record { folder = ⊥; keeper = Rose (K.faults keeper.old) (K.faults keeper.new) }) result }
     ensures sound { (hashes : Hashes) → ComesSound hashes (K.store keeper.old) result }
@@ -45,7 +45,7 @@ fn store_mapping<K: Keeper>(
 
 // Compares the file with the stored mapping.
 fn compare(alloc: Global, stored: &Catalog, file: &MappingFile) -> Result<Reply, Stop>
-    requires { built_mapping file.now.bytes ≡ Ok file.now.catalog }
+    requires { read_mapping file.now.bytes ≡ Ok file.now.catalog }
     ensures comes { (s : Store) (kept : Option Store) → kept ≡ Some s → IsReadAs stored.now s → (lost : ℕ) (now : ℕ) → Comes (InitFor (record { folder = ⊥; keeper = Rose lost now }) file.now.bytes s kept) result }
     ensures cause { (f : Faults) (lost : ℕ) (now : ℕ) → ComesFor f (record { folder = ⊥; keeper = Rose lost now }) result }
     ensures sound { (hashes : Hashes) (kept : Option Store) → ComesSound hashes kept result }
@@ -62,7 +62,7 @@ fn compare(alloc: Global, stored: &Catalog, file: &MappingFile) -> Result<Reply,
 
 // Stores the file, or compares it with what is stored.
 fn init_with<K: Keeper>(alloc: Global, keeper: &mut K, file: &MappingFile) -> Result<Reply, Stop>
-    requires { built_mapping file.now.bytes ≡ Ok file.now.catalog }
+    requires { read_mapping file.now.bytes ≡ Ok file.now.catalog }
     ensures comes { Told (K.store keeper.old) (λ s. Comes (InitFor (record { folder = ⊥; keeper = Rose (K.faults keeper.old) (K.faults keeper.new) }) file.now.bytes s (K.store keeper.new)) result) }
     ensures cause { (f : Faults) → ComesFor f (record { folder = ⊥; keeper = Rose (K.faults keeper.old) (K.faults keeper.new) }) result }
     ensures sound { (hashes : Hashes) → ComesSound hashes (K.store keeper.old) result }

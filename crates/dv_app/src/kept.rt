@@ -12,12 +12,12 @@ ghost use Rattle.dv_app.specs.Works.{Comes, ComesFor, ComesSound};
 
 use crate::inits::init;
 use crate::loads::load;
-use crate::pits::pit;
 use crate::queries::{mart, table, windows};
 use crate::replies::Reply;
 use crate::resumes::resume;
 use crate::snapshots::snapshot;
 use crate::stops::Stop;
+use crate::stored_tables::stored;
 use crate::words::KeptCommand;
 use dv_outside::{Folder, Gate};
 use dv_records::Keeper;
@@ -49,7 +49,7 @@ pub(crate) fn work<F: Folder, K: Keeper, H: KeyDigest, G: Gate>(
         KeptCommand::Table { name } => table(alloc, name, keeper, digest),
         KeptCommand::Windows => windows(alloc, keeper, digest),
         KeptCommand::Snapshot { date } => snapshot(alloc, date, keeper, digest),
-        KeptCommand::Pit { hub, date } => pit(alloc, hub, date, keeper, digest),
+        KeptCommand::Stored { table, date } => stored(alloc, table, date, keeper, digest),
     }
 }
 

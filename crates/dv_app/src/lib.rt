@@ -6,12 +6,12 @@ mod kept;
 mod lines;
 mod loads;
 mod openings;
-mod pits;
 mod queries;
 mod replies;
 mod resumes;
 mod snapshots;
 mod stops;
+mod stored_tables;
 mod top;
 mod words;
 

@@ -35,7 +35,5 @@ pub(crate) fn open_office<K: Keeper, H: KeyDigest>(
     ensures later { K.faults keeper.old ≤ K.faults keeper.new }
 {
     note_sized(digest);
-    let office = Office::start(alloc, keeper, digest)?;
-    let _catalog = office.catalog();
-    Ok(office)
+    Ok(Office::start(alloc, keeper, digest)?)
 }

@@ -20,8 +20,8 @@ use std::alloc::Global;
 ///
 /// `init` stores the mapping's file in the keeper, `load MANIFEST` gives a window to what is kept, `resume` completes one
 /// that broke off, and `mart WHAT DATE`, `table NAME` and `windows` write texts of it. `snapshot DATE` stores a snapshot of
-/// the sealed windows, and `pit HUB DATE` writes a table of a stored one. `try WHAT DATE MANIFEST...` keeps nothing, and
-/// leaves the keeper.
+/// the sealed windows, and `pit HUB DATE` and `bridge PATH DATE` write a table of a stored one. `try WHAT DATE
+/// MANIFEST...` keeps nothing, and leaves the keeper.
 pub fn run<F: Folder, K: Keeper, O: Sink, E: Sink, H: KeyDigest, G: Gate>(
     alloc: Global,
     words: &[String],

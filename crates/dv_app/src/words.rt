@@ -8,25 +8,46 @@ use dv_text::{List, Memory, Text};
 use dv_try::Asked;
 use std::alloc::Global;
 
+/// A table of a stored snapshot, by the name of its hub or its path.
+#[derive(Clone, Copy)]
+pub(crate) enum StoredTable<'a> {
+    /// The point-in-time table of a hub.
+    Pit { hub: &'a Text },
+    /// The bridge of a path.
+    Bridge { path: &'a Text },
+}
+
 /// A command on the vault that is kept.
 #[derive(Clone, Copy)]
 pub(crate) enum KeptCommand<'a> {
     /// The mapping's file is stored.
     Init,
     /// The window of a manifest is loaded.
-    Load { manifest: &'a Text },
+    Load {
+        manifest: &'a Text,
+    },
     /// The open window is completed.
     Resume,
     /// The text of a mart, at a date.
-    Mart { what: &'a Text, date: &'a Text },
+    Mart {
+        what: &'a Text,
+        date: &'a Text,
+    },
     /// The text of a raw table with all its rows.
-    Table { name: &'a Text },
+    Table {
+        name: &'a Text,
+    },
     /// The text of the windows.
     Windows,
     /// A snapshot is stored, at a date.
-    Snapshot { date: &'a Text },
-    /// The text of a hub's point-in-time table in the snapshot at a date.
-    Pit { hub: &'a Text, date: &'a Text },
+    Snapshot {
+        date: &'a Text,
+    },
+    /// The text of a table of the snapshot that is stored at a date.
+    Stored {
+        table: StoredTable<'a>,
+        date: &'a Text,
+    },
 }
 
 /// What the words of the command line ask for.
@@ -171,7 +192,11 @@ fn command_with_two<'a>(word: &[u8], what: &'a Text, date: &'a Text) -> Option<C
     if word == b"mart".as_slice() {
         Some(Command::OnKeeper(KeptCommand::Mart { what, date }))
     } else if word == b"pit".as_slice() {
-        Some(Command::OnKeeper(KeptCommand::Pit { hub: what, date }))
+        let table = StoredTable::Pit { hub: what };
+        Some(Command::OnKeeper(KeptCommand::Stored { table, date }))
+    } else if word == b"bridge".as_slice() {
+        let table = StoredTable::Bridge { path: what };
+        Some(Command::OnKeeper(KeptCommand::Stored { table, date }))
     } else {
         None
     }

@@ -1,6 +1,6 @@
 -- How the reading of the mapping's file, and what is asked of it, may end the command.
-use Rattle.dv_try.proofs.Vocabulary.{List, None, Option, Some, [], ap, inl, inr, refl, sym, take, ℕ, ◌+◌, ◌∙◌, ◌≡◌, option_map, Ok, Err, Result, built_mapping, Mapping, DateEnds, FileEnds, IsMappingEnd, IsReadCause, MappingEnds, ReadEnds, WhatEnds, line_of_ending, status_of, absent_line, given}
-use Rattle.dv_try.proofs.Vocabulary.{query_line, mapping_file, Begins, IsEnded, Trial, lines_before, lines_with, Tried, ended, mapping_at, tried_at, tried_for, tried_with, Ending, Absent, BadMapping, BadQuery, Memory, Unread, most_mapping_bytes, MapError, offered_what, What, NamedFile, stamp_of}
+use Rattle.dv_try.proofs.Vocabulary.{List, None, Option, Some, [], ap, inl, inr, refl, sym, take, ℕ, ◌+◌, ◌∙◌, ◌≡◌, option_map, Ok, Err, Result, read_mapping, Mapping, DateEnds, FileEnds, IsMappingEnd, IsReadCause, MappingEnds, ReadEnds, WhatEnds, line_of_ending, status_of, absent_line, given}
+use Rattle.dv_try.proofs.Vocabulary.{query_line, mapping_file, Begins, IsEnded, Trial, lines_before, lines_with, Tried, ended, mapping_at, tried_at, tried_for, tried_with, Ending, Absent, BadMapping, BadQuery, Memory, Unread, most_mapping_bytes, MapError, what_of, What, NamedFile, stamp_of}
 use Rattle.dv_try.proofs.Vocabulary.{◌≢◌}
 use Rattle.dv_catalog.specs.declared.map_error.MapError.TheVariants as errors
 use Rattle.dv_outside.specs.declared.statuses.Status.TheVariants as statuses
@@ -17,18 +17,18 @@ module _ (files : List NamedFile) (name : List ℕ) (named : name ≡ mapping_fi
   pub mapping_unread : (ending : Ending) → ReadEnds files name ending → MappingEnds files ending
   mapping_unread (Absent file) absent = (
     absent.0 ∙ named,
-    ap (λ n. option_map built_mapping (given (most_mapping_bytes + 1) files n)) (sym named) ∙ ap (λ f. option_map built_mapping (option_map (take (most_mapping_bytes + 1)) f)) absent.1,
+    ap (λ n. option_map read_mapping (given (most_mapping_bytes + 1) files n)) (sym named) ∙ ap (λ f. option_map read_mapping (option_map (take (most_mapping_bytes + 1)) f)) absent.1,
   )
   mapping_unread (Unread file) is = is ∙ named
   mapping_unread Memory memory = memory
   mapping_unread ending none = absurd none
 
   -- it was read
-  pub mapping_read : (bytes : List ℕ) (result : Result Mapping MapError) → given (most_mapping_bytes + 1) files name ≡ Some bytes → (read : List ℕ) → read ≡ bytes → built_mapping read ≡ result
+  pub mapping_read : (bytes : List ℕ) (result : Result Mapping MapError) → given (most_mapping_bytes + 1) files name ≡ Some bytes → (read : List ℕ) → read ≡ bytes → read_mapping read ≡ result
       → mapping_at files ≡ Some result
   mapping_read bytes result there read same is =
-      ap (λ n. option_map built_mapping (given (most_mapping_bytes + 1) files n)) (sym named) ∙ ap (option_map built_mapping) there
-      ∙ ap (λ b. Some (built_mapping b)) (sym same) ∙ ap Some is
+      ap (λ n. option_map read_mapping (given (most_mapping_bytes + 1) files n)) (sym named) ∙ ap (option_map read_mapping) there
+      ∙ ap (λ b. Some (read_mapping b)) (sym same) ∙ ap Some is
 
   -- a refusal of its own
   pub mapping_refused : (e : MapError) → (e ≢ errors.Memory → mapping_at files ≡ Some (Err e)) → (ending : Ending) → IsMappingEnd e ending → MappingEnds files ending
@@ -72,7 +72,7 @@ module _ (t : Trial) (before now : ℕ) where
     what_ends Memory memory = memory_ends
     what_ends ending none = absurd none
 
-    module _ (what : What) (offered : offered_what mapping t.what ≡ Some what) where
+    module _ (what : What) (offered : what_of mapping t.what ≡ Some what) where
       abbrev with_date : Option ℕ → Tried
       with_date = tried_at mapping t.hashes t.files what t.date t.names
 

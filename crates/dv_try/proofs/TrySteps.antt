@@ -1,6 +1,6 @@
 -- How the parts of `try` are parts of what it says.
 use Rattle.dv_try.proofs.Vocabulary.{List, Option, Some, [], ap, arith, inl, inr, length, refl, subst, sym, take, ℕ, ◌++◌, ◌∙◌, ◌≡◌, ◌≤◌, Ok, Err}
-use Rattle.dv_try.proofs.Vocabulary.{Result, Mapping, GotPrefix, after, take_all, Hashes, HasSealed, RawVault, mart_text, path_name, vault, QueryEnds, QueryRule, TextEnds, TooLarge, IsReadCause, IsStopCause, line_of_ending, status_of, memory_line, Begins}
+use Rattle.dv_try.proofs.Vocabulary.{Result, Mapping, GotPrefix, after, take_all, Hashes, HasSealed, HasZeroKeys, RawVault, mart_text, path_name, vault, QueryEnds, QueryRule, TextEnds, TooLarge, IsReadCause, IsStopCause, line_of_ending, status_of, memory_line, Begins}
 use Rattle.dv_try.proofs.Vocabulary.{HasEnd, LoadEnds, LoadStops, LoadsAll, SoFar, TryStops, Gives, Heard, IsEnded, IsMemory, Trial, lines_before, lines_of, tried_of, Progress, Tried}
 use Rattle.dv_try.proofs.Vocabulary.{at_end, with_text, start, status_for, steps, Ending, Absent, BadQuery, Memory, Unread, Stop, Ended, Unwritten, Loading, What, after-nil}
 use Rattle.dv_try.proofs.Vocabulary.{got_all, got_longer, got_nothing, Window}
@@ -15,9 +15,9 @@ begin_ends t before now err ending is_end =
 
 -- what is asked for is of a path that is too large
 pub text_ends : (raw : RawVault) (what : What) (at : ℕ) (catalog : Mapping) → catalog ≡ raw.mapping
-    → ((hashes : Hashes) (sealed : List Window) → HasSealed hashes sealed raw → mart_text raw.mapping hashes sealed raw.tables what at ≡ Err (TooLarge (path_name raw.mapping what)))
+    → ((hashes : Hashes) (sealed : List Window) → HasZeroKeys hashes → HasSealed hashes sealed raw → mart_text raw.mapping hashes sealed raw.tables what at ≡ Err (TooLarge (path_name raw.mapping what)))
     → (ending : Ending) → QueryEnds (λ rule. rule ≡ TooLarge (path_name catalog what)) ending → TextEnds raw what at ending
-text_ends raw what at catalog same large (BadQuery rule) is = λ hashes sealed has. large hashes sealed has ∙ ap (λ m. Err (TooLarge (path_name m what))) (sym same) ∙ ap Err (sym is)
+text_ends raw what at catalog same large (BadQuery rule) is = λ hashes sealed zero has. large hashes sealed zero has ∙ ap (λ m. Err (TooLarge (path_name m what))) (sym same) ∙ ap Err (sym is)
 text_ends raw what at catalog same large Memory memory = memory
 text_ends raw what at catalog same large ending none = absurd none
 
@@ -54,7 +54,7 @@ module _ (t : Trial) (before now : ℕ) (mapping : Mapping) (what : What) (at : 
     err = got_longer said says ends.1.lines memory_line ends.3;
   }
 
-  module _ (loading : Loading) (loads : LoadsAll mapping t.hashes t.files t.names loading said says) where
+  module _ (loading : Loading) (loads : LoadsAll mapping t.hashes t.files t.names loading said says) (zero : HasZeroKeys t.hashes) where
     abbrev p : Progress
     p = loads.progress
 
@@ -63,14 +63,14 @@ module _ (t : Trial) (before now : ℕ) (mapping : Mapping) (what : What) (at : 
 
     -- what is said of the windows that the vault has is said of the run's
     answer_is : (raw : RawVault) → raw ≡ loading.office.vault → (answer : Result (List ℕ) QueryRule)
-        → ((hashes : Hashes) (sealed : List Window) → HasSealed hashes sealed raw → mart_text raw.mapping hashes sealed raw.tables what at ≡ answer)
+        → ((hashes : Hashes) (sealed : List Window) → HasZeroKeys hashes → HasSealed hashes sealed raw → mart_text raw.mapping hashes sealed raw.tables what at ≡ answer)
         → mart_text mapping t.hashes p.state.sealed (vault mapping t.hashes p.state.sealed) what at ≡ answer
     answer_is raw raw_is answer so =
         let has : HasSealed t.hashes p.state.sealed raw = subst (HasSealed t.hashes p.state.sealed) (sym raw_is) loads.loaded_is.stands.sealed_are in
         let mapping_is : raw.mapping ≡ mapping = ap (λ (v : RawVault). v.mapping) raw_is ∙ loads.loaded_is.mapping_is in
         ap (λ m. mart_text m t.hashes p.state.sealed (vault m t.hashes p.state.sealed) what at) (sym mapping_is)
         ∙ ap (λ tables. mart_text raw.mapping t.hashes p.state.sealed tables what at) (sym has.tables_are)
-        ∙ so t.hashes p.state.sealed has
+        ∙ so t.hashes p.state.sealed zero has
 
     abbrev all_first : First (length t.names)
     all_first = record {
@@ -94,7 +94,7 @@ module _ (t : Trial) (before now : ℕ) (mapping : Mapping) (what : What) (at : 
     no_text raw raw_is ending none = absurd none
 
     module _ (out_old out : Option (List ℕ)) (made : List ℕ) (raw : RawVault) (raw_is : raw ≡ loading.office.vault)
-        (makes : (hashes : Hashes) (sealed : List Window) → HasSealed hashes sealed raw → mart_text raw.mapping hashes sealed raw.tables what at ≡ Ok made) where
+        (makes : (hashes : Hashes) (sealed : List Window) → HasZeroKeys hashes → HasSealed hashes sealed raw → mart_text raw.mapping hashes sealed raw.tables what at ≡ Ok made) where
       abbrev heard : Heard
       heard = record { out_old = out_old; out = out; err_old = said; err = says }
 

@@ -4,9 +4,10 @@ pub use Rattle.dv_text.proofs.Vocabulary.{◌++◌, ◌+◌, ◌<◌, ◌==◌, 
 pub use Rattle.dv_catalog.proofs.Vocabulary.{Mapping, first_of, nat_lt, printed}
 pub use Rattle.dv_window.proofs.Vocabulary.{Held, IsIn, Ok, StepsTo, Store, StandsFor, State, accepted, beginning, collides, differs, feed_twice, if_new, late, no_extracts, open_other, outcome, refusal, unknown_feed, vault_full, window_of, window_rule}
 pub use Rattle.dv_records.proofs.Vocabulary.{Hashes, find, min, option_map_or}
-pub use Rattle.dv_mapfile.proofs.Vocabulary.{IfOk, built_mapping, if◌then◌else◌, option_map, string_bytes}
+pub use Rattle.dv_mapfile.proofs.Vocabulary.{IfOk, if◌then◌else◌, option_map, read_mapping, string_bytes}
 pub use Rattle.dv_outside.proofs.Vocabulary.{Ends, GotPrefix, Rose, after, append-nil, drop, err_from_is_err_and, file_at, take-append-drop, take_all}
 pub use Rattle.dv_vault.proofs.Vocabulary.{HasSealed, RawVault, Told, drop_all, hashes_of}
+pub use Rattle.dv_bridge.specs.ZeroKeys.{HasZeroKeys}
 pub use Rattle.dv_mart.proofs.Vocabulary.{IsOffered, decimal, mart_text}
 pub use Rattle.dv_try.specs.Endings.{BringEnds, DateEnds, EndsOrMemory, ExtractEnds, ExtractsEnd, FileEnds, FilesEnd, IsMappingEnd, IsReadCause, IsStopCause, MappingEnds, QueryEnds, ReadEnds, StopsBy, TextEnds, WhatEnds, line_of_ending, status_of}
 pub use Rattle.dv_try.specs.Given.{absent_line, given, query_line, read_fault_line, refused_mapping_line}
@@ -34,7 +35,7 @@ pub use Rattle.dv_catalog.specs.declared.windows.WindowIn.{WindowIn}
 pub use Rattle.dv_mapfile.specs.Manifests.{manifest_in}
 pub use Rattle.dv_mapfile.specs.declared.manifests.Manifest.{Manifest}
 pub use Rattle.dv_mapfile.specs.declared.manifests.ManifestExtract.{ManifestExtract}
-pub use Rattle.dv_mart.specs.Whats.{offered_what}
+pub use Rattle.dv_mart.specs.Whats.{what_of}
 pub use Rattle.dv_mart.specs.MartTexts.{path_name}
 pub use Rattle.dv_mart.specs.declared.query_rules.QueryRule.{QueryRule}
 pub use Rattle.dv_mart.specs.declared.query_rules.QueryRule.TheVariants.{TooLarge}

@@ -4,12 +4,13 @@ use Rattle.dv_text.specs.Causes.{Rose}
 use Rattle.dv_text.specs.Keys.{Hashes}
 use Rattle.dv_text.specs.Stamps.{stamp_of}
 use Rattle.dv_text.specs.declared.rows.Window.{Window}
+use Rattle.dv_bridge.specs.ZeroKeys.{HasZeroKeys}
 use Rattle.dv_catalog.specs.Entries.{Mapping}
 use Rattle.dv_mapfile.specs.declared.manifests.ManifestExtract.{ManifestExtract}
 use Rattle.dv_catalog.specs.declared.map_error.MapError.{MapError}
 use Rattle.dv_catalog.specs.declared.map_error.MapError.TheVariants as errors
 use Rattle.dv_mart.specs.MartTexts.{mart_text}
-use Rattle.dv_mart.specs.Whats.{offered_what}
+use Rattle.dv_mart.specs.Whats.{what_of}
 use Rattle.dv_mart.specs.declared.whats.What.{What}
 use Rattle.dv_mart.specs.declared.query_rules.QueryRule.{QueryRule}
 use Rattle.dv_mart.specs.declared.query_rules.QueryRule.TheVariants.{UnknownMart, BadDate}
@@ -119,7 +120,7 @@ QueryEnds IsBroken ending = ⊥
 
 -- the word for the mart
 abbrev pub WhatEnds : Mapping → List ℕ → Ending → Type 0
-WhatEnds mapping word ending = QueryEnds (λ rule. (rule ≡ UnknownMart word) × (offered_what mapping word ≡ None)) ending
+WhatEnds mapping word ending = QueryEnds (λ rule. (rule ≡ UnknownMart word) × (what_of mapping word ≡ None)) ending
 
 -- the date
 abbrev pub DateEnds : List ℕ → Ending → Type 0
@@ -129,5 +130,5 @@ DateEnds date ending = QueryEnds (λ rule. (rule ≡ BadDate date) × (stamp_of 
 abbrev pub TextEnds : RawVault → What → ℕ → Ending → Type 0
 TextEnds vault what date ending =
     QueryEnds
-    (λ rule. (hashes : Hashes) (sealed : List Window) → HasSealed hashes sealed vault → mart_text vault.mapping hashes sealed vault.tables what date ≡ Err rule)
+    (λ rule. (hashes : Hashes) (sealed : List Window) → HasZeroKeys hashes → HasSealed hashes sealed vault → mart_text vault.mapping hashes sealed vault.tables what date ≡ Err rule)
     ending

@@ -3,9 +3,9 @@ use Rattle.std.specs.Prelude.{ℕ, ◌+◌, Bool, true, false, ◌||◌, List, [
 use Rattle.std.specs.Fmt.{decimal}
 use Rattle.dv_text.specs.Keys.{Hashes}
 use Rattle.dv_text.specs.Stamps.{stamp_of}
-use Rattle.dv_catalog.specs.Built.{built_mapping}
 use Rattle.dv_catalog.specs.Entries.{Mapping}
 use Rattle.dv_catalog.specs.Limits.{most_manifest_bytes, most_mapping_bytes}
+use Rattle.dv_catalog.specs.MappingFiles.{read_mapping}
 use Rattle.dv_mapfile.specs.Manifests.{manifest_in}
 use Rattle.dv_catalog.specs.Printed.{printed}
 use Rattle.dv_catalog.specs.RuleTexts.{rule_text}
@@ -18,7 +18,7 @@ use Rattle.dv_catalog.specs.declared.rules.Rule.TheVariants.{Manifest as Manifes
 use Rattle.dv_catalog.specs.declared.windows.ExtractIn.{ExtractIn}
 use Rattle.dv_catalog.specs.declared.windows.WindowIn.{WindowIn}
 use Rattle.dv_mart.specs.MartTexts.{mart_text}
-use Rattle.dv_mart.specs.Whats.{offered_what}
+use Rattle.dv_mart.specs.Whats.{what_of}
 use Rattle.dv_mart.specs.declared.query_rules.QueryRule.{QueryRule}
 use Rattle.dv_mart.specs.declared.query_rules.QueryRule.TheVariants.{UnknownMart, BadDate}
 use Rattle.dv_mart.specs.declared.whats.What.{What}
@@ -190,7 +190,7 @@ mapping_bytes files = given (most_mapping_bytes + 1) files mapping_file
 
 -- the mapping's file, read
 abbrev pub mapping_at : List NamedFile → Option (Result Mapping MapError)
-mapping_at files = option_map built_mapping (mapping_bytes files)
+mapping_at files = option_map read_mapping (mapping_bytes files)
 
 abbrev pub tried_at : Mapping → Hashes → List NamedFile → What → List ℕ → List (List ℕ) → Option ℕ → Tried
 tried_at mapping hashes files what date names None = ended statuses.Refused (query_line (BadDate date))
@@ -203,7 +203,7 @@ tried_for mapping hashes files word date names (Some what) = tried_at mapping ha
 abbrev pub tried_with : Hashes → List NamedFile → List ℕ → List ℕ → List (List ℕ) → Option (Result Mapping MapError) → Tried
 tried_with hashes files what date names None = ended statuses.ReadFault (absent_line mapping_file)
 tried_with hashes files what date names (Some (Err e)) = ended statuses.Mapping (refused_mapping_line e)
-tried_with hashes files what date names (Some (Ok mapping)) = tried_for mapping hashes files what date names (offered_what mapping what)
+tried_with hashes files what date names (Some (Ok mapping)) = tried_for mapping hashes files what date names (what_of mapping what)
 
 -- what `try` writes for the folder's files, and its status
 abbrev pub tried : Hashes → List NamedFile → List ℕ → List ℕ → List (List ℕ) → Tried

@@ -3,19 +3,18 @@ ghost use Rattle.std.specs.Prelude.{◌≡◌, ◌≤◌, ℕ, Some, Ok, IfOk, I
 ghost use Rattle.dv_text.specs.Keys.{Hashes};
 ghost use Rattle.dv_text.specs.Stamps.{stamp_of};
 ghost use Rattle.dv_text.specs.Told.{Told};
-ghost use Rattle.dv_mart.specs.Whats.{offered_what};
-ghost use Rattle.dv_vault.specs.Vaults.{IsBuilt};
+ghost use Rattle.dv_catalog.specs.MappingFiles.{read_mapping};
+ghost use Rattle.dv_mart.specs.Whats.{what_of};
 ghost use Rattle.dv_try.specs.Endings.{DateEnds, IsMappingEnd, IsReadCause, MappingEnds, WhatEnds};
 ghost use Rattle.dv_try.specs.Loadings.{IsLoaded, IsReady};
 ghost use Rattle.dv_try.specs.Tried.{mapping_at, mapping_bytes, start};
-ghost use Rattle.dv_catalog.specs.Built.{built_mapping};
 
 use crate::endings::Ending;
 use crate::lines::MAPPING_NAME;
 use crate::reads::read_named;
 use crate::takings::{Loading, begin_loading};
 use dv_catalog::{Catalog, MapError};
-use dv_mapfile::read_built_catalog;
+use dv_mapfile::read_catalog;
 use dv_mart::{QueryRule, What};
 use dv_outside::Folder;
 use dv_text::{Duplicate, List, Memory, Stamp, Text};
@@ -46,8 +45,7 @@ pub struct MappingFile {
 pub fn read_mapping_file<F: Folder>(alloc: Global, folder: &mut F) -> Result<MappingFile, Ending>
     ensures ok { IfOk result (λ file. Told (F.files folder.old) (λ files. mapping_at files ≡ Some (Ok file.catalog))) }
     ensures bytes { IfOk result (λ file. Told (F.files folder.old) (λ files. mapping_bytes files ≡ Some file.bytes)) }
-    ensures reads { IfOk result (λ file. built_mapping file.bytes ≡ Ok file.catalog) }
-    ensures built { IfOk result (λ file. IsBuilt file.catalog) }
+    ensures reads { IfOk result (λ file. read_mapping file.bytes ≡ Ok file.catalog) }
     ensures ends { IfErr result (λ ending. Told (F.files folder.old) (λ files. MappingEnds files ending)) }
     ensures cause { IfErr result (IsReadCause (F.faults folder.old) (F.faults folder.new)) }
     ensures kept { F.files folder.new ≡ F.files folder.old }
@@ -57,7 +55,7 @@ pub fn read_mapping_file<F: Folder>(alloc: Global, folder: &mut F) -> Result<Map
         return Err(Ending::Memory);
     };
     let bytes = read_named(alloc, folder, &name, MOST_MAPPING_BYTES + 1)?;
-    match read_built_catalog(alloc, bytes.items()) {
+    match read_catalog(alloc, bytes.items()) {
         Ok(catalog) => Ok(MappingFile { bytes, catalog }),
         Err(e) => Err(end_mapping(e)),
     }
@@ -86,7 +84,7 @@ pub(crate) fn open_loading<F: Folder>(
 
 /// The mart that a word names.
 pub(crate) fn check_what(alloc: Global, catalog: &Catalog, word: &Text) -> Result<What, Ending>
-    ensures ok { IfOk result (λ what. offered_what catalog.now word.now ≡ Some what) }
+    ensures ok { IfOk result (λ what. what_of catalog.now word.now ≡ Some what) }
     ensures ends { IfErr result (WhatEnds catalog.now word.now) }
     ensures cause { (before now : ℕ) → IfErr result (IsReadCause before now) }
 {

@@ -2,7 +2,6 @@
 ghost use Rattle.std.specs.Prelude.{◌≡◌, ◌++◌, IfOk, OnOk};
 ghost use Rattle.dv_text.specs.Keys.{Hashes, hashes_of};
 ghost use Rattle.dv_catalog.specs.Entries.{Mapping};
-ghost use Rattle.dv_vault.specs.Vaults.{IsBuilt};
 ghost use Rattle.dv_try.specs.Loadings.{outcome_of, taken_text, IsLine, IsLoaded, IsReady, Takes, TakesArrival, TakesWindow};
 ghost use Rattle.dv_try.specs.Readings.{arrival_of};
 ghost use Rattle.dv_try.specs.Tried.{is_refused, start, window_line as line_of_window, Progress};
@@ -31,9 +30,8 @@ pub enum Taken {
     Refused(Rule),
 }
 
-/// An office of no windows, of a mapping in which every form is built, for digests of so many bytes.
+/// An office of no windows, for digests of so many bytes.
 pub(crate) fn begin_loading(alloc: Global, catalog: Catalog, width: u8) -> Result<Loading, Memory>
-    requires { IsBuilt catalog }
     ensures ready { (hashes : Hashes) → IfOk result (IsReady hashes) }
     ensures mapping { IfOk result (λ loading. loading.office.vault.mapping ≡ catalog) }
     ensures loaded { (hashes : Hashes) → IfOk result (λ loading. IsLoaded loading.office.vault.mapping hashes loading start) }

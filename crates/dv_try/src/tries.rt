@@ -1,9 +1,10 @@
 // `try`: the windows of manifests are loaded, and a mart's text is written.
-ghost use Rattle.std.specs.Prelude.{◌≡◌, ◌≤◌, ◌⊎◌, ℕ, List, IfOk, OnOk, IfErr, Ok};
+ghost use Rattle.std.specs.Prelude.{◌≡◌, ◌≤◌, ◌⊎◌, ℕ, List, IfOk, OnOk, IfErr, Ok, length};
 ghost use Rattle.dv_text.specs.Causes.{Rose};
 ghost use Rattle.dv_text.specs.Keys.{Hashes, hashes_of};
 ghost use Rattle.dv_text.specs.Told.{Told};
 ghost use Rattle.dv_text.specs.declared.rows.Window.{Window};
+ghost use Rattle.dv_bridge.specs.ZeroKeys.{HasZeroKeys};
 ghost use Rattle.dv_catalog.specs.Entries.{Mapping};
 ghost use Rattle.dv_mart.specs.MartTexts as spec;
 ghost use Rattle.dv_mart.specs.MartTexts.{path_name};
@@ -138,7 +139,7 @@ fn end_too_large(alloc: Global, catalog: &Catalog, what: &What) -> Ending
 /// The text of what is asked for, over the sealed windows of a vault.
 pub fn text_of(alloc: Global, vault: &Vault, what: &What, date: Stamp) -> Result<Text, Ending>
     requires { IsOffered vault.now.mapping what.now }
-    ensures ok { IfOk result (λ text. (hashes : Hashes) (sealed : List Window) → HasSealed hashes sealed vault.now
+    ensures ok { IfOk result (λ text. (hashes : Hashes) (sealed : List Window) → HasZeroKeys hashes → HasSealed hashes sealed vault.now
         → spec.mart_text vault.now.mapping hashes sealed vault.now.tables what.now date ≡ Ok text) }
     ensures ends { IfErr result (TextEnds vault.now what.now date) }
     ensures cause { (before now : ℕ) → IfErr result (IsReadCause before now) }
@@ -149,6 +150,11 @@ pub fn text_of(alloc: Global, vault: &Vault, what: &What, date: Stamp) -> Result
         Err(MartFault::Memory) => Err(Ending::Memory),
     }
 }
+
+// Does nothing: a call tells a proof that all digests have one width.
+fn note_sized<H: KeyDigest>(_digest: &H)
+    ensures { (text : List ℕ) → length (H.digest_of text) ≡ H.size }
+{}
 
 // All but the last line and the status: whether a window was refused.
 fn try_all<F: Folder, O: Sink, E: Sink, H: KeyDigest, G: Gate>(
@@ -182,6 +188,7 @@ fn try_all<F: Folder, O: Sink, E: Sink, H: KeyDigest, G: Gate>(
         digest,
         gate,
     )?;
+    note_sized(digest);
     let vault = readied.loading.office.vault();
     let text = text_of(alloc, vault, &readied.what, readied.date)?;
     match write_all(out, text.bytes()) {

@@ -146,13 +146,13 @@ const REFUSED_MAPPINGS: &[Case] = &[
         files: &[
             (
                 b"mapping.toml",
-                b"[[hub]]\nname = \"employee\"\nparts = 1\n[[hub]]\nname = \"department\"\nparts = 1\n[[link]]\nname = \"works\"\nhubs = [\"employee\", \"department\"]\n[[feed]]\nname = \"assignments\"\nsource = \"hr\"\nlink = \"works\"\nkeys = [[\"EMP\"], [\"DEPT\"]]\ndriver = [\"employee\"]\n[[path]]\nname = \"worked\"\nfeeds = [\"assignments\"]\nvia = []\n",
+                b"[[hub]]\nname = \"employee\"\nparts = 1\n[[hub]]\nname = \"department\"\nparts = 1\n[[link]]\nname = \"works\"\nhubs = [\"employee\", \"department\"]\n[[feed]]\nname = \"assignments\"\nsource = \"hr\"\nlink = \"works\"\nkeys = [[\"EMP\"], [\"DEPT\"]]\ndriver = [\"employee\"]\n[[path]]\nname = \"worked\"\nfeeds = [\"assignments\"]\nvia = [\"employee\"]\n",
             ),
             (b"w1.toml", DAY_1),
             (b"c1.csv", ROWS),
         ],
         out: "",
-        err: "vaultdesk: mapping 0 NotYet place=path 1 name\n",
+        err: "vaultdesk: mapping 12 PathBroken path=worked\n",
         status: Status::Mapping,
     },
 ];

@@ -28,7 +28,7 @@ fn padded(alloc: Global, front: &[u8], byte: u8, count: usize) -> Result<List<u8
 }
 
 // Puts a file with bytes behind others.
-fn put(
+pub(super) fn put(
     alloc: Global,
     all: &mut List<NamedFile>,
     name: &[u8],

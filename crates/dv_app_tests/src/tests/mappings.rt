@@ -28,6 +28,22 @@ pub(crate) const ASSIGNMENTS: &[u8] =
 pub(crate) const ORDERS: &[u8] =
     b"[[hub]]\nname = \"customer\"\nparts = 1\n[[hub]]\nname = \"sales_order\"\nparts = 1\n[[hub]]\nname = \"product\"\nparts = 1\n[[link]]\nname = \"placed\"\nhubs = [\"customer\", \"sales_order\"]\n[[link]]\nname = \"contains\"\nhubs = [\"sales_order\", \"product\"]\n[[feed]]\nname = \"placements\"\nsource = \"shop\"\nlink = \"placed\"\nkeys = [[\"CUST\"], [\"ORD\"]]\n[[feed]]\nname = \"lines\"\nsource = \"shop\"\nlink = \"contains\"\nkeys = [[\"ORD\"], [\"PROD\"]]\nattrs = [\"QTY\"]\n";
 
+/// The same two links, and a path over them.
+pub(crate) const SOLD: &[u8] =
+    b"[[hub]]\nname = \"customer\"\nparts = 1\n[[hub]]\nname = \"sales_order\"\nparts = 1\n[[hub]]\nname = \"product\"\nparts = 1\n[[link]]\nname = \"placed\"\nhubs = [\"customer\", \"sales_order\"]\n[[link]]\nname = \"contains\"\nhubs = [\"sales_order\", \"product\"]\n[[feed]]\nname = \"placements\"\nsource = \"shop\"\nlink = \"placed\"\nkeys = [[\"CUST\"], [\"ORD\"]]\n[[feed]]\nname = \"lines\"\nsource = \"shop\"\nlink = \"contains\"\nkeys = [[\"ORD\"], [\"PROD\"]]\nattrs = [\"QTY\"]\n[[path]]\nname = \"sold\"\nfeeds = [\"placements\", \"lines\"]\nvia = [\"sales_order\"]\n";
+
+/// A window of both.
+pub(crate) const SALES_1: &[u8] =
+    b"load = \"2024-03-01T02:00:00\"\n\n[[extract]]\nfeed = \"placements\"\nfile = \"p1.csv\"\n\n[[extract]]\nfeed = \"lines\"\nfile = \"l1.csv\"\n";
+
+/// An order of a customer and one of none, and their lines.
+pub(crate) const SALES: &[(&[u8], &[u8])] = &[
+    (b"mapping.toml", SOLD),
+    (b"w1.toml", SALES_1),
+    (b"p1.csv", b"CUST,ORD\n1,O1\n,O2\n"),
+    (b"l1.csv", b"ORD,PROD,QTY\nO1,P1,3\nO2,P2,1\nO1,P2,2\n"),
+];
+
 /// An attribute, and a column that is ignored.
 pub(crate) const NAMES_AND_NOTES: &[u8] =
     b"[[hub]]\nname = \"customer\"\nparts = 1\n[[feed]]\nname = \"customers\"\nsource = \"crm\"\nhub = \"customer\"\nkeys = [[\"CUST_NO\"]]\nattrs = [\"NAME\"]\nignore = [\"NOTES\"]\n";

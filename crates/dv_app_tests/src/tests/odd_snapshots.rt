@@ -1,10 +1,10 @@
 // Snapshots that no command leaves so, and as many as there may be.
-use super::mappings::{DAY_1, NAMES};
+use super::mappings::{DAY_1, NAMES, SALES};
 use super::shown_keepers::Shown;
 use super::{Case, kept, play};
 use dv_app::Md5Keys;
 use dv_outside::Status;
-use dv_records::{PitCell, PitRow, SnapHead};
+use dv_records::{BridgeRow, PitCell, PitRow, Rows, SnapHead};
 use dv_text::{Digest, List, Memory, Stamp};
 use std::alloc::Global;
 use std::process::Abort;
@@ -39,21 +39,33 @@ const LAST: &[u8] = b"2024-03-01T02:00:00";
 
 const BEHIND: &[u8] = b"2024-03-01T02:00:01";
 
-// The cases hold over a vault of one customer with snapshots of these heads, of whose tables each has these rows.
-fn hold_beside(
+// The cases hold over the vault of these with snapshots of these heads, of whose tables each has these rows.
+fn hold_over(
     rt: &impl Abort,
     alloc: Global,
+    vault: &[Case],
     heads: List<SnapHead>,
-    rows: List<PitRow>,
+    rows: Rows,
     cases: &[Case],
 ) -> Result<(), Memory> {
-    let keeper = kept(rt, alloc, ONE_WINDOW, &[])?;
+    let keeper = kept(rt, alloc, vault, &[])?;
     let mut shown = Shown {
         keeper,
         heads,
         rows,
     };
     play(rt, alloc, cases, &mut shown, &Md5Keys)
+}
+
+// The cases hold over a vault of one customer with snapshots of these heads, whose tables have no rows.
+fn hold_beside(
+    rt: &impl Abort,
+    alloc: Global,
+    heads: List<SnapHead>,
+    cases: &[Case],
+) -> Result<(), Memory> {
+    let rows = Rows::Pits(List::new(alloc));
+    hold_over(rt, alloc, ONE_WINDOW, heads, rows, cases)
 }
 
 fn head_at(date: &[u8], weight: u64) -> SnapHead {
@@ -118,7 +130,7 @@ const ONE_MORE: &[Case] = &[
 fn there_are_at_most_1000_snapshots(rt: HostRuntime) -> Result<(), Memory> {
     let alloc = rt.alloc();
     let heads = many_heads(alloc, 1_000)?;
-    hold_beside(&rt, alloc, heads, List::new(alloc), ONE_MORE)
+    hold_beside(&rt, alloc, heads, ONE_MORE)
 }
 
 const ROOM: Case = Case {
@@ -131,7 +143,7 @@ const ROOM: Case = Case {
 fn the_last_of_1000_snapshots_is_stored(rt: HostRuntime) -> Result<(), Memory> {
     let alloc = rt.alloc();
     let heads = many_heads(alloc, 999)?;
-    hold_beside(&rt, alloc, heads, List::new(alloc), &[ROOM])
+    hold_beside(&rt, alloc, heads, &[ROOM])
 }
 
 const TOO_HEAVY: Case = Case {
@@ -144,7 +156,7 @@ fn snapshots_weigh_only_so_much(rt: HostRuntime) -> Result<(), Memory> {
     let alloc = rt.alloc();
     for (weight, case) in [(MOST_WEIGHT - 144, ROOM), (MOST_WEIGHT - 143, TOO_HEAVY)] {
         let heads = heads_at(alloc, &[b"2024-03-01T01:00:00"], weight)?;
-        hold_beside(&rt, alloc, heads, List::new(alloc), &[case])?;
+        hold_beside(&rt, alloc, heads, &[case])?;
     }
     Ok(())
 }
@@ -174,7 +186,7 @@ fn heads_of_snapshots_are_held_to_their_form(rt: HostRuntime) -> Result<(), Memo
     let alloc = rt.alloc();
     for (dates, weight, case) in ODD {
         let heads = heads_at(alloc, dates, *weight)?;
-        hold_beside(&rt, alloc, heads, List::new(alloc), &[*case])?;
+        hold_beside(&rt, alloc, heads, &[*case])?;
     }
     Ok(())
 }
@@ -188,11 +200,11 @@ const ONE_TOO_MANY: Case = Case {
 fn one_snapshot_too_many_is_damage(rt: HostRuntime) -> Result<(), Memory> {
     let alloc = rt.alloc();
     let heads = many_heads(alloc, 1_001)?;
-    hold_beside(&rt, alloc, heads, List::new(alloc), &[ONE_TOO_MANY])
+    hold_beside(&rt, alloc, heads, &[ONE_TOO_MANY])
 }
 
 // A row with so many cells, and with this hash key.
-fn row_of(alloc: Global, cells: u32, key: Digest) -> Result<List<PitRow>, Memory> {
+fn row_of(alloc: Global, cells: u32, key: Digest) -> Result<Rows, Memory> {
     let mut made = List::new(alloc);
     for _ in 0..cells {
         made.push(PitCell {
@@ -202,7 +214,7 @@ fn row_of(alloc: Global, cells: u32, key: Digest) -> Result<List<PitRow>, Memory
     }
     let mut rows = List::new(alloc);
     rows.push(PitRow { key, cells: made })?;
-    Ok(rows)
+    Ok(Rows::Pits(rows))
 }
 
 const SHOWN: Case = Case {
@@ -229,7 +241,89 @@ fn a_stored_row_has_its_cells_and_its_width(rt: HostRuntime) -> Result<(), Memor
         (1, Digest::zero(32), MISSHAPEN),
     ] {
         let heads = heads_at(alloc, &[LAST], 0)?;
-        hold_beside(&rt, alloc, heads, row_of(alloc, cells, key)?, &[case])?;
+        let rows = row_of(alloc, cells, key)?;
+        hold_over(&rt, alloc, ONE_WINDOW, heads, rows, &[case])?;
     }
     Ok(())
+}
+
+/// A customer's order of two lines, and a line of another order.
+const SOLD_WINDOW: &[Case] = &[
+    Case {
+        files: SALES,
+        ..STORED
+    },
+    Case {
+        words: &["load", "w1.toml"],
+        files: SALES,
+        err: "w1.toml: Loaded 18\n",
+        ..STORED
+    },
+];
+
+// So many digests of zeros, of so many bytes.
+fn zeros(alloc: Global, count: u32, width: u8) -> Result<List<Digest>, Memory> {
+    let mut digests = List::new(alloc);
+    for _ in 0..count {
+        digests.push(Digest::zero(width))?;
+    }
+    Ok(digests)
+}
+
+// A row with so many links and hubs, whose digests have these widths.
+fn bridge_of(
+    alloc: Global,
+    (links, hubs): (u32, u32),
+    (link_width, hub_width): (u8, u8),
+) -> Result<Rows, Memory> {
+    let mut rows = List::new(alloc);
+    rows.push(BridgeRow {
+        links: zeros(alloc, links, link_width)?,
+        hubs: zeros(alloc, hubs, hub_width)?,
+    })?;
+    Ok(Rows::Bridges(rows))
+}
+
+const BRIDGE: Case = Case {
+    words: &["bridge", "sold", "2024-03-01T02:00:00"],
+    out: "snapshot,placements,lines,placements.customer,placements.sales_order,lines.sales_order,lines.product\n2024-03-01T02:00:00,00000000000000000000000000000000,00000000000000000000000000000000,00000000000000000000000000000000,00000000000000000000000000000000,00000000000000000000000000000000,00000000000000000000000000000000\n",
+    err: "",
+    ..STORED
+};
+
+const BROKEN_BRIDGE: Case = Case {
+    out: "",
+    err: "vaultdesk: damaged bridge_sold 1 F4\n",
+    status: Status::Damaged,
+    ..BRIDGE
+};
+
+#[test]
+fn a_stored_bridge_row_has_its_digests_and_their_width(rt: HostRuntime) -> Result<(), Memory> {
+    let alloc = rt.alloc();
+    for (counts, widths, case) in [
+        ((2, 4), (16, 16), BRIDGE),
+        ((1, 4), (16, 16), BROKEN_BRIDGE),
+        ((3, 4), (16, 16), BROKEN_BRIDGE),
+        ((2, 3), (16, 16), BROKEN_BRIDGE),
+        ((2, 5), (16, 16), BROKEN_BRIDGE),
+        ((2, 4), (32, 16), BROKEN_BRIDGE),
+        ((2, 4), (16, 32), BROKEN_BRIDGE),
+    ] {
+        let heads = heads_at(alloc, &[LAST], 0)?;
+        let rows = bridge_of(alloc, counts, widths)?;
+        hold_over(&rt, alloc, SOLD_WINDOW, heads, rows, &[case])?;
+    }
+    Ok(())
+}
+
+#[test]
+fn a_stored_row_is_of_its_kind(rt: HostRuntime) -> Result<(), Memory> {
+    let alloc = rt.alloc();
+    let heads = heads_at(alloc, &[LAST], 0)?;
+    let rows = row_of(alloc, 1, Digest::zero(16))?;
+    hold_over(&rt, alloc, SOLD_WINDOW, heads, rows, &[BROKEN_BRIDGE])?;
+    let heads = heads_at(alloc, &[LAST], 0)?;
+    let rows = bridge_of(alloc, (2, 4), (16, 16))?;
+    hold_over(&rt, alloc, ONE_WINDOW, heads, rows, &[MISSHAPEN])
 }

@@ -1,6 +1,6 @@
 // A keeper with snapshots of its own over the windows and rows of another one.
 use dv_catalog::TableId;
-use dv_records::{Keeper, KeeperError, MemoryKeeper, PitRow, Rows, SnapHead, SnapId, SnapTable};
+use dv_records::{Keeper, KeeperError, MemoryKeeper, Rows, SnapHead, SnapId, SnapTable};
 use dv_text::{Duplicate, List, Memory, Stamp, Text, Window, WindowHead};
 use std::alloc::Global;
 
@@ -9,7 +9,7 @@ use std::alloc::Global;
 pub(crate) struct Shown {
     pub(crate) keeper: MemoryKeeper,
     pub(crate) heads: List<SnapHead>,
-    pub(crate) rows: List<PitRow>,
+    pub(crate) rows: Rows,
 }
 
 fn copied(alloc: Global, heads: &[SnapHead]) -> Result<List<SnapHead>, Memory> {
@@ -86,7 +86,7 @@ impl Keeper for Shown {
         _most: u32,
     ) -> Result<Rows, KeeperError> {
         if from == 0 {
-            Ok(Rows::Pits(self.rows.copy()?))
+            Ok(self.rows.copy()?)
         } else {
             Ok(Rows::Pits(List::new(alloc)))
         }

@@ -50,13 +50,13 @@ returns-in-Snapshot-clause-comes g c = λ s told. rw c.in-Snapshot.is
 pub returns-in-Snapshot-clause-cause : goal.returns-in-Snapshot-clause-cause
 returns-in-Snapshot-clause-cause g c = λ f was is. comes_for_more f _ _ c.snapshot.result (c.snapshot.ensures.cause f)
 
-pub returns-in-Pit-clause-comes : goal.returns-in-Pit-clause-comes
-returns-in-Pit-clause-comes g c = λ s told. rw c.in-Pit.is
-    (comes_more (record { folder = ⊥; keeper = Rose (g.K.Keeper.faults c.args.keeper.now) (g.K.Keeper.faults c.pit.new.keeper) }) (record { folder = Rose (g.F.Folder.faults c.args.folder.now) (g.F.Folder.faults c.args.folder.now); keeper = Rose (g.K.Keeper.faults c.args.keeper.now) (g.K.Keeper.faults c.pit.new.keeper) }) (λ none. absurd none) (λ rose. rose) (hashes_of g.H.KeyDigest.digest_of g.H.KeyDigest.size) g.H.KeyDigest.size (g.F.Folder.files c.args.folder.now) (words.Pit c.in-Pit.hub.now c.in-Pit.date.now) s
-    (g.K.Keeper.store c.pit.new.keeper) c.pit.result (c.pit.ensures.comes (g.F.Folder.files c.args.folder.now) s told))
+pub returns-in-Stored-clause-comes : goal.returns-in-Stored-clause-comes
+returns-in-Stored-clause-comes g c = λ s told. rw c.in-Stored.is
+    (comes_more (record { folder = ⊥; keeper = Rose (g.K.Keeper.faults c.args.keeper.now) (g.K.Keeper.faults c.stored.new.keeper) }) (record { folder = Rose (g.F.Folder.faults c.args.folder.now) (g.F.Folder.faults c.args.folder.now); keeper = Rose (g.K.Keeper.faults c.args.keeper.now) (g.K.Keeper.faults c.stored.new.keeper) }) (λ none. absurd none) (λ rose. rose) (hashes_of g.H.KeyDigest.digest_of g.H.KeyDigest.size) g.H.KeyDigest.size (g.F.Folder.files c.args.folder.now) (words.Stored (words.stored_of c.in-Stored.table) c.in-Stored.date.now) s
+    (g.K.Keeper.store c.stored.new.keeper) c.stored.result (c.stored.ensures.comes (g.F.Folder.files c.args.folder.now) s told))
 
-pub returns-in-Pit-clause-cause : goal.returns-in-Pit-clause-cause
-returns-in-Pit-clause-cause g c = λ f was is. comes_for_more f _ _ c.pit.result (c.pit.ensures.cause f)
+pub returns-in-Stored-clause-cause : goal.returns-in-Stored-clause-cause
+returns-in-Stored-clause-cause g c = λ f was is. comes_for_more f _ _ c.stored.result (c.stored.ensures.cause f)
 
 pub returns-in-Init-clause-sound : goal.returns-in-Init-clause-sound
 returns-in-Init-clause-sound g c = c.init.ensures.sound (hashes_of g.H.KeyDigest.digest_of g.H.KeyDigest.size)

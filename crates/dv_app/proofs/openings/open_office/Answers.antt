@@ -1,28 +1,29 @@
 use Rattle.dv_try.proofs.Vocabulary.{err_from_is_err_and, hashes_of, ◌∙◌}
+use Rattle.dv_bridge.proofs.ZeroKeys.{zero_keys}
 use Rattle.dv_form.proofs.Widths.{of_width}
 use Rattle.dv_app.proofs.ShutStores.{start_shut, start_sound}
 use Rattle.dv_app.proofs.openings.open_office.Goals as goal
 
-pub returns-in_err-office-clause-shut : goal.returns-in_err-office-clause-shut
-returns-in_err-office-clause-shut g c =
+pub returns-in_err-start-clause-shut : goal.returns-in_err-start-clause-shut
+returns-in_err-start-clause-shut g c =
     let p = err_from_is_err_and c.from_residual.result c.from_residual.ensures.1 in
-    rw (p.1, p.2) (start_shut (hashes_of g.H.KeyDigest.digest_of g.H.KeyDigest.size) g.H.KeyDigest.size (g.K.Keeper.store c.args.keeper.now) _ c.in_err-office.ensures.none c.in_err-office.ensures.damaged)
+    rw (p.1, p.2) (start_shut (hashes_of g.H.KeyDigest.digest_of g.H.KeyDigest.size) g.H.KeyDigest.size (g.K.Keeper.store c.args.keeper.now) _ c.in_err-start.ensures.none c.in_err-start.ensures.damaged)
 
-pub returns-in_err-office-clause-sound : goal.returns-in_err-office-clause-sound
-returns-in_err-office-clause-sound g c =
+pub returns-in_err-start-clause-sound : goal.returns-in_err-start-clause-sound
+returns-in_err-start-clause-sound g c =
     let p = err_from_is_err_and c.from_residual.result c.from_residual.ensures.1 in
-    rw (p.1, p.2) (start_sound (hashes_of g.H.KeyDigest.digest_of g.H.KeyDigest.size) g.H.KeyDigest.size (g.K.Keeper.store c.args.keeper.now) _ c.in_err-office.ensures.undamaged)
+    rw (p.1, p.2) (start_sound (hashes_of g.H.KeyDigest.digest_of g.H.KeyDigest.size) g.H.KeyDigest.size (g.K.Keeper.store c.args.keeper.now) _ c.in_err-start.ensures.undamaged)
 
 pub returns-clause-ok : goal.returns-clause-ok
 returns-clause-ok g c = record {
   opened = λ s told. record {
-    mapped = (c.in_ok-office.ensures.agrees s (c.in_ok-office.ensures.store ∙ told)).mapped;
-    built = c.catalog-catalog.ensures.built;
-    in_form = c.in_ok-office.ensures.in_form s told;
+    mapped = (c.in_ok-start.ensures.agrees s (c.in_ok-start.ensures.store ∙ told)).mapped;
+    in_form = c.in_ok-start.ensures.in_form s told;
   };
-  agrees = λ s told. c.in_ok-office.ensures.agrees s (c.in_ok-office.ensures.store ∙ told);
-  fresh = c.in_ok-office.ensures.fresh;
-  width_is = c.in_ok-office.ensures.width;
+  agrees = λ s told. c.in_ok-start.ensures.agrees s (c.in_ok-start.ensures.store ∙ told);
+  fresh = c.in_ok-start.ensures.fresh;
+  width_is = c.in_ok-start.ensures.width;
   sized = (of_width g.H.KeyDigest.digest_of g.H.KeyDigest.size c.note_sized.ensures).hash;
-  stands = λ s told state stands. c.in_ok-office.ensures.stands state s told stands;
+  zero_keys = zero_keys g.H.KeyDigest.digest_of g.H.KeyDigest.size c.note_sized.ensures;
+  stands = λ s told state stands. c.in_ok-start.ensures.stands state s told stands;
 }

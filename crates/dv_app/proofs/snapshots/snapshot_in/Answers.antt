@@ -23,7 +23,7 @@ returns-clause-comes g c = λ hashes width is_open told s e.
     let rises : Rises = record { folder = ⊥; keeper = Rose (g.K.Keeper.faults c.args.keeper.now) (g.K.Keeper.faults c.snapshot-answer.new.keeper) } in
     told_comes (KeptSays rises hashes width told (Snapshot c.args.date.now) s after) (snapshot_said mapping answer) c.answered.result
     (snapshot_answered hashes width before c.args.office.now is_open s e rises told c.args.date.now after c.in_ok-date.date c.in_ok-date.ensures.ok c.snapshot-answer.new.office c.snapshot-answer.ensures.mapping answer
-    (c.snapshot-answer.ensures.step hashes) c.snapshot-answer.ensures.kept c.snapshot-answer.ensures.cause)
+    (λ state. c.snapshot-answer.ensures.step hashes state is_open.zero_keys) c.snapshot-answer.ensures.kept c.snapshot-answer.ensures.cause)
     (subst (λ m. Tells (snapshot_said m answer) c.answered.result) (c.catalog.ensures.value ∙ c.snapshot-answer.ensures.mapping) c.answered.ensures.says)
 
 pub returns-clause-cause : goal.returns-clause-cause

@@ -1,4 +1,4 @@
-use Rattle.dv_try.proofs.Vocabulary.{Some, ap, sym, ◌∙◌, Ok, err_from_is_err_and, trial_of, offered_what}
+use Rattle.dv_try.proofs.Vocabulary.{Some, ap, sym, ◌∙◌, Ok, err_from_is_err_and, trial_of, what_of}
 use Rattle.dv_try.proofs.MappingSteps.{begins, date_ends, mapping_ends, what_ends}
 use Rattle.dv_try.proofs.tries.begin.Goals as goal
 
@@ -35,10 +35,10 @@ returns-in_err-date-clause-cause g c =
 pub returns-clause-ok : goal.returns-clause-ok
 returns-clause-ok g c hashes = λ files told.
     begins (trial_of hashes files c.args.asked.now) 0 0 _ (c.in_ok-loading.ensures.ok files told)
-    _ (ap (λ m. offered_what m c.args.asked.now.what.now) (sym c.catalog.ensures.value) ∙ c.in_ok-what.ensures.ok) _ c.in_ok-date.ensures.ok
+    _ (ap (λ m. what_of m c.args.asked.now.what.now) (sym c.catalog.ensures.value) ∙ c.in_ok-what.ensures.ok) _ c.in_ok-date.ensures.ok
 
 pub returns-clause-offered : goal.returns-clause-offered
 returns-clause-offered g c = record {
   word = c.args.asked.now.what.now;
-  offered = ap (λ m. offered_what m c.args.asked.now.what.now) (sym c.catalog.ensures.value) ∙ c.in_ok-what.ensures.ok;
+  offered = ap (λ m. what_of m c.args.asked.now.what.now) (sym c.catalog.ensures.value) ∙ c.in_ok-what.ensures.ok;
 }

@@ -1,4 +1,5 @@
 use Rattle.dv_try.proofs.Vocabulary.{Ok, ap, inr, refl, subst, sym, ◌∙◌, err_from_is_err_and, RawVault, hashes_of, IsOffered, trial_of}
+use Rattle.dv_bridge.proofs.ZeroKeys.{zero_keys}
 use Rattle.dv_try.proofs.EndSteps.{stop_cause_so}
 use Rattle.dv_try.proofs.RunSteps.{none_wrote}
 use Rattle.dv_try.proofs.TrySteps.{begin_ends, gives_all, load_stops, no_text, text_cut}
@@ -41,7 +42,7 @@ returns-in_err-text-clause-stops g c =
     rw (p.1, p.2) (λ files told. (
       refl,
       no_text (trial_of (hashes_of g.H.KeyDigest.digest_of g.H.KeyDigest.size) files c.args.asked.now) _ _ _ _ _ (c.in_ok-readied.ensures.ok (hashes_of g.H.KeyDigest.digest_of g.H.KeyDigest.size) files told) _ _ _
-          (c.in_ok-load_all.ensures.ok files (c.in_ok-readied.ensures.kept ∙ told)) _ c.vault-vault.ensures _ c.in_err-text.ensures.ends,
+          (c.in_ok-load_all.ensures.ok files (c.in_ok-readied.ensures.kept ∙ told)) (zero_keys g.H.KeyDigest.digest_of g.H.KeyDigest.size c.note_sized.ensures) _ c.vault-vault.ensures _ c.in_err-text.ensures.ends,
     ))
 
 pub returns-in_err-text-clause-cause : goal.returns-in_err-text-clause-cause
@@ -52,11 +53,11 @@ returns-in_err-text-clause-cause g c =
 pub returns-in-Ok-clause-ok : goal.returns-in-Ok-clause-ok
 returns-in-Ok-clause-ok g c = λ files told.
     let loads = c.in_ok-load_all.ensures.ok files (c.in_ok-readied.ensures.kept ∙ told) in
-    gives_all (trial_of (hashes_of g.H.KeyDigest.digest_of g.H.KeyDigest.size) files c.args.asked.now) 0 0 _ _ _ (c.in_ok-readied.ensures.ok (hashes_of g.H.KeyDigest.digest_of g.H.KeyDigest.size) files told) _ _ _ loads _ _
-    c.bytes.result.now c.vault-vault.result.now c.vault-vault.ensures (λ hashes sealed has. c.in_ok-text.ensures.ok hashes sealed has ∙ ap Ok (sym c.bytes.ensures)) c.in-Ok.ensures.ok
+    gives_all (trial_of (hashes_of g.H.KeyDigest.digest_of g.H.KeyDigest.size) files c.args.asked.now) 0 0 _ _ _ (c.in_ok-readied.ensures.ok (hashes_of g.H.KeyDigest.digest_of g.H.KeyDigest.size) files told) _ _ _ loads (zero_keys g.H.KeyDigest.digest_of g.H.KeyDigest.size c.note_sized.ensures) _ _
+    c.bytes.result.now c.vault-vault.result.now c.vault-vault.ensures (λ hashes sealed zero has. c.in_ok-text.ensures.ok hashes sealed zero has ∙ ap Ok (sym c.bytes.ensures)) c.in-Ok.ensures.ok
 
 pub returns-clause-stops : goal.returns-clause-stops
 returns-clause-stops g c = λ files told.
     let loads = c.in_ok-load_all.ensures.ok files (c.in_ok-readied.ensures.kept ∙ told) in
-    text_cut (trial_of (hashes_of g.H.KeyDigest.digest_of g.H.KeyDigest.size) files c.args.asked.now) _ _ _ _ _ (c.in_ok-readied.ensures.ok (hashes_of g.H.KeyDigest.digest_of g.H.KeyDigest.size) files told) _ _ _ loads _ _
-    c.bytes.result.now c.vault-vault.result.now c.vault-vault.ensures (λ hashes sealed has. c.in_ok-text.ensures.ok hashes sealed has ∙ ap Ok (sym c.bytes.ensures)) c.in-Err.ensures.err
+    text_cut (trial_of (hashes_of g.H.KeyDigest.digest_of g.H.KeyDigest.size) files c.args.asked.now) _ _ _ _ _ (c.in_ok-readied.ensures.ok (hashes_of g.H.KeyDigest.digest_of g.H.KeyDigest.size) files told) _ _ _ loads (zero_keys g.H.KeyDigest.digest_of g.H.KeyDigest.size c.note_sized.ensures) _ _
+    c.bytes.result.now c.vault-vault.result.now c.vault-vault.ensures (λ hashes sealed zero has. c.in_ok-text.ensures.ok hashes sealed zero has ∙ ap Ok (sym c.bytes.ensures)) c.in-Err.ensures.err

@@ -10,34 +10,34 @@ use Rattle.dv_catalog.specs.Entries.{Mapping}
 use Rattle.dv_catalog.specs.MappingFiles.{read_mapping}
 use Rattle.dv_mart.specs.declared.query_rules.QueryRule.{QueryRule}
 use Rattle.dv_mart.specs.declared.query_rules.QueryRule.TheVariants.{NoSnapshot}
-use Rattle.dv_texts.specs.Texts.{pit_text}
-use Rattle.dv_mart.specs.Whats.{hub_place}
 use Rattle.dv_outside.specs.declared.folders.NamedFile.{NamedFile}
 use Rattle.dv_outside.specs.declared.statuses.Status.TheVariants as statuses
 use Rattle.dv_records.specs.declared.answers.Damage.{Damage}
 use Rattle.dv_records.specs.declared.snapshots.SnapHead.{SnapHead}
+use Rattle.dv_records.specs.declared.snapshots.SnapId.{SnapId}
 use Rattle.dv_records.specs.declared.stores.Store.{Store}
-use Rattle.dv_records.specs.Snapshots.{pit, snapshot}
+use Rattle.dv_records.specs.Snapshots.{snapshot}
 use Rattle.dv_records.specs.Standing.{IsMappedBy, Stands}
 use Rattle.dv_records.specs.States.{State}
 use Rattle.dv_snapshots.specs.declared.stored.StoredFault.{StoredFault}
 use Rattle.dv_snapshots.specs.declared.stored.StoredFault.TheVariants as stored
 use Rattle.dv_snapshots.specs.StoredRows.{head_at}
+use Rattle.dv_snapshots.specs.StoredTexts.{table_text as snap_text}
 use Rattle.dv_window.specs.Offices.{Held, IsIn, StandsFor}
 use Rattle.dv_try.specs.declared.endings.Ending.{Ending}
 use Rattle.dv_try.specs.Endings.{DateEnds, QueryEnds}
 use Rattle.dv_try.specs.Given.{query_line}
 use Rattle.dv_try.specs.Tried.{Tried, ended}
 use Rattle.dv_app.specs.declared.stops.Stop.TheVariants as stop
-use Rattle.dv_app.specs.Kept.{InEach, IsStanding, KeptSays, OpenedSays, Rises, TextSays, pit_says, text_or}
+use Rattle.dv_app.specs.Kept.{InEach, IsStanding, KeptSays, OpenedSays, Rises, TextSays, stored_id, stored_says, text_or}
 use Rattle.dv_app.specs.Openings.{IsOpen}
-use Rattle.dv_app.specs.Queries.{HubEnds}
+use Rattle.dv_app.specs.Queries.{StoredEnds}
 use Rattle.dv_app.specs.Stops.{IsStopCause, said_of, stop_of_stored}
-use Rattle.dv_app.specs.Words.{Pit}
+use Rattle.dv_app.specs.Words.{Stored, StoredTable}
 use Rattle.dv_app.specs.Works.{memory_said}
 use Rattle.dv_app.proofs.LoadComes.{opened_in}
 use Rattle.dv_app.proofs.ShutStores.{opened_says}
-use Rattle.dv_app.proofs.TextSteps.{bad_pit_date, pit_text_is, query_comes, text_memory, text_says, unknown_hub}
+use Rattle.dv_app.proofs.TextSteps.{bad_stored_date, query_comes, stored_text_is, text_memory, text_says, unknown_stored}
 
 -- a text is read as one mapping at most
 same_ok : {E : Type 0} (x y : Mapping) (r : Result Mapping E) → r ≡ Ok x → r ≡ Ok y → x ≡ y
@@ -104,35 +104,35 @@ module _ (hashes : Hashes) (width : ℕ) (kept : Option Store) (office : Held) (
   stored_sound at stored.KeeperFault undamaged damage is standing = cc
   stored_sound at stored.Memory undamaged damage is standing = cc
 
-  module _ (rises : Rises) (told : Option (List NamedFile)) (store : Store) (told_is : kept ≡ Some store) (after : Option Store) (left : after ≡ Some store) (name date : List ℕ) where
+  module _ (rises : Rises) (told : Option (List NamedFile)) (store : Store) (told_is : kept ≡ Some store) (after : Option Store) (left : after ≡ Some store) (table : StoredTable) (date : List ℕ) where
     abbrev mapping : Mapping
     mapping = office.vault.mapping
 
     abbrev Says : Tried → Type 0
-    Says = KeptSays rises hashes width told (Pit name date) store after
+    Says = KeptSays rises hashes width told (Stored table date) store after
 
     abbrev InState : State → Tried → Type 0
-    InState state = TextSays rises (pit_says mapping hashes state name date) (Some store) after
+    InState state = TextSays rises (stored_says mapping hashes state table date) (Some store) after
 
     says_by : (said : Tried) → InEach mapping hashes store (λ state. InState state said) → Says said
-    says_by said by = opened_says rises hashes width store after (OpenedSays rises hashes told (Pit name date) store after) mapping (is_open.opened store told_is) said by
+    says_by said by = opened_says rises hashes width store after (OpenedSays rises hashes told (Stored table date) store after) mapping (is_open.opened store told_is) said by
 
-    pub pit_memory : Says memory_said × Says memory_said
-    pit_memory = let says = says_by memory_said (λ state stands. text_memory rises (pit_says mapping hashes state name date) (Some store) after left) in (says, says)
+    pub stored_memory : Says memory_said × Says memory_said
+    stored_memory = let says = says_by memory_said (λ state stands. text_memory rises (stored_says mapping hashes state table date) (Some store) after left) in (says, says)
 
-    refused : (IsBroken : QueryRule → Type 0) → ((state : State) → Stands mapping hashes state store → (rule : QueryRule) → IsBroken rule → ended statuses.Refused (query_line rule) ≡ pit_says mapping hashes state name date)
+    refused : (IsBroken : QueryRule → Type 0) → ((state : State) → Stands mapping hashes state store → (rule : QueryRule) → IsBroken rule → ended statuses.Refused (query_line rule) ≡ stored_says mapping hashes state table date)
         → (ending : Ending) → QueryEnds IsBroken ending → Says (said_of (stop.Ended ending)) × Says memory_said
     refused IsBroken so ending ends = (
-      says_by (said_of (stop.Ended ending)) (λ state stands. (query_comes rises (pit_says mapping hashes state name date) (Some store) after left IsBroken (so state stands) ending ends).0),
-      pit_memory.0,
+      says_by (said_of (stop.Ended ending)) (λ state stands. (query_comes rises (stored_says mapping hashes state table date) (Some store) after left IsBroken (so state stands) ending ends).0),
+      stored_memory.0,
     )
 
-    pub pit_unknown : (ending : Ending) → HubEnds mapping name ending → Says (said_of (stop.Ended ending)) × Says memory_said
-    pit_unknown ending ends = refused _ (λ state stands. unknown_hub mapping hashes state name date) ending ends
+    pub stored_unknown : (ending : Ending) → StoredEnds mapping table ending → Says (said_of (stop.Ended ending)) × Says memory_said
+    stored_unknown ending ends = refused _ (λ state stands. unknown_stored mapping hashes state table date) ending ends
 
-    module _ (hub : ℕ) (named : hub_place mapping name ≡ Some hub) where
-      pub pit_undated : (ending : Ending) → DateEnds date ending → Says (said_of (stop.Ended ending)) × Says memory_said
-      pit_undated ending ends = refused _ (λ state stands. bad_pit_date mapping hashes state name date hub named) ending ends
+    module _ (id : SnapId) (named : stored_id mapping table ≡ Some id) where
+      pub stored_undated : (ending : Ending) → DateEnds date ending → Says (said_of (stop.Ended ending)) × Says memory_said
+      stored_undated ending ends = refused _ (λ state stands. bad_stored_date mapping hashes state table date id named) ending ends
 
       module _ (at : ℕ) (dated : stamp_of date ≡ Some at) where
         -- whether a snapshot is stored at the date, as the office has it and as a state does
@@ -143,27 +143,27 @@ module _ (hashes : Hashes) (width : ℕ) (kept : Option Store) (office : Held) (
             ∙ list_any-map (is_at at) (λ d. (snapshot mapping hashes state.sealed d).head) state.dates
 
         abbrev table_of : State → List ℕ
-        table_of state = pit_text mapping hub at (pit mapping hashes state.sealed hub at)
+        table_of state = snap_text mapping hashes state.sealed id at
 
-        pub pit_texted : (head_at at office.snapshots ≡ None → ⊥) → (text : List ℕ) → ((state : State) → IsIn hashes state office (Some store) → text ≡ table_of state)
+        pub stored_texted : (head_at at office.snapshots ≡ None → ⊥) → (text : List ℕ) → ((state : State) → IsIn hashes state office (Some store) → text ≡ table_of state)
             → Says (text_or (Ok text))
-        pit_texted found text is = says_by (text_or (Ok text)) (λ state stands. text_says rises (pit_says mapping hashes state name date) (Some store) after left (text_or (Ok text))
-            (pit_text_is mapping hashes state name date hub named at dated (Ok text)
+        stored_texted found text is = says_by (text_or (Ok text)) (λ state stands. text_says rises (stored_says mapping hashes state table date) (Some store) after left (text_or (Ok text))
+            (stored_text_is mapping hashes state table date id named at dated (Ok text)
             (ap (λ b. if b then Ok (table_of state) else Err (NoSnapshot at)) (sym (heads_tell state stands) ∙ one_there at office.snapshots found)
             ∙ ap Ok (sym (is state (in_store store told_is state stands))))))
 
         none_stored : head_at at office.snapshots ≡ None → Says (ended statuses.Refused (query_line (NoSnapshot at)))
-        none_stored none = says_by (text_or (Err (NoSnapshot at))) (λ state stands. text_says rises (pit_says mapping hashes state name date) (Some store) after left (text_or (Err (NoSnapshot at)))
-            (pit_text_is mapping hashes state name date hub named at dated (Err (NoSnapshot at))
+        none_stored none = says_by (text_or (Err (NoSnapshot at))) (λ state stands. text_says rises (stored_says mapping hashes state table date) (Some store) after left (text_or (Err (NoSnapshot at)))
+            (stored_text_is mapping hashes state table date id named at dated (Err (NoSnapshot at))
             (ap (λ b. if b then Ok (table_of state) else Err (NoSnapshot at)) (sym (heads_tell state stands) ∙ none_there at office.snapshots none))))
 
-        pub pit_stopped : (fault : StoredFault) → (IsErrOf {T = List ℕ} (Err fault) stored.NoSnapshot → head_at at office.snapshots ≡ None)
+        pub stored_stopped : (fault : StoredFault) → (IsErrOf {T = List ℕ} (Err fault) stored.NoSnapshot → head_at at office.snapshots ≡ None)
             → ((damage : Damage) → IsErrOf {T = List ℕ} (Err fault) (stored.Damaged damage) → (state : State) → IsIn hashes state office (Some store) → ⊥) → (IsErrOf {T = List ℕ} (Err fault) stored.KeeperFault → rises.keeper)
             → Says (said_of (stop_of_stored at fault)) × Says memory_said
-        pit_stopped stored.NoSnapshot none undamaged rose = (none_stored (none refl), pit_memory.0)
-        pit_stopped (stored.Damaged damage) none undamaged rose = (
+        stored_stopped stored.NoSnapshot none undamaged rose = (none_stored (none refl), stored_memory.0)
+        stored_stopped (stored.Damaged damage) none undamaged rose = (
           says_by (said_of (stop.Damaged damage)) (λ state stands. absurd (undamaged damage refl state (in_store store told_is state stands))),
-          pit_memory.0,
+          stored_memory.0,
         )
-        pit_stopped stored.KeeperFault none undamaged rose = (says_by (said_of stop.KeeperFault) (λ state stands. (inr (inr (inl (refl, rose refl, tt))), left)), pit_memory.0)
-        pit_stopped stored.Memory none undamaged rose = pit_memory
+        stored_stopped stored.KeeperFault none undamaged rose = (says_by (said_of stop.KeeperFault) (λ state stands. (inr (inr (inl (refl, rose refl, tt))), left)), stored_memory.0)
+        stored_stopped stored.Memory none undamaged rose = stored_memory
