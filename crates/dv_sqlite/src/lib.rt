@@ -2,7 +2,7 @@
 //! they came, with the columns of the printed tables, and directories say which of them are a raw
 //! table's and which are those of a snapshot's table. Beside them stand the sealed windows, the
 //! heads of the snapshots, the mapping file, the open window as one value, and a view for people
-//! over each raw table and over the point-in-time tables of each hub.
+//! over each raw table, over the point-in-time tables of each hub and over the bridges of each path.
 //!
 //! A keeper over a file tells nothing of its store, since the library's contracts tell of it only
 //! where the disk never failed. So the functions here have no clauses but for the count of faults:
@@ -10,6 +10,7 @@
 #![tactic(auto)]
 
 mod batches;
+mod bridge_views;
 mod bridges;
 mod cells;
 mod columns;

@@ -2,12 +2,11 @@
 //! snapshots.
 use crate::kind_tables::PITS;
 use crate::refusals::Refusal;
-use crate::view_names::push_identifier;
+use crate::view_names::{push_identifier, shown};
 use crate::view_texts::push_rows;
 use dv_catalog::{Catalog, Parent};
 use dv_text::Text;
 use std::alloc::Global;
-use std::str;
 
 /// The point-in-time tables of a hub as a view shows them: the hub's name, its number in the
 /// mapping, and the names of its feeds, each of which has a cell.
@@ -40,10 +39,6 @@ pub(crate) fn pit_views(alloc: Global, catalog: &Catalog) -> Result<Vec<PitView<
         })?;
     }
     Ok(views)
-}
-
-fn shown(name: &Text) -> &str {
-    str::from_utf8(name.bytes()).unwrap_or("")
 }
 
 // The two columns of a cell, with the names of the printed table.

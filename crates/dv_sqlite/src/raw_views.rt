@@ -10,8 +10,8 @@ use dv_catalog::{Catalog, FeedDef, HubDef, LinkDef, TableId};
 use dv_text::Text;
 use std::alloc::Global;
 
-// The name of the hub at a place; none where there is no such hub.
-fn hub_name(catalog: &Catalog, hub: u32) -> &[u8] {
+/// The name of the hub at a place; none where there is no such hub.
+pub(crate) fn hub_name(catalog: &Catalog, hub: u32) -> &[u8] {
     match catalog.hubs().get(hub as usize) {
         Some(hub) => hub.name.bytes(),
         None => b"",

@@ -12,7 +12,7 @@ use crate::refusals::Refusal;
 use crate::statements::create_text;
 use crate::view_texts::{View, view_text};
 use dv_catalog::{Catalog, MapError};
-use dv_mapfile::read_built_catalog;
+use dv_mapfile::read_catalog;
 use sqlite::{Alter, Transaction};
 use std::alloc::Global;
 
@@ -82,7 +82,7 @@ fn schema_for(alloc: Global, catalog: &Catalog) -> Result<Schema, Refusal> {
 
 /// The mapping that a mapping file's bytes are read as; none where they are read as none.
 pub(crate) fn catalog_of(alloc: Global, mapping: &[u8]) -> Result<Option<Catalog>, Refusal> {
-    match read_built_catalog(alloc, mapping) {
+    match read_catalog(alloc, mapping) {
         Ok(catalog) => Ok(Some(catalog)),
         Err(MapError::Memory) => Err(Refusal::Memory),
         Err(_) => Ok(None),

@@ -1,13 +1,14 @@
 //! What stands in the file for the snapshots of a mapping: the tables in which their rows stand,
 //! with as many columns as it needs, and a view for people over the point-in-time tables of each
-//! hub.
+//! hub and over the bridges of each path.
+use crate::bridge_views::{BridgeView, bridge_view_text, bridge_views};
 use crate::columns::Widths;
 use crate::kind_tables::{BRIDGES, PITS, SNAPSHOT_KINDS};
 use crate::pit_views::{PitView, pit_view_text, pit_views};
 use crate::refusals::Refusal;
 use crate::schemas::{Schema, widest_schema};
 use crate::statements::create_text;
-use dv_catalog::{Catalog, Parent, PathDef};
+use dv_catalog::Catalog;
 use std::alloc::Global;
 
 // As many cells as the hub with the most feeds has.
@@ -22,59 +23,47 @@ fn pit_widths(views: &[PitView<'_>]) -> Widths {
     widths
 }
 
-// How many hubs the link of a feed has; none where it has no link.
-fn hubs_of(catalog: &Catalog, feed: u32) -> usize {
-    let Some(feed) = catalog.feeds().get(feed as usize) else {
-        return 0;
-    };
-    match feed.parent {
-        Parent::Hub(_) => 0,
-        Parent::Link(link) => match catalog.links().get(link as usize) {
-            Some(link) => link.hubs.items().len(),
-            None => 0,
-        },
-    }
-}
-
-// How many links a path has, and how many hubs these have.
-fn path_widths(catalog: &Catalog, path: &PathDef) -> Widths {
-    let feeds = path.feeds.items();
-    let mut hubs = 0usize;
-    for feed in feeds {
-        hubs = hubs.saturating_add(hubs_of(catalog, *feed));
-    }
-    Widths {
-        subs: feeds.len(),
-        items: hubs,
-    }
-}
-
 // As many links and hubs as the paths with the most have.
-fn bridge_widths(catalog: &Catalog) -> Widths {
+fn bridge_widths(views: &[BridgeView<'_>]) -> Widths {
     let mut widths = Widths::NONE;
-    for path in catalog.paths() {
-        widths = widths.widest(path_widths(catalog, path));
+    for view in views {
+        widths = widths.widest(view.widths);
     }
     widths
 }
 
-fn view_texts(alloc: Global, views: &[PitView<'_>]) -> Result<Vec<String>, Refusal> {
-    let mut texts = Vec::new(alloc);
+fn push_pit_views(
+    alloc: Global,
+    texts: &mut Vec<String>,
+    views: &[PitView<'_>],
+) -> Result<(), Refusal> {
     for view in views {
         texts.push(pit_view_text(alloc, view)?)?;
     }
-    Ok(texts)
+    Ok(())
+}
+
+fn push_bridge_views(
+    alloc: Global,
+    texts: &mut Vec<String>,
+    views: &[BridgeView<'_>],
+) -> Result<(), Refusal> {
+    for view in views {
+        texts.push(bridge_view_text(alloc, view)?)?;
+    }
+    Ok(())
 }
 
 fn schema_for(alloc: Global, catalog: &Catalog) -> Result<Schema, Refusal> {
-    let views = pit_views(alloc, catalog)?;
+    let pits = pit_views(alloc, catalog)?;
+    let bridges = bridge_views(alloc, catalog)?;
     let mut tables = Vec::new(alloc);
-    tables.push(create_text(alloc, &PITS, pit_widths(views.as_slice()))?)?;
-    tables.push(create_text(alloc, &BRIDGES, bridge_widths(catalog))?)?;
-    Ok(Schema {
-        tables,
-        views: view_texts(alloc, views.as_slice())?,
-    })
+    tables.push(create_text(alloc, &PITS, pit_widths(pits.as_slice()))?)?;
+    tables.push(create_text(alloc, &BRIDGES, bridge_widths(bridges.as_slice()))?)?;
+    let mut views = Vec::new(alloc);
+    push_pit_views(alloc, &mut views, pits.as_slice())?;
+    push_bridge_views(alloc, &mut views, bridges.as_slice())?;
+    Ok(Schema { tables, views })
 }
 
 /// What is made for the snapshots of a mapping.

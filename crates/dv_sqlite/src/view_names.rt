@@ -1,6 +1,13 @@
 //! The names of a view's columns, and how SQL writes a name.
 use crate::refusals::Refusal;
+use dv_text::Text;
 use std::alloc::Global;
+use std::str;
+
+/// A name of the mapping as SQL text has it.
+pub(crate) fn shown(name: &Text) -> &str {
+    str::from_utf8(name.bytes()).unwrap_or("")
+}
 
 /// Puts a name in quotes at the end of a statement.
 pub(crate) fn push_identifier(sql: &mut String, name: &str) -> Result<(), Refusal> {
@@ -53,7 +60,7 @@ impl Names {
 
     /// The next column's name. One that the view can't have is `column_` and the column's number.
     pub(crate) fn push(&mut self, alloc: Global, name: &[u8]) -> Result<(), Refusal> {
-        let name = match std::str::from_utf8(name) {
+        let name = match str::from_utf8(name) {
             Ok(name) if self.is_free(name) => String::from_str(alloc, name)?,
             _ => format!(in alloc; "column_{}", self.names.len().saturating_add(1))?,
         };

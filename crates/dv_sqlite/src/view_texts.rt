@@ -2,7 +2,7 @@
 //! others share with it.
 use crate::columns::{Column, Content, KindTable, Widths};
 use crate::refusals::Refusal;
-use crate::view_names::{Names, push_identifier};
+use crate::view_names::{Names, push_identifier, shown};
 use dv_text::Text;
 use std::alloc::Global;
 
@@ -47,8 +47,12 @@ fn push_column(sql: &mut String, column: &Column, name: &str) -> Result<(), Refu
     push_identifier(sql, name)
 }
 
-// The columns with their names, with commas between them.
-fn push_columns(sql: &mut String, columns: &[Column], names: &[String]) -> Result<(), Refusal> {
+/// Puts the columns with their names at the end of a statement, with commas between them.
+pub(crate) fn push_columns(
+    sql: &mut String,
+    columns: &[Column],
+    names: &[String],
+) -> Result<(), Refusal> {
     for (n, (column, name)) in columns.iter().zip(names.iter()).enumerate() {
         if n > 0 {
             sql.push_str(", ")?;
@@ -85,10 +89,7 @@ pub(crate) fn view_text(alloc: Global, view: &View<'_>) -> Result<String, Refusa
     let columns = view.table.columns(alloc, view.widths)?;
     let names = names_of(alloc, columns.as_slice(), view.list_names.as_slice())?;
     let mut sql = String::from_str(alloc, "CREATE VIEW ")?;
-    push_identifier(
-        &mut sql,
-        std::str::from_utf8(view.name.bytes()).unwrap_or(""),
-    )?;
+    push_identifier(&mut sql, shown(&view.name))?;
     sql.push_str(" AS SELECT ")?;
     push_columns(&mut sql, columns.as_slice(), names.items())?;
     push_rows(&mut sql, "batches", "first_place", &view.table, view.entity)?;

@@ -1,5 +1,5 @@
-//! Tests of the keeper over a SQLite file: what is kept comes back, also after the file is opened again, and the commands
-//! over it say what they say over the keeper in memory.
+//! Tests of the keeper over a SQLite file: what is kept comes back, also after the file is opened again, the commands over
+//! it say what they say over the keeper in memory, and a view shows what is stored.
 #![tactic(auto)]
 
 #[cfg(test)]
@@ -16,3 +16,5 @@ mod same;
 mod snapshots;
 #[cfg(test)]
 mod stories;
+#[cfg(test)]
+mod views;

@@ -81,7 +81,7 @@ keys = [["EMP"], ["DEPT"]]
 driver = ["employee"]
 "#;
 
-// Two links that share a hub, each with a feed.
+// Two links that share a hub, each with a feed, and a path over both.
 const PLACED: &str = r#"[[hub]]
 name = "customer"
 parts = 1
@@ -108,6 +108,10 @@ source = "shop"
 link = "contains"
 keys = [["ORD"], ["PROD"]]
 attrs = ["QTY"]
+[[path]]
+name = "sold"
+feeds = ["placements", "lines"]
+via = ["sales_order"]
 "#;
 
 /// One keeper is given the mapping twice, and a window twice.
@@ -373,7 +377,7 @@ pub(crate) const ASSIGNMENTS: Story = Story {
     ],
 };
 
-/// Orders, of which one has no customer.
+/// Orders, of which one has no customer; a path to their products, and a snapshot.
 pub(crate) const ORDERS: Story = Story {
     files: &[
         ("mapping.toml", PLACED),
@@ -436,6 +440,35 @@ pub(crate) const ORDERS: Story = Story {
         Step {
             words: &["mart", "feed:lines", "2024-03-01T02:00:00"],
             text: Some("ORD,PROD,QTY\nO1,P1,3\nO1,P2,2\nO2,P2,1\n"),
+            ..WINDOWS
+        },
+        Step {
+            words: &["mart", "path:sold", "2024-03-01T02:00:00"],
+            text: Some(
+                "placements.customer.1,placements.sales_order.1,lines.sales_order.1,lines.product.1\n1,O1,O1,P1\n1,O1,O1,P2\n",
+            ),
+            ..WINDOWS
+        },
+        Step {
+            words: &["snapshot", "2024-03-01T02:00:00"],
+            line: "snapshot: Stored 7\n",
+            ..STORED
+        },
+        Step {
+            words: &["snapshot", "2024-03-01T02:00:00"],
+            line: "snapshot: Repeated\n",
+            ..STORED
+        },
+        Step {
+            words: &["pit", "customer", "2024-03-01T02:00:00"],
+            text: Some("hash_key,snapshot\nc4ca4238a0b923820dcc509a6f75849b,2024-03-01T02:00:00\n"),
+            ..WINDOWS
+        },
+        Step {
+            words: &["bridge", "sold", "2024-03-01T02:00:00"],
+            text: Some(
+                "snapshot,placements,lines,placements.customer,placements.sales_order,lines.sales_order,lines.product\n2024-03-01T02:00:00,23fffa5d8832e83f92c34efd411ef6b8,18a4b7b879239b85ad5985809c3b32ab,c4ca4238a0b923820dcc509a6f75849b,00594a175ce5a58f286d91ca0a6f15a2,00594a175ce5a58f286d91ca0a6f15a2,5f2b9323c39ee3c861a7b382d205c3d3\n2024-03-01T02:00:00,23fffa5d8832e83f92c34efd411ef6b8,3a5bde4ca1b2244ac79d9444bc895039,c4ca4238a0b923820dcc509a6f75849b,00594a175ce5a58f286d91ca0a6f15a2,00594a175ce5a58f286d91ca0a6f15a2,5890595e16cbebb8866e1842e4bd6ec7\n",
+            ),
             ..WINDOWS
         },
     ],
