@@ -1,13 +1,12 @@
 -- Worked examples of the faults of a mapping, of mappings with names looked up, and of printed faults.
 use Rattle.std.specs.Prelude.{◌≡◌, ℕ, ◌+◌, ◌/◌, ◌%◌, ◌++◌, Bool, true, false, List, [], ◌∷◌, Some, None, Ok, codes, drop, map, replicate, take}
 use Rattle.std.specs.List.{range_with_len}
-use Rattle.dv_catalog.specs.declared.map_error.MapError.TheVariants.{NotYet, Text, Shape, NameTwice, UnknownHub, UnknownLink, KeyCount, NoKey, ColumnTwice, SubWithoutAttrs, DriverNotInLink, DriverWithSub, PathBroken, TooMany, NameForm, Memory}
+use Rattle.dv_catalog.specs.declared.map_error.MapError.TheVariants.{Text, Shape, NameTwice, UnknownHub, UnknownLink, KeyCount, NoKey, ColumnTwice, SubWithoutAttrs, DriverNotInLink, DriverWithSub, PathBroken, TooMany, NameForm, Memory}
 use Rattle.dv_catalog.specs.declared.outlines.FeedOutline.{FeedOutline}
 use Rattle.dv_catalog.specs.declared.outlines.HubOutline.{HubOutline}
 use Rattle.dv_catalog.specs.declared.outlines.LinkOutline.{LinkOutline}
 use Rattle.dv_catalog.specs.declared.outlines.Outline.{Outline}
 use Rattle.dv_catalog.specs.declared.tables.TableId.TheVariants.{Hub as HubTable, Link as LinkTable, Sat, Multi, Status, Effect}
-use Rattle.dv_catalog.specs.Built.{unbuilt}
 use Rattle.dv_catalog.specs.Checks.{fault_of}
 use Rattle.dv_catalog.specs.Mappings.{checked, has_shape, is_valid, mapping_of}
 use Rattle.dv_catalog.specs.MapTexts.{map_error_text}
@@ -75,18 +74,6 @@ pub record MappingsHold : Type 0 where
   pub long_column : has_shape (customers_with (customer_feed (replicate 201 65 ∷ []))) ≡ false
   pub blank_column : has_shape (customers_with (customer_feed (codes " NAME" ∷ []))) ≡ false
   pub empty_column : has_shape (customers_with (customer_feed ([] ∷ []))) ≡ false
-
--- where a mapping has a form that is not built
-pub record BuiltHold : Type 0 where
-  pub keys_built : unbuilt (mapping_of customers) ≡ None
-  pub hubs_built : unbuilt (mapping_of (outline (record (hub (codes "a")) { parts = 2 } ∷ hub (codes "b") ∷ []) [] [] [])) ≡ None
-  pub feeds_built : unbuilt customers_and_accounts_mapping ≡ None
-  pub ignored_built : unbuilt (mapping_of (customers_with (record (customer_feed []) { ignore = codes "CLERK" ∷ [] }))) ≡ None
-  pub links_built : unbuilt (mapping_of (assignments_by [])) ≡ None
-  pub sub_built : unbuilt (mapping_of (customers_with (with_sub (customer_feed (codes "PHONE" ∷ []))))) ≡ None
-  pub driver_built : unbuilt assignments_mapping ≡ None
-  pub path_unbuilt : unbuilt sold_mapping ≡ Some (codes "path 1 name")
-  pub without_path : unbuilt (record sold_mapping { paths = [] }) ≡ None
 
 -- the raw tables of a mapping, in order
 pub record TablesHold : Type 0 where
@@ -246,7 +233,6 @@ pub record InvalidHold : Type 0 where
 
 -- printed faults
 pub record TextsHold : Type 0 where
-  pub not_yet : map_error_text (NotYet (codes "path 1 name")) ≡ codes "0 NotYet place=path 1 name"
   pub text : map_error_text Text ≡ codes "1 Text"
   pub shape : map_error_text (Shape (codes "hub 1 parts")) ≡ codes "2 Shape place=hub 1 parts"
   pub name_twice : map_error_text (NameTwice (codes "customer")) ≡ codes "3 NameTwice name=customer"

@@ -1,6 +1,6 @@
 -- Mapping files: which fault is the first, and which mappings are valid.
 use Rattle.std.specs.Prelude.{◌≡◌, ℕ, Ok, Err, Bool, true, false, List, [], ◌∷◌, ◌++◌, Some, None, codes, map, replicate}
-use Rattle.dv_catalog.specs.declared.map_error.MapError.TheVariants.{NotYet, Shape, NameTwice, KeyCount, ColumnTwice, SubWithoutAttrs, PathBroken, TooMany, NameForm}
+use Rattle.dv_catalog.specs.declared.map_error.MapError.TheVariants.{Shape, NameTwice, KeyCount, ColumnTwice, SubWithoutAttrs, PathBroken, TooMany, NameForm}
 use Rattle.dv_catalog.specs.declared.outlines.FeedOutline.{FeedOutline}
 use Rattle.dv_catalog.specs.declared.outlines.LinkOutline.{LinkOutline}
 use Rattle.dv_catalog.specs.declared.outlines.Outline.{Outline}
@@ -8,13 +8,12 @@ use Rattle.dv_catalog.specs.declared.outlines.PathOutline.{PathOutline}
 use Rattle.dv_catalog.specs.declared.entries.Parent.TheVariants.{Link}
 use Rattle.dv_catalog.specs.declared.tables.TableId.{TableId}
 use Rattle.dv_catalog.specs.declared.tables.TableId.TheVariants.{Hub as HubTable, Link as LinkTable, Sat, Multi, Status, Effect}
-use Rattle.dv_catalog.specs.Built.{built_mapping, unbuilt}
 use Rattle.dv_shown.specs.CheckExamples.{a_with_b, customer_feed, hubs, names, pairs, three_hubs, with_sub}
 use Rattle.dv_catalog.specs.Checks.{fault_of}
 use Rattle.dv_catalog.specs.Mappings.{is_valid, is_valid_driver, mapping_of}
 use Rattle.dv_catalog.specs.MappingFiles.{read_mapping}
 use Rattle.dv_catalog.specs.TableLookups.{is_table_of}
-use Rattle.dv_shown.specs.Mappings.{bare, customers, with_channels, with_customers_and_sites, with_drivers, with_names, with_orders, with_paths, with_phones, with_placements, with_roles, with_sites, with_staff, with_teams}
+use Rattle.dv_shown.specs.Mappings.{bare, customers, with_customers_and_sites, with_drivers, with_names, with_orders, with_phones, with_sites}
 use Rattle.dv_shown.specs.Stepped.{bare_file, other_file}
 use Rattle.dv_shown.specs.SampleOutlines.{customers_with, hub, hub_feed, link, link_feed, outline, path, placements_then_lines, sold_by}
 
@@ -127,37 +126,17 @@ pub record FilesDeclared : Type 0 where
   pub read : read_mapping bare_file ≡ Ok bare
   pub not_checked : read_mapping (bare_file ++ codes "attrs = [\"CUST_NO\"]\n") ≡ Err (ColumnTwice (codes "customers") (codes "CUST_NO"))
   pub not_formed : read_mapping (codes "hub = 3\n") ≡ Err (Shape (codes "hub"))
-  pub built : built_mapping bare_file ≡ Ok bare
-  pub attributes_built : built_mapping (bare_file ++ codes "attrs = [\"NAME\"]\n") ≡ Ok with_names
-  pub empty_is_built : built_mapping (bare_file ++ codes "attrs = []\nsub = []\ndriver = []\n") ≡ Ok bare
-  pub two_hubs_built : built_mapping other_file ≡ Ok with_customers_and_sites
-  pub two_parts_built :
-      built_mapping (codes "[[hub]]\nname = \"site\"\nparts = 2\n[[feed]]\nname = \"sites\"\nsource = \"geo\"\nhub = \"site\"\nkeys = [[\"REGION\", \"SITE\"]]\n")
+  pub attributes : read_mapping (bare_file ++ codes "attrs = [\"NAME\"]\n") ≡ Ok with_names
+  pub nothing_listed : read_mapping (bare_file ++ codes "attrs = []\nsub = []\ndriver = []\n") ≡ Ok bare
+  pub two_hubs : read_mapping other_file ≡ Ok with_customers_and_sites
+  pub two_parts :
+      read_mapping (codes "[[hub]]\nname = \"site\"\nparts = 2\n[[feed]]\nname = \"sites\"\nsource = \"geo\"\nhub = \"site\"\nkeys = [[\"REGION\", \"SITE\"]]\n")
       ≡ Ok with_sites
-  pub sub_built :
-      built_mapping (codes "[[hub]]\nname = \"customer\"\nparts = 1\n[[feed]]\nname = \"phones\"\nsource = \"crm\"\nhub = \"customer\"\nkeys = [[\"CUST_NO\"]]\nsub = [\"KIND\"]\nattrs = [\"PHONE\"]\n")
+  pub several_rows :
+      read_mapping (codes "[[hub]]\nname = \"customer\"\nparts = 1\n[[feed]]\nname = \"phones\"\nsource = \"crm\"\nhub = \"customer\"\nkeys = [[\"CUST_NO\"]]\nsub = [\"KIND\"]\nattrs = [\"PHONE\"]\n")
       ≡ Ok with_phones
-  pub driver_built : built_mapping (staff_file ++ codes "driver = [\"employee\"]\n") ≡ Ok with_drivers
-  pub path_not_built :
-      built_mapping (staff_file ++ codes "driver = [\"employee\"]\n[[path]]\nname = \"worked\"\nfeeds = [\"assignments\"]\nvia = []\n")
-      ≡ Err (NotYet (codes "path 1 name"))
-  pub fault_before_form : built_mapping (codes "hub = 3\n") ≡ Err (Shape (codes "hub"))
-  pub fault_in_form : built_mapping (bare_file ++ codes "sub = [\"KIND\"]\n") ≡ Err (SubWithoutAttrs (codes "customers"))
-
--- where a mapping has a form that is not built yet: its first path
-pub record PlacesUnbuilt : Type 0 where
-  pub none : unbuilt bare ≡ None
-  pub attributes : unbuilt with_names ≡ None
-  pub two_parts : unbuilt with_sites ≡ None
-  pub link_and_feeds : unbuilt with_placements ≡ None
-  pub ignored : unbuilt (record bare { feeds = record customers { ignore = codes "NOTES" ∷ [] } ∷ [] }) ≡ None
-  pub several_subs : unbuilt with_phones ≡ None
-  pub driver : unbuilt with_drivers ≡ None
-  pub second_feed : unbuilt with_staff ≡ None
-  pub two_drivers : unbuilt with_teams ≡ None
-  pub driver_beside_attributes : unbuilt with_roles ≡ None
-  pub path : unbuilt with_orders ≡ Some (codes "path 1 name")
-  pub path_over_sub : unbuilt with_channels ≡ Some (codes "path 1 name")
-  pub path_over_driver : unbuilt (record with_drivers { paths = record { name = codes "worked"; feeds = 0 ∷ []; via = [] } ∷ [] }) ≡ Some (codes "path 1 name")
-  pub first_path : unbuilt with_paths ≡ Some (codes "path 1 name")
-  pub without_path : unbuilt (record with_orders { paths = [] }) ≡ None
+  pub driving_key : read_mapping (staff_file ++ codes "driver = [\"employee\"]\n") ≡ Ok with_drivers
+  pub path :
+      read_mapping (staff_file ++ codes "driver = [\"employee\"]\n[[path]]\nname = \"worked\"\nfeeds = [\"assignments\"]\nvia = []\n")
+      ≡ Ok (record with_drivers { paths = record { name = codes "worked"; feeds = 0 ∷ []; via = [] } ∷ [] })
+  pub sub_alone : read_mapping (bare_file ++ codes "sub = [\"KIND\"]\n") ≡ Err (SubWithoutAttrs (codes "customers"))

@@ -1,4 +1,5 @@
 pub mod Answered
+pub mod Bridged
 pub mod Brought
 pub mod CatalogLaws
 pub mod CheckExamples

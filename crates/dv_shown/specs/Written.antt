@@ -6,7 +6,7 @@ use Rattle.dv_catalog.specs.Entries.{Mapping}
 use Rattle.dv_records.specs.Vault.{partial, vault}
 use Rattle.dv_mart.specs.MartTexts.{mart_text}
 use Rattle.dv_texts.specs.Texts.{windows_text}
-use Rattle.dv_mart.specs.Whats.{what_of, offered_what}
+use Rattle.dv_mart.specs.Whats.{what_of, offered_mart}
 use Rattle.dv_mart.specs.declared.query_rules.QueryRule.{QueryRule}
 use Rattle.dv_mart.specs.declared.whats.What.{What}
 use Rattle.dv_mart.specs.declared.whats.What.TheVariants.{Feed, Hub, Path, Period, Table, Pit, Bridge}
@@ -122,17 +122,18 @@ pub record WordsHold : Type 0 where
   pub a_pit : what_of with_names (codes "pit:customer") ≡ Some (Pit 0)
   pub unknown : what_of with_names (codes "feed:clients") ≡ None
   pub no_kind : what_of with_names (codes "customers") ≡ None
-  pub not_offered : offered_what with_orders (codes "path:sold") ≡ None
-  pub hub_offered : offered_what with_names (codes "hub:customer") ≡ Some (Hub 0)
-  pub no_hub_offered : offered_what with_names (codes "hub:customers") ≡ None
-  pub pit_offered : offered_what with_names (codes "pit:customer") ≡ Some (Pit 0)
-  pub offered : offered_what with_names (codes "feed:customers") ≡ Some (Feed 0)
-  pub table_offered : offered_what with_names (codes "table:sat_customers") ≡ Some (Table (Sat 0))
-  pub no_table_offered : offered_what with_names (codes "table:customers") ≡ None
-  pub period_offered : offered_what with_staff (codes "period:assignments") ≡ Some (Period 1)
-  pub no_period_offered : offered_what with_staff (codes "period:staff") ≡ None
-  pub effect_offered : offered_what with_staff (codes "table:eff_assignments") ≡ Some (Table (Effect 1))
-  pub no_effect_offered : offered_what with_orders (codes "table:eff_placements") ≡ None
+  pub no_path : what_of with_orders (codes "path:sales") ≡ None
+  pub no_bridge : what_of with_orders (codes "bridge:sales") ≡ None
+  pub a_feed_is_a_mart : offered_mart with_names (codes "feed:customers") ≡ Some (Feed 0)
+  pub a_hub_is_a_mart : offered_mart with_names (codes "hub:customer") ≡ Some (Hub 0)
+  pub a_path_is_a_mart : offered_mart with_orders (codes "path:sold") ≡ Some (Path 0)
+  pub a_table_is_none : offered_mart with_names (codes "table:sat_customers") ≡ None
+  pub a_pit_is_none : offered_mart with_names (codes "pit:customer") ≡ None
+  pub a_bridge_is_none : offered_mart with_orders (codes "bridge:sold") ≡ None
+  pub no_hub : what_of with_names (codes "hub:customers") ≡ None
+  pub no_table : what_of with_names (codes "table:customers") ≡ None
+  pub effect_table : what_of with_staff (codes "table:eff_assignments") ≡ Some (Table (Effect 1))
+  pub no_effect_table : what_of with_orders (codes "table:eff_placements") ≡ None
   pub second_hub : what_of with_orders (codes "hub:sales_order") ≡ Some (Hub 1)
   pub second_path : what_of with_paths (codes "path:bought") ≡ Some (Path 1)
   pub second_pit : what_of with_orders (codes "pit:product") ≡ Some (Pit 2)

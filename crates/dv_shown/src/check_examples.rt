@@ -1,15 +1,10 @@
 //! Worked examples of the definitions of a mapping.
 
-ghost use Rattle.dv_shown.specs.CheckExamples.{BuiltHold, FeedsHold, InvalidHold, LimitsHold, MappingsHold, NamesHold, OrderHolds, PathsHold, TablesHold, TextsHold};
+ghost use Rattle.dv_shown.specs.CheckExamples.{FeedsHold, InvalidHold, LimitsHold, MappingsHold, NamesHold, OrderHolds, PathsHold, TablesHold, TextsHold};
 
 /// The mappings of files without a fault.
 pub fn mappings_hold()
     ensures { MappingsHold }
-{}
-
-/// What is not built of mappings.
-pub fn built_hold()
-    ensures { BuiltHold }
 {}
 
 /// The raw tables of mappings.

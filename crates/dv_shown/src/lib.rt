@@ -9,7 +9,7 @@ ghost use Rattle.dv_shown.specs.Counts.{CountsHold, WeightsHold};
 ghost use Rattle.dv_shown.specs.Damaged.{EffectsDamaged, HeadsDamaged, HubsDamaged, LeastRuleNamed, LinksDamaged, MultisDamaged, OpenDamaged, OrderOfDamage, RowsSound, SatellitesDamaged, StatusesDamaged};
 ghost use Rattle.dv_shown.specs.DamagedSnapshots.{SnapshotsDamaged};
 ghost use Rattle.dv_shown.specs.DamagedStores.{DamageByWeight, DamagePastLimits, HeavyRows, OrderOfStores, StoresSound};
-ghost use Rattle.dv_shown.specs.Declared.{FaultsDeclared, FilesDeclared, MappingsDeclared, PlacesUnbuilt, TablesDeclared};
+ghost use Rattle.dv_shown.specs.Declared.{FaultsDeclared, FilesDeclared, MappingsDeclared, TablesDeclared};
 ghost use Rattle.dv_shown.specs.Digested.{HashesDigested, LinkDigested, PitDigested, SatelliteDigested, StatusDigested};
 ghost use Rattle.dv_shown.specs.Kept.{ChangesMade, SnapshotsKept, SnapshotsRead, StoresChanged, TablesKept};
 ghost use Rattle.dv_shown.specs.Limited.{LimitsKept, LimitsPassed};
@@ -20,6 +20,7 @@ ghost use Rattle.dv_shown.specs.Read.{ExtractsRead};
 ghost use Rattle.dv_shown.specs.ReadBacks.{MultiReadBackHolds, ReadBackHolds, ReadBackMeets};
 ghost use Rattle.dv_shown.specs.Restored.{CellsTold, PeriodsTold, PremisesMet, PresenceHolds, RestoredHold, ValidHold};
 ghost use Rattle.dv_shown.specs.Selected.{BetweenHold, HubMartsHold, PathMartsHold, PeriodMartsHold};
+ghost use Rattle.dv_shown.specs.Bridged.{BridgesRead};
 ghost use Rattle.dv_shown.specs.Snapped.{PitsHold, SnapshotsHold};
 ghost use Rattle.dv_shown.specs.Stepped.{InitsStep, LoadsStep, ResumesStep, SnapshotsStep, StoresStand};
 ghost use Rattle.dv_shown.specs.Tables.{DrivenHold, EffectsHold, HubsHold, LinksHold, MultisHold, SatellitesHold, StatusesHold, UpToHold};
@@ -145,6 +146,11 @@ pub fn pits_hold()
 /// Bridges and whole snapshots.
 pub fn snapshots_hold()
     ensures { SnapshotsHold }
+{}
+
+/// Bridges by the raw tables, and the join on hash keys.
+pub fn bridges_read()
+    ensures { BridgesRead }
 {}
 
 /// A satellite under MD5.
@@ -373,14 +379,9 @@ pub fn tables_declared()
     ensures { TablesDeclared }
 {}
 
-/// What whole mapping files declare, and what this stage builds of them.
+/// What whole mapping files declare.
 pub fn files_declared()
     ensures { FilesDeclared }
-{}
-
-/// Where a mapping has a form that is not built yet.
-pub fn places_unbuilt()
-    ensures { PlacesUnbuilt }
 {}
 
 /// What extracts read as, and the room that they take.
