@@ -2,12 +2,13 @@
 import collections
 
 from kept import orders
-from kept.orders import DATES, FEEDS, HEADER, LAST_DATE, MANIFESTS, MART_DATES, TABLES
+from kept.orders import DATES, HEADER, LAST_DATE, MANIFESTS, MART_DATES, MARTS, TABLES
 from kept.program import NO_MAPPING, USAGE, expect, with_limits
 from kept.readmes import added_rows, block, loaded_rows
 
 EVERY_COMMAND = (("init",), ("load", "w1.toml"), ("resume",), ("mart", "feed:customers", DATES[0]),
-                 ("table", "hub_customer"), ("windows",), ("snapshot", DATES[0]), ("pit", "customer", DATES[0]))
+                 ("table", "hub_customer"), ("windows",), ("snapshot", DATES[0]), ("pit", "customer", DATES[0]),
+                 ("bridge", "sold", DATES[0]))
 
 
 def store_the_mapping(bench):
@@ -61,7 +62,7 @@ def commands_before_init(bench):
     for words in EVERY_COMMAND[1:]:
         vault.says(*words, **NO_MAPPING)
     for words in (("load", "nothing.toml"), ("mart", "nothing", "never"), ("table", "nothing"), ("snapshot", "never"),
-                  ("pit", "nothing", "never")):
+                  ("pit", "nothing", "never"), ("bridge", "nothing", "never")):
         vault.says(*words, **NO_MAPPING)
     vault.says("init", err="init: Stored")
 
@@ -93,10 +94,13 @@ def tables_and_marts_as_tried(bench):
     for table in TABLES:
         tried = vault.run("try", f"table:{table}", LAST_DATE, *MANIFESTS)
         vault.says("table", table, out=tried.out)
-    for feed in FEEDS:
+    for mart in MARTS:
         for date in MART_DATES:
-            tried = vault.run("try", f"feed:{feed}", date, *MANIFESTS)
-            vault.says("mart", f"feed:{feed}", date, out=tried.out)
+            tried = vault.run("try", mart, date, *MANIFESTS)
+            vault.says("mart", mart, date, out=tried.out)
+
+
+SOLD = "placements.customer.1,placements.sales_order.1,lines.sales_order.1,lines.product.1"
 
 
 def texts_before_a_load(bench):
@@ -112,6 +116,8 @@ def texts_before_a_load(bench):
     vault.says("table", "link_works", out="hash_key,load_date,record_source,employee,department\n")
     vault.says("table", "sat_employees", out="hash_key,load_date,record_source,hash_diff,NAME\n")
     vault.says("table", "eff_assignments", out="hash_key,load_date,record_source,begin,end\n")
+    vault = bench.kept_example("orders")
+    vault.says("mart", "path:sold", DATES[0], out=f"{SOLD}\n")
 
 
 def marts_after_each_load(bench):
@@ -119,9 +125,9 @@ def marts_after_each_load(bench):
     vault = bench.kept_example("orders")
     for count, manifest in enumerate(MANIFESTS, 1):
         vault.loaded(manifest)
-        for feed in FEEDS:
-            tried = vault.run("try", f"feed:{feed}", LAST_DATE, *MANIFESTS[:count])
-            vault.says("mart", f"feed:{feed}", LAST_DATE, out=tried.out)
+        for mart in MARTS:
+            tried = vault.run("try", mart, LAST_DATE, *MANIFESTS[:count])
+            vault.says("mart", mart, LAST_DATE, out=tried.out)
 
 
 def texts_of_the_readmes(bench):
@@ -136,6 +142,11 @@ def texts_of_the_readmes(bench):
     vault.says("table", "hub_sales_order", out=block("orders", "hash_key,load_date,record_source,part_1"))
     for at, date in enumerate(("2024-03-31T00:00:00", DATES[1])):
         vault.says("mart", "feed:placements", date, out=block("orders", "CUST_NO,ORDER_NO", at))
+    for at, date in enumerate((LAST_DATE, "2024-03-15T12:00:00")):
+        vault.says("mart", "path:sold", date, out=block("orders", SOLD, at))
+    vault.says("snapshot", LAST_DATE, err="snapshot: Stored 12")
+    bridge = "snapshot,placements,lines,placements.customer,placements.sales_order,lines.sales_order,lines.product"
+    vault.says("bridge", "sold", LAST_DATE, out=block("orders", bridge))
     vault = bench.kept_example("phones", *loaded_rows("phones"))
     vault.says("mart", "feed:phones", "2024-04-01T02:00:00", out=block("phones", "CUST_NO,KIND,PHONE"))
     vault.says("table", "msat_phones", out=block("phones", "hash_key,load_date,record_source,hash_diff,KIND,PHONE"))
@@ -243,8 +254,8 @@ def absent_files(bench):
     expect("all texts after files that are not there", before, orders.texts(vault))
 
 
-NO_MARTS = ("feed:customer", "period:customers", "table:hub_customer", "hub:customers", "pit:customer", "path:sold",
-            "customers", "")
+NO_MARTS = ("feed:customer", "period:customers", "table:hub_customer", "hub:customers", "pit:customer", "path:placed",
+            "path:", "bridge:sold", "customers", "")
 
 
 def refused_queries(bench):
@@ -269,8 +280,8 @@ USAGE_WORDS = (
     "mart", "mart feed:customers", "mart -- feed:customers", "mart feed:customers 2024-03-01T02:00:00 w1.toml",
     "table", "table hub_customer hub_product", "try", "try feed:customers 2024-03-01T02:00:00",
     "snapshot", "snapshot customer 2024-03-01T02:00:00", "snapshot -- -1 2", "pit customer",
-    "pit customer 2024-03-01T02:00:00 w1.toml", "bridge sold 2024-03-01T02:00:00",
-    "exercise 4", "serve 8080",
+    "pit customer 2024-03-01T02:00:00 w1.toml", "bridge", "bridge sold", "bridge sold 2024-03-01T02:00:00 w1.toml",
+    "bridge -sold 2024-03-01T02:00:00", "exercise 4", "serve 8080",
 )
 
 

@@ -118,7 +118,7 @@ def every_command_names_it(bench):
     change_row(vault, "hub_customer", 1, "hash_key", NO_DIGEST)
     before = contents(vault)
     for words in EVERY_COMMAND[1:] + (("load", "none.toml"), ("mart", "nothing", "never"), ("table", "nothing"),
-                                       ("snapshot", "never"), ("pit", "nothing", "never")):
+                                       ("snapshot", "never"), ("pit", "nothing", "never"), ("bridge", "nothing", "never")):
         vault.says(*words, **damaged("hub_customer 1 F7"))
     vault.says("init", err="init: Kept")
     expect("the store after each command named its damage", before, contents(vault))

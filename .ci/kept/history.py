@@ -25,7 +25,13 @@ feed = [
   { name = "visits", source = "erp", link = "visit", keys = [["CUST_NO"], ["REGION", "SITE"]], attrs = ["PURPOSE"] },
   { name = "care", source = "hr", link = "care", keys = [["CUST_NO"], ["CLERK"]], driver = ["customer"] },
 ]
+path = [
+  { name = "served", feeds = ["care", "visits"], via = ["customer"] },
+  { name = "met", feeds = ["visits", "visits"], via = ["site"] },
+]
 """
+
+PATHS = ("served", "met")
 
 # In table order.
 TABLES = ("hub_customer", "hub_site", "hub_clerk", "link_visit", "link_care", "sat_customers", "status_customers",
@@ -107,7 +113,7 @@ def text_words():
     """The commands that write all texts: the windows, each raw table, and each mart at each load date."""
     yield ("windows",)
     yield from (("table", table) for table in TABLES)
-    words = [f"feed:{feed}" for feed in FEEDS.split()] + ["period:care"]
+    words = [*(f"feed:{feed}" for feed in FEEDS.split()), "period:care", *(f"path:{path}" for path in PATHS)]
     yield from (("mart", word, date) for word in words for date in DATES)
 
 

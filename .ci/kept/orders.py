@@ -4,6 +4,7 @@ from kept.readmes import added_rows, loaded_rows
 MANIFESTS = ("w1.toml", "w2.toml", "w3.toml")
 DATES = ("2024-03-01T02:00:00", "2024-04-01T02:00:00", "2024-05-01T02:00:00")
 FEEDS = ("customers", "orders", "products", "placements", "lines")
+MARTS = (*(f"feed:{feed}" for feed in FEEDS), "path:sold")
 TABLES = tuple(added_rows("orders"))
 LAST_DATE = DATES[-1]
 
@@ -37,5 +38,5 @@ def kept(bench, count):
 def texts(vault):
     """The windows, all raw tables and the marts at all load dates."""
     words = [("windows",)] + [("table", name) for name in TABLES]
-    words += [("mart", f"feed:{feed}", date) for feed in FEEDS for date in DATES]
+    words += [("mart", mart, date) for mart in MARTS for date in DATES]
     return {" ".join(each): vault.text(*each) for each in words}

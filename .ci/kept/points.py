@@ -39,13 +39,23 @@ def mapping_of(vault):
     return tomllib.loads(vault.file("mapping.toml").read_text(encoding="utf-8"))
 
 
+def entry(mapping, kind, name):
+    """The hub, link, feed or path with a name."""
+    return next(each for each in mapping[kind] if each["name"] == name)
+
+
 def hubs_of(vault):
     """The names of all hubs, in declared order."""
     return [hub["name"] for hub in mapping_of(vault)["hub"]]
 
 
+def key_part(text):
+    """A key part in its normal form: of letters those of ASCII alone are raised."""
+    return text.strip(BLANKS).encode().upper().decode()
+
+
 def key_of(record, columns):
-    return tuple(record[column].strip(BLANKS).upper() for column in columns)
+    return tuple(key_part(record[column]) for column in columns)
 
 
 def hash_of(key):
@@ -56,7 +66,7 @@ def references(mapping, feed):
     """The hubs of a feed's references, in order."""
     if "hub" in feed:
         return [feed["hub"]]
-    return next(link["hubs"] for link in mapping["link"] if link["name"] == feed["link"])
+    return entry(mapping, "link", feed["link"])["hubs"]
 
 
 def delivered_keys(mapping, windows, hub):
@@ -103,8 +113,3 @@ def pit_text(vault, hub, date):
         cells = [value for feed in feeds for value in cell(feed, windows, key)]
         lines.append(",".join([hash_of(key), date, *cells]))
     return "".join(line + "\n" for line in lines).encode()
-
-
-def row_count(vault, date):
-    """How many rows a snapshot at a date has."""
-    return sum(pit_text(vault, hub, date).count(b"\n") - 1 for hub in hubs_of(vault))

@@ -45,9 +45,9 @@ def answers_with_an_open_window(bench):
     manifest = vault.file("w2.toml").read_text()
     vault.write("other.toml", manifest.replace("w2_lines.csv", "w1_lines.csv"))
     vault.says("load", "other.toml", status=1, err=f"other.toml: W19 Differs load={orders.DATES[1]}")
-    for feed in orders.FEEDS:
-        tried = vault.run("try", f"feed:{feed}", orders.LAST_DATE, "w1.toml")
-        vault.says("mart", f"feed:{feed}", orders.LAST_DATE, out=tried.out)
+    for mart in orders.MARTS:
+        tried = vault.run("try", mart, orders.LAST_DATE, "w1.toml")
+        vault.says("mart", mart, orders.LAST_DATE, out=tried.out)
     vault.says("init", err="init: Kept")
     again = vault.twin()
     vault.says("resume", err=f"resume: Loaded {loaded_rows('orders')['w2.toml']}")

@@ -1,9 +1,9 @@
-"""Checks of snapshots: what `snapshot` says, what `pit` writes, and that a stored snapshot stays what it is."""
+"""Checks of snapshots: what `snapshot` says, what `pit` and `bridge` write, and that a stored snapshot stays what it is."""
 import time
 
-from kept import breaks, history, orders
+from kept import breaks, history, joins, orders
 from kept.orders import DATES, MANIFESTS
-from kept.points import hubs_of, pit_text, row_count
+from kept.points import hubs_of, mapping_of, pit_text, windows_of
 from kept.program import expect
 from kept.stores import change, is_whole, opened, opened_copy, shown_rows
 
@@ -24,47 +24,69 @@ def not_stored(date):
     return {"status": 1, "err": f"vaultdesk: Q5 NoSnapshot date={date}"}
 
 
+def tables(vault):
+    """The command that writes each table of a snapshot, and the name that it takes, in order."""
+    yield from (("pit", hub) for hub in hubs_of(vault))
+    yield from (("bridge", path) for path in joins.paths_of(mapping_of(vault)))
+
+
+def table_text(vault, command, name, date):
+    """The text of a table of a snapshot, of the extracts."""
+    if command == "pit":
+        return pit_text(vault, name, date)
+    return joins.bridge_text(mapping_of(vault), windows_of(vault), name, date)
+
+
+def row_count(vault, date):
+    """How many rows a snapshot at a date has."""
+    return sum(table_text(vault, *table, date).count(b"\n") - 1 for table in tables(vault))
+
+
+def texts(vault, date):
+    """What is stored in the snapshot at a date."""
+    return {table: vault.text(*table, date) for table in tables(vault)}
+
+
 def stored(vault, date):
     """Stores a snapshot at a date at which none is."""
     vault.says("snapshot", date, err=f"snapshot: Stored {row_count(vault, date)}")
 
 
 def is_as_delivered(vault, date):
-    """Fails where a point-in-time table is not that of the extracts."""
-    for hub in hubs_of(vault):
-        expect(f"pit {hub} {date}", pit_text(vault, hub, date), vault.text("pit", hub, date))
+    """Fails where a stored table is not that of the extracts."""
+    for table in tables(vault):
+        expect(f"{' '.join(table)} {date}", table_text(vault, *table, date), vault.text(*table, date))
 
 
 def snapshots_at_dates(bench):
-    """a snapshot at each load date, between two and before all has the point-in-time tables of the extracts"""
+    """a snapshot at each load date, between two and before all has the point-in-time tables and bridges of the extracts"""
     vault = orders.kept(bench, 3)
     for date in (*SNAPSHOT_DATES[::-1], BEFORE):
         stored(vault, date)
         vault.says("snapshot", date, err="snapshot: Repeated")
     for date in (BEFORE, *SNAPSHOT_DATES):
         is_as_delivered(vault, date)
-        tried = vault.run("try", "pit:customer", date, *MANIFESTS)
-        expect(f"try pit:customer {date}", pit_text(vault, "customer", date), tried.out)
+        for command, name in (("pit", "customer"), ("bridge", "sold")):
+            tried = vault.run("try", f"{command}:{name}", date, *MANIFESTS)
+            expect(f"try {command}:{name} {date}", table_text(vault, command, name, date), tried.out)
 
 
 def snapshots_stay(bench):
     """later windows leave a stored snapshot as it is, also one stored while a window was open"""
     vault = orders.kept(bench, 1)
     stored(vault, DATES[0])
-    kept = {hub: vault.text("pit", hub, DATES[0]) for hub in hubs_of(vault)}
+    kept = texts(vault, DATES[0])
     for manifest in MANIFESTS[1:]:
         vault.loaded(manifest)
-        for hub, text in kept.items():
-            expect(f"pit {hub} after {manifest}", text, vault.text("pit", hub, DATES[0]))
+        expect(f"what is stored, after {manifest}", kept, texts(vault, DATES[0]))
     made = history.make(bench)
     open_vault, closed = breaks.an_open_window(made), made.after_first
-    hubs, date = hubs_of(closed), history.DATES[0]
+    date = history.DATES[0]
     for each in (open_vault, closed):
         stored(each, date)
     open_vault.says("snapshot", history.DATES[1], **future(date))
     history.complete(made, open_vault, "open", by_resume=True)
-    for hub in hubs:
-        expect(f"pit {hub} of a vault with an open window", closed.text("pit", hub, date), open_vault.text("pit", hub, date))
+    expect("what a vault with an open window stored", texts(closed, date), texts(open_vault, date))
 
 
 def refused_snapshots(bench):
@@ -79,13 +101,16 @@ def refused_snapshots(bench):
 
 
 def unstored_tables(bench):
-    """pit names an unknown hub first, then a date that is none, then a date without a snapshot"""
+    """pit and bridge name an unknown hub or path first, then a date that is none, then a date without a snapshot"""
     vault = orders.kept(bench, 2)
     stored(vault, DATES[0])
-    vault.says("pit", "customers", "never", status=1, err="vaultdesk: Q1 UnknownMart name=customers")
-    vault.says("pit", "pit:customer", DATES[0], status=1, err="vaultdesk: Q1 UnknownMart name=pit:customer")
-    vault.says("pit", "customer", "never", **NO_SUCH_DATE)
-    vault.says("pit", "customer", DATES[1], **not_stored(DATES[1]))
+    for command, name, others in (("pit", "customer", ("customers", "pit:customer", "sold")),
+                                  ("bridge", "sold", ("placed", "bridge:sold", "customer", ""))):
+        for other in others:
+            for date in (DATES[0], "never"):
+                vault.says(command, other, date, status=1, err=f"vaultdesk: Q1 UnknownMart name={other}")
+        vault.says(command, name, "never", **NO_SUCH_DATE)
+        vault.says(command, name, DATES[1], **not_stored(DATES[1]))
     is_as_delivered(vault, DATES[0])
 
 
@@ -94,38 +119,55 @@ def killed_snapshots(bench):
     made = history.make(bench)
     date = history.DATES[0]
     unbroken = made.after_first.twin()
+    rows = row_count(unbroken, date)
     begun = time.perf_counter()
-    stored(unbroken, date)
+    unbroken.says("snapshot", date, err=f"snapshot: Stored {rows}")
     taken = time.perf_counter() - begun
+    whole = texts(unbroken, date)
     for seconds in breaks.spread(0, 1.1 * taken, KILLS):
         vault = made.after_first.twin()
         breaks.killed_by_time(vault, seconds, "snapshot", date)
         is_stored = vault.run("pit", "customer", date).status == 0
-        vault.says("snapshot", date, err="snapshot: Repeated" if is_stored else f"snapshot: Stored {row_count(vault, date)}")
-        for hub in hubs_of(vault):
-            expect(f"pit {hub} after a kill", unbroken.text("pit", hub, date), vault.text("pit", hub, date))
+        vault.says("snapshot", date, err="snapshot: Repeated" if is_stored else f"snapshot: Stored {rows}")
+        expect("what is stored, after a kill", whole, texts(vault, date))
         with opened(vault.file("vault.db")) as connection:
             is_whole(connection)
         bench.drop(vault)
 
 
-def shown_pits(connection, hub):
-    """What a view over point-in-time tables shows, as the program prints it: a blank for no load date."""
-    columns = [row[1] for row in connection.execute(f'PRAGMA table_info("pit_{hub}")')]
+def shown_table(connection, view):
+    """What a view over the tables of snapshots shows, as the program prints it: a blank for no load date."""
+    columns = [row[1] for row in connection.execute(f'PRAGMA table_info("{view}")')]
     shown = ", ".join(f"""coalesce("{column}", '') AS "{column}" """ for column in columns)
-    return shown_rows(connection, f'SELECT {shown} FROM "pit_{hub}" ORDER BY snapshot, hash_key')
+    return shown_rows(connection, f'SELECT {shown} FROM "{view}"')
+
+
+def printed_tables(vault, table, dates):
+    """What the program prints of a table in the snapshots at dates, under one header."""
+    printed = [vault.text(*table, date).splitlines(keepends=True) for date in dates]
+    return b"".join([printed[0][0], *(line for text in printed for line in text[1:])])
 
 
 def views_of_snapshots(bench):
-    """each hub has a view that shows its stored point-in-time tables"""
+    """each hub has a view that shows its stored point-in-time tables, and each path one of its bridges"""
     vault = orders.kept(bench, 3)
     for date in SNAPSHOT_DATES:
         stored(vault, date)
     with opened_copy(vault) as connection:
-        for hub in hubs_of(vault):
-            texts = [vault.text("pit", hub, date).splitlines(keepends=True) for date in SNAPSHOT_DATES]
-            printed = b"".join([texts[0][0], *(line for text in texts for line in text[1:])])
-            expect(f"the view pit_{hub}", printed, shown_pits(connection, hub))
+        for table in tables(vault):
+            printed = printed_tables(vault, table, SNAPSHOT_DATES)
+            expect(f"the view {'_'.join(table)}", printed, shown_table(connection, "_".join(table)))
+
+
+def views_with_other_names(bench):
+    """a column of a bridge's view whose name stands there already is called by its number"""
+    vault = history.make(bench).after_first
+    stored(vault, history.DATES[0])
+    header, rows = vault.text("bridge", "met", history.DATES[0]).split(b"\n", 1)
+    expect("bridge met", b"snapshot,visits,visits,visits.customer,visits.site,visits.customer,visits.site", header)
+    with opened_copy(vault) as connection:
+        shown = b"snapshot,visits,column_3,visits.customer,visits.site,column_6,column_7\n" + rows
+        expect("the view bridge_met", shown, shown_table(connection, "bridge_met"))
 
 
 def damaged(place):
@@ -133,7 +175,7 @@ def damaged(place):
 
 
 def changed_snapshots(bench):
-    """changed heads of snapshots are named by every command, and a changed row by pit"""
+    """changed heads of snapshots are named by every command, and a changed row by pit and bridge"""
     vault = orders.kept(bench, 2)
     for date in DATES[:2]:
         stored(vault, date)
@@ -142,12 +184,21 @@ def changed_snapshots(bench):
     for sql in (late, heavy):
         changed = vault.twin()
         change(changed, sql)
-        for words in (("windows",), ("snapshot", DATES[0]), ("pit", "customer", DATES[0])):
+        for words in (("windows",), ("snapshot", DATES[0]), ("pit", "customer", DATES[0]), ("bridge", "sold", DATES[0])):
             changed.says(*words, **damaged("snapshots 2 F14"))
-    fewer = f"UPDATE snapshot_tables SET list_columns = 0 WHERE kind = 'pit' AND entity = 0 AND snapshot_date = '{DATES[1]}'"
-    change(vault, fewer)
+    for (command, name), column in ((("pit", "customer"), "list_columns"), (("bridge", "sold"), "list_columns"),
+                                    (("bridge", "sold"), "sub_columns")):
+        changed = vault.twin()
+        fewer = f"UPDATE snapshot_tables SET {column} = {column} - 1 WHERE kind = ? AND entity = 0 AND snapshot_date = ?"
+        change(changed, fewer, command, DATES[1])
+        changed.says("windows", out=orders.windows_text(2))
+        changed.says(command, name, DATES[1], **damaged(f"{command}_{name} 1 F4"))
+        is_as_delivered(changed, DATES[0])
+    wide = "UPDATE rows_of_bridges SET hub_4 = ? WHERE number = (SELECT first_row + 1 FROM snapshot_tables WHERE kind = ? AND snapshot_date = ?)"
+    change(vault, wide, bytes(32), "bridge", DATES[1])
     vault.says("windows", out=orders.windows_text(2))
-    vault.says("pit", "customer", DATES[1], **damaged("pit_customer 1 F4"))
+    vault.says("bridge", "sold", DATES[1], **damaged("bridge_sold 2 F4"))
+    vault.says("snapshot", DATES[1], err="snapshot: Repeated")
     is_as_delivered(vault, DATES[0])
 
 
@@ -170,4 +221,4 @@ def a_vault_from_before(bench):
 
 
 CHECKS = (snapshots_at_dates, snapshots_stay, refused_snapshots, unstored_tables, killed_snapshots, views_of_snapshots,
-          changed_snapshots, a_vault_from_before)
+          views_with_other_names, changed_snapshots, a_vault_from_before)
