@@ -48,11 +48,9 @@ class Orders:
         return {name: folder / "target/release" / name for name in ["rust_shape", "rust_peer"]}
 
     def write(self, data, size):
-        """Writes the windows, under the mapping without its path, which the program doesn't build yet."""
+        """Writes the windows and their mapping."""
         command = [sys.executable, self.shared / "gen.py", data, "--keys", str(size), "--windows", str(WINDOWS)]
         subprocess.run(command, check=True)
-        mapping = data / "mapping.toml"
-        mapping.write_text(mapping.read_text().partition("[[path]]")[0])
 
 
 class Phones:

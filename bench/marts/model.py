@@ -29,6 +29,11 @@ class Model:
                 found.setdefault(key.strip().upper(), []).append([field.strip() for field in fields])
         return {key: sorted(rows) for key, rows in found.items()}
 
+    def told(self, query, date):
+        """What the extracts say to a query."""
+        by_name = {"hub": self.hub, "pit": self.pit}
+        return by_name[query](date) if query in by_name else self.feed(query, date)
+
     def contents(self, date):
         """The last extract of each feed that is not later than a date."""
         last = {feed: {} for feed in FEEDS}

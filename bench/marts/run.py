@@ -1,12 +1,13 @@
 #!/usr/bin/env python3
-"""Seconds and MB a second of hub marts, point-in-time tables and feed marts over a kept vault, against PostgreSQL 15.
+"""Seconds and MB a second of marts, point-in-time tables and bridges over a kept vault, against PostgreSQL 15.
 
-Usage: python3 bench/marts/run.py [--program FILE] [--customers N,N,..] [--repeat N] [--keep FOLDER] [--peers-only]
+Usage: python3 bench/marts/run.py [--program FILE] [--sizes N,N,..] [--only hub|paths] [--repeat N] [--keep FOLDER] [--peers-only]
 
 FILE, or what the environment's VAULTDESK names, is a built vaultdesk; where none is named, the script vaultdesk builds
-the repository's. Loads four windows of each size once with each, asks each query REPEAT times in turn, compares what is
-answered, and prints the best times. At the smallest size every query is also asked at the date of each window, and
-compared with what the extracts themselves say (`model.py`). `--peers-only` leaves the program out.
+the repository's. Of each subject, a hub and paths, loads four windows of each size once with each, asks each query
+REPEAT times in turn, compares what is answered, and prints the best times. At the smallest size every query is also
+asked at the date of each window, and compared with what the extracts themselves say (`model.py`, `path_model.py`).
+`--peers-only` leaves the program out.
 """
 import argparse
 import contextlib
@@ -20,17 +21,12 @@ from typing import NamedTuple
 HERE = pathlib.Path(__file__).resolve().parent
 sys.path[1:1] = [str(HERE.parent), str(HERE.parent / "kept")]
 import postgres  # noqa: E402
-import windows  # noqa: E402
-from model import Model  # noqa: E402
 from runs import built_program, head, row, run  # noqa: E402
+from subjects import SUBJECTS  # noqa: E402
 
 WINDOWS = 4
 MANIFESTS = [f"w{number}.toml" for number in range(1, WINDOWS + 1)]
 DATES = [f"2024-03-{number:02d}T02:00:00" for number in range(1, WINDOWS + 1)]
-# What is asked, in the order in which it is asked: `pit` is what `snapshot` stored.
-QUERIES = ["nothing", "hub", "customers", "accounts", "phones", "snapshot", "pit"]
-SHOWN = {"hub": "`hub:customer`", "customers": "`feed:customers`", "accounts": "`feed:accounts`", "phones": "`feed:phones`",
-         "snapshot": "snapshot", "pit": "`pit customer`"}
 
 
 class Asked(NamedTuple):
@@ -45,13 +41,11 @@ class Ours:
     """A process for each query, which reads and checks the whole of vault.db first."""
 
     name = "ours"
-    WORDS = {"nothing": ["windows"], "hub": ["mart", "hub:customer"], "customers": ["mart", "feed:customers"],
-             "accounts": ["mart", "feed:accounts"], "phones": ["mart", "feed:phones"], "snapshot": ["snapshot"], "pit": ["pit", "customer"]}
 
     def __init__(self, program):
         self.program = program
 
-    def load(self, data, out):
+    def load(self, subject, data, out):
         """Keeps the vault as the windows leave it, since a snapshot is stored once."""
         (out / "loaded").mkdir()
         for path in data.iterdir():
@@ -61,15 +55,15 @@ class Ours:
             if words[0] == "load" and " Loaded " not in said[-1]:
                 raise SystemExit(f"load: {said}")
 
-    def ask(self, query, date, out, text):
+    def ask(self, subject, query, date, out, text):
         if query == "snapshot":
             for path in out.glob("vault.db*"):
                 path.unlink()
             for path in (out / "loaded").glob("vault.db*"):
                 shutil.copy(path, out / path.name)
-        folder = out if query in ("snapshot", "pit") else out / "loaded"
+        folder = out if query in ("snapshot", *subject.stored) else out / "loaded"
         dated = [] if query == "nothing" else [date]
-        return run([self.program, *self.WORDS[query], *dated], folder, text)[0]
+        return run([self.program, *subject.words[query], *dated], folder, text)[0]
 
 
 class OverPostgres:
@@ -80,13 +74,14 @@ class OverPostgres:
     def __init__(self, server):
         self.server = server
 
-    def load(self, data, out):
+    def load(self, subject, data, out):
+        self.server.scripts = subject.scripts
         self.server.new_vault()
         for manifest in MANIFESTS:
             run(self.server.load_command(data, manifest), out, os.devnull)
         self.server.ask("vault", "VACUUM ANALYZE")
 
-    def ask(self, query, date, out, text):
+    def ask(self, subject, query, date, out, text):
         if query == "nothing":
             return run([*self.server.psql, "-d", "vault", "-c", "SELECT"], out, os.devnull)[0]
         return run(self.server.mart_command(date, f"postgres_{query}.sql"), out, text)[0]
@@ -109,61 +104,55 @@ def has_text(query):
     return query not in ("nothing", "snapshot")
 
 
-def measure(peers, data, folder, repeat):
+def measure(subject, peers, data, folder, repeat):
     """The best of each query at the last date, where the peers are asked in turn."""
     for peer in peers:
         out = folder / peer.name
         shutil.rmtree(out, ignore_errors=True)
         out.mkdir()
-        peer.load(data, out)
+        peer.load(subject, data, out)
     found = {peer.name: {} for peer in peers}
-    for query in QUERIES:
+    for query in subject.queries():
         best = {peer.name: [] for peer in peers}
         for _ in range(repeat):
             for peer in peers:
-                best[peer.name].append(peer.ask(query, DATES[-1], folder / peer.name, text_of(peer, query, folder)))
+                best[peer.name].append(peer.ask(subject, query, DATES[-1], folder / peer.name, text_of(peer, query, folder)))
         text = compared(peers, query, folder, DATES[-1]) if has_text(query) else b""
         for name, seconds in best.items():
             found[name][query] = Asked(min(seconds), len(text), text.count(b"\n") - 1)
-    for name in found:
+    for asked in found.values():
         # what a snapshot stores is what is read of it then
-        stored = found[name]["pit"]
-        found[name]["snapshot"] = Asked(found[name]["snapshot"].seconds, stored.size, stored.rows)
+        stored = [asked[query] for query in subject.stored]
+        asked["snapshot"] = Asked(asked["snapshot"].seconds, sum(one.size for one in stored), sum(one.rows for one in stored))
     return found
 
 
-def told(model, query, date):
-    """What the extracts say."""
-    by_name = {"hub": model.hub, "pit": model.pit}
-    return by_name[query](date) if query in by_name else model.feed(query, date)
-
-
-def compare_dates(peers, data, folder):
+def compare_dates(subject, peers, data, folder):
     """At the date of each window, and at one before all and one between two, each answer is what the extracts say."""
-    model = Model(data, MANIFESTS)
+    model = subject.model(data, MANIFESTS)
     dates = ["2024-02-29T00:00:00", *DATES, "2024-03-02T12:00:00"]
     for date in dates:
-        for query in QUERIES:
+        for query in subject.queries():
             # a snapshot is stored at the date of a sealed window or behind one, and never before the first
-            if query == "nothing" or date < DATES[0] and query in ("snapshot", "pit"):
+            if query == "nothing" or date < DATES[0] and query in ("snapshot", *subject.stored):
                 continue
             for peer in peers:
-                peer.ask(query, date, folder / peer.name, text_of(peer, query, folder))
-            if has_text(query) and compared(peers, query, folder, date) != told(model, query, date):
+                peer.ask(subject, query, date, folder / peer.name, text_of(peer, query, folder))
+            if has_text(query) and compared(peers, query, folder, date) != model.told(query, date):
                 raise SystemExit(f"{query} at {date} is not what the extracts say: see {folder}")
     return len(dates)
 
 
-def show(found):
+def show(subject, found):
     """The seconds of each query, those beyond an empty one, and the MB of text a second."""
-    head(["customers", "asked", "rows", "MB", "who", "s", "s beyond an empty query", "MB/s", "MB/s beyond it", "ours takes, times", "growth a row"])
+    head([subject.unit, "asked", "rows", "MB", "who", "s", "s beyond an empty query", "MB/s", "MB/s beyond it", "ours takes, times", "growth a row"])
     sizes = sorted(found)
     for at, size in enumerate(sizes):
-        for query in QUERIES[1:]:
+        for query in subject.shown:
             for name, asked in found[size].items():
                 one, empty = asked[query], asked["nothing"].seconds
                 before = found[sizes[at - 1]][name][query] if at else None
-                row([f"{size:,}", SHOWN[query], f"{one.rows:,}", f"{one.size / 1e6:.2f}", name, f"{one.seconds:.3f}", f"{one.seconds - empty:.3f}",
+                row([f"{size:,}", subject.shown[query], f"{one.rows:,}", f"{one.size / 1e6:.2f}", name, f"{one.seconds:.3f}", f"{one.seconds - empty:.3f}",
                      f"{one.size / 1e6 / one.seconds:.1f}", f"{rate(one.size, one.seconds - empty)}", times(found[size], query, one), growth(one, before)])
 
 
@@ -180,29 +169,42 @@ def growth(one, before):
     return f"{one.seconds / one.rows / (before.seconds / before.rows):.2f}" if before else ""
 
 
-def show_empty(found):
+def show_empty(subject, found):
     print()
-    head(["customers", "who", "empty query, s"])
+    head([subject.unit, "who", "empty query, s"])
     for size, by_name in sorted(found.items()):
         for name, asked in by_name.items():
             row([f"{size:,}", name, f"{asked['nothing'].seconds:.3f}"])
+    print()
 
 
 def arguments():
     parser = argparse.ArgumentParser(description=__doc__, formatter_class=argparse.RawDescriptionHelpFormatter)
     parser.add_argument("--program", type=pathlib.Path, default=os.environ.get("VAULTDESK"))
-    parser.add_argument("--customers", default="20000,200000")
+    parser.add_argument("--sizes", default="20000,200000")
+    parser.add_argument("--only", choices=SUBJECTS)
     parser.add_argument("--repeat", type=int, default=3)
     parser.add_argument("--keep", type=pathlib.Path)
     parser.add_argument("--peers-only", action="store_true")
     return parser.parse_args()
 
 
-def make_data(folder, size):
-    data = folder / f"data_{size}"
+def make_data(subject, folder, size):
+    data = folder / f"{subject.unit}_{size}"
     if not data.exists():
-        windows.write(data, size, WINDOWS)
+        subject.write(data, size, WINDOWS)
     return data
+
+
+def measure_all(subject, peers, folder, sizes, repeat):
+    """What was found at each size, and at how many dates the answers were compared with the extracts."""
+    found, dates = {}, 0
+    for size in sizes:
+        data = make_data(subject, folder, size)
+        found[size] = measure(subject, peers, data, folder, repeat)
+        if size == sizes[0]:
+            dates = compare_dates(subject, peers, data, folder)
+    return found, dates
 
 
 def main():
@@ -210,7 +212,8 @@ def main():
     folder = (given.keep or pathlib.Path(tempfile.mkdtemp())).resolve()
     folder.mkdir(parents=True, exist_ok=True)
     folder.chmod(0o755)  # The server may be another user's.
-    sizes = sorted(map(int, given.customers.split(",")))
+    sizes = sorted(map(int, given.sizes.split(",")))
+    subjects = [SUBJECTS[given.only]] if given.only else SUBJECTS.values()
     print(f"load average before: {os.getloadavg()[0]:.1f} on {os.cpu_count()} processors")
     with contextlib.ExitStack() as ending:
         peers = [] if given.peers_only else [Ours(pathlib.Path(given.program or built_program()).resolve())]
@@ -218,15 +221,12 @@ def main():
             peers.append(OverPostgres(ending.enter_context(postgres.Server(folder / "server", HERE))))
         else:
             print("PostgreSQL is absent here (Debian package postgresql), so it is left out")
-        found = {}
-        for size in sizes:
-            found[size] = measure(peers, make_data(folder, size), folder, given.repeat)
-            if size == sizes[0]:
-                dates = compare_dates(peers, make_data(folder, size), folder)
-    print(f"load average after: {os.getloadavg()[0]:.1f}")
-    print(f"all texts are equal byte for byte; at {sizes[0]:,} customers also those at {dates} dates, and to what the extracts say\n")
-    show(found)
-    show_empty(found)
+        for subject in subjects:
+            found, dates = measure_all(subject, peers, folder, sizes, given.repeat)
+            print(f"load average after: {os.getloadavg()[0]:.1f}")
+            print(f"all texts are equal byte for byte; at {sizes[0]:,} {subject.unit} also those at {dates} dates, and to what the extracts say\n")
+            show(subject, found)
+            show_empty(subject, found)
     if not given.keep:
         shutil.rmtree(folder)
 
