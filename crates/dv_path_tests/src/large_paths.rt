@@ -1,12 +1,11 @@
-// Paths at the limit of their rows, and past it: 1,000,000 in the mart of a path, and of its first feeds.
+// Paths at the limit of their rows, and past it: 1,000,000 in the bridge of a path, and of its first feeds.
 use crate::offices::{FIRST, SECOND, made_office, stamp};
 use dv_catalog::{ExtractIn, WindowIn};
 use dv_mart::{MartFault, What, bridge_rows, mart_text, path_mart};
 use dv_records::{BridgeRow, PathRow};
-use dv_text::{Key, List, Memory, Text};
+use dv_text::{List, Memory, Text};
 use dv_window::Office;
 use std::alloc::Global;
-use std::process::Abort;
 use std::test::Fail;
 
 // Orders of customers and what they contain, and which site has which product; a path of the first two feeds, and one
@@ -155,55 +154,6 @@ fn text(
         Some(what) => Ok(mart_text(alloc, office.vault(), &what, date)),
         None => Err("nothing offered")?,
     }
-}
-
-// A key of one part is this.
-fn is_key(rt: &impl Abort, key: Option<&Key>, expected: &[u8]) -> Result<(), Fail> {
-    let key = key.ok_or("no key")?;
-    let [part] = key.parts.items() else {
-        return Err("not one part")?;
-    };
-    assert_eq!(rt; part.bytes(), expected);
-    Ok(())
-}
-
-// The row with a number has this customer and this product of the order O1.
-fn is_row(
-    rt: &impl Abort,
-    rows: &[PathRow],
-    number: usize,
-    customer: &[u8],
-    product: &[u8],
-) -> Result<(), Fail> {
-    let row = rows.get(number).ok_or("no row")?;
-    let [placement, line] = row.steps.items() else {
-        return Err("not two steps")?;
-    };
-    is_key(rt, placement.items().first(), customer)?;
-    is_key(rt, placement.items().last(), b"O1")?;
-    is_key(rt, line.items().first(), b"O1")?;
-    is_key(rt, line.items().last(), product)
-}
-
-#[test]
-fn a_path_mart_may_have_a_million_rows(rt: HostRuntime) -> Result<(), Fail> {
-    let alloc = rt.alloc();
-    let office = large_office(alloc)?;
-    let Ok(mart) = mart(alloc, &office, SOLD_PATH, FIRST)? else {
-        return Err("no mart")?;
-    };
-    let rows = mart.items();
-    assert_eq!(rt; rows.len(), 1_000_000);
-    for (number, customer, product) in [
-        (0, b"C1000", b"P1000"),
-        (999, b"C1000", b"P1999"),
-        (1_000, b"C1001", b"P1000"),
-        (123_456, b"C1123", b"P1456"),
-        (999_999, b"C1999", b"P1999"),
-    ] {
-        is_row(&rt, rows, number, customer, product)?;
-    }
-    Ok(())
 }
 
 #[test]

@@ -51,11 +51,7 @@ fn one_order(
 #[test]
 fn a_path_mart_has_at_most_1000000_rows(rt: HostRuntime) -> Result<(), Fail> {
     let alloc = rt.alloc();
-    for (mapping, what) in [
-        (SOLD, "path:sold"),
-        (SOLD, "bridge:sold"),
-        (SOLD_AND_RETURNED, "path:sold"),
-    ] {
+    for (mapping, what) in [(SOLD, "path:sold"), (SOLD_AND_RETURNED, "bridge:sold")] {
         let files = one_order(alloc, mapping, 1_001, 1_000)?;
         let words = &["try", what, "2024-03-01T02:00:00", "w1.toml"];
         let heard = run_over(alloc, words, files, NO_FAULTS, &Md5Keys)?;

@@ -261,11 +261,11 @@ const SOLD_WINDOW: &[Case] = &[
     },
 ];
 
-// So many digests of zeros, of so many bytes.
+// So many digests of zeros, of 32 bytes or 16.
 fn zeros(alloc: Global, count: u32, width: u8) -> Result<List<Digest>, Memory> {
     let mut digests = List::new(alloc);
     for _ in 0..count {
-        digests.push(Digest::zero(width))?;
+        digests.push(Digest::zero(if width == 32 { 32 } else { 16 }))?;
     }
     Ok(digests)
 }
