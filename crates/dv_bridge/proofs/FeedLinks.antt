@@ -111,13 +111,13 @@ module _ (hashes : Hashes) (zeros : HasZeroKeys hashes) where
   known_unzero : (mapping : Mapping) (sealed : List Window) (hub : ℕ) → IsApart hashes (hashed_refs mapping sealed (Hub hub)) → (key : Key) → is_known mapping (Hub hub) (reverse sealed) (key ∷ []) ≡ true → is_zero (hashes.hash (key ∷ [])) ≡ false
   known_unzero mapping sealed hub apart key known =
       false_from_ne_true (is_zero (hashes.hash (key ∷ []))) (λ zero.
-          let missing = missing_key mapping hub in
-          let alike : hashes.hash (key ∷ []) ≡ hashes.hash (missing ∷ []) = zero_key key zero ∙ sym (zeros.zero missing (missing_there mapping hub)) in
-          let same : key ∷ [] ≡ missing ∷ [] =
-          apart (key ∷ []) (missing ∷ []) (known_hashed mapping hashes sealed (Hub hub) apart (key ∷ []) known) (Contains-cons_here (missing_refs mapping (Hub hub)) _) alike in
-          let there = known_there mapping (Hub hub) (reverse sealed) (key ∷ []) known in
-          let gone : list_all is_missing (missing ∷ []) ≡ true = rw (missing_there mapping hub) refl in
-          false≢true (sym there ∙ ap (list_all is_missing) same ∙ gone))
+      let missing = missing_key mapping hub in
+      let alike : hashes.hash (key ∷ []) ≡ hashes.hash (missing ∷ []) = zero_key key zero ∙ sym (zeros.zero missing (missing_there mapping hub)) in
+      let same : key ∷ [] ≡ missing ∷ [] =
+      apart (key ∷ []) (missing ∷ []) (known_hashed mapping hashes sealed (Hub hub) apart (key ∷ []) known) (Contains-cons_here (missing_refs mapping (Hub hub)) _) alike in
+      let there = known_there mapping (Hub hub) (reverse sealed) (key ∷ []) known in
+      let gone : list_all is_missing (missing ∷ []) ≡ true = rw (missing_there mapping hub) refl in
+      false≢true (sym there ∙ ap (list_all is_missing) same ∙ gone))
 
 -- ---- a feed of a link
 

@@ -72,7 +72,12 @@ fn hub_header(alloc: Global, catalog: &Catalog, hub: u32) -> Result<Fields, Memo
     let feeds = feeds_of(alloc, catalog, hub)?;
     let mut header = Fields::new(alloc);
     let definition = catalog.hub(hub);
-    push_parts(alloc, &mut header, definition.name.bytes(), definition.parts)?;
+    push_parts(
+        alloc,
+        &mut header,
+        definition.name.bytes(),
+        definition.parts,
+    )?;
     push_feeds(alloc, &mut header, feeds.as_slice())?;
     Ok(header)
 }

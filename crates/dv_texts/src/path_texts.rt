@@ -34,12 +34,7 @@ impl Recorded for PathRow {
 }
 
 // Puts a column at the end for each part of a hub's keys, behind the name of a feed.
-fn push_hub(
-    alloc: Global,
-    header: &mut Fields,
-    feed: &[u8],
-    hub: &HubDef,
-) -> Result<(), Memory>
+fn push_hub(alloc: Global, header: &mut Fields, feed: &[u8], hub: &HubDef) -> Result<(), Memory>
     ensures { OnOk result (header.new ≡ header.old ++ map (spec.dotted feed.now) (map (spec.numbered hub.now.name) (range_with_len 1 hub.now.parts))) }
 {
     let name = dotted(alloc, feed, hub.name.bytes())?;
@@ -80,12 +75,7 @@ fn push_hubs(
 }
 
 // Puts the columns of a feed's references at the end.
-fn push_feed(
-    alloc: Global,
-    catalog: &Catalog,
-    header: &mut Fields,
-    feed: u32,
-) -> Result<(), Memory>
+fn push_feed(alloc: Global, catalog: &Catalog, header: &mut Fields, feed: u32) -> Result<(), Memory>
     ensures { OnOk result (header.new ≡ header.old ++ spec.step_columns catalog.now feed) }
 {
     let name = name_of_feed(catalog, feed);
@@ -112,5 +102,9 @@ pub fn path_text(
 ) -> Result<Text, Memory>
     ensures { IfOk result (λ text. text ≡ spec.path_text catalog.now path.now.feeds rows.now) }
 {
-    rows_text(alloc, path_header(alloc, catalog, path.feeds.items())?, rows)
+    rows_text(
+        alloc,
+        path_header(alloc, catalog, path.feeds.items())?,
+        rows,
+    )
 }
