@@ -1,11 +1,9 @@
 -- What a path of a valid mapping says of its feeds, and what a feed says of its hubs and of the table of its link.
-use Rattle.std.proofs.Common.{◌≡◌, ◌∙◌, ◌<◌, ◌≤◌, ◌∷◌, [], List, ℕ, ap, arith, get_or, length, refl, subst, sym}
+use Rattle.std.proofs.Common.{◌≡◌, ◌∙◌, ◌<◌, ◌≤◌, List, ℕ, ap, arith, get_or, length, refl, subst, sym}
 use Rattle.std.proofs.lemmas.Bool.{and_from}
-use Rattle.std.proofs.lemmas.List.Quantifiers.{position-Some}
 use Rattle.std.proofs.lemmas.Option.{slice_get-get_or, slice_get_within}
 use Rattle.std.specs.List.{list_all}
-use Rattle.std.specs.Option.{option_map_or}
-use Rattle.std.specs.Prelude.{◌*◌, ◌==◌, Contains, None, Option, Some, false, position, slice_get, sum_by, true}
+use Rattle.std.specs.Prelude.{◌*◌, Contains, None, Option, Some, slice_get, sum_by, true}
 use Rattle.std.proofs.lemmas.List.Sums.{sum_by-le}
 use Rattle.dv_text.proofs.Passing.{passes_got}
 use Rattle.dv_text.proofs.Vocabulary.{false≢true}
@@ -25,7 +23,7 @@ use Rattle.dv_records.specs.ReadBack.{link_rows_in, status_rows_in}
 use Rattle.dv_vault.proofs.SortedOffers.{got_here}
 use Rattle.dv_bridge.proofs.FeedLinks.{link_feed}
 use Rattle.dv_bridge.specs.BridgeRows.{links_at}
-use Rattle.dv_bridge.specs.BridgeTables.{feed_links, links_by, parent_links, place_of}
+use Rattle.dv_bridge.specs.BridgeTables.{feed_links, links_by, parent_links}
 
 -- ---- a feed of a link
 

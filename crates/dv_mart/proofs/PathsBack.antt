@@ -25,7 +25,6 @@ use Rattle.dv_text.specs.Orders.{refs_cmp}
 use Rattle.dv_text.specs.Sorting.{sorted_by}
 use Rattle.std.proofs.lemmas.Slice.Eq.{bytes_eq-Decides}
 use Rattle.dv_catalog.proofs.ValidReads.{valid_path}
-use Rattle.dv_catalog.specs.declared.entries.FeedDef.{FeedDef}
 use Rattle.dv_catalog.specs.declared.entries.Parent.{Parent}
 use Rattle.dv_catalog.specs.declared.entries.Parent.TheVariants.{Link}
 use Rattle.dv_catalog.specs.declared.entries.PathDef.{PathDef}
@@ -45,9 +44,7 @@ use Rattle.dv_records.specs.Snapshots.{bridge, bridge_cmp, bridge_row}
 use Rattle.dv_records.specs.States.{are_windows_valid}
 use Rattle.dv_records.specs.Vault.{vault}
 use Rattle.dv_bridge.proofs.FeedLinks.{LinkFeed, feed_links_tell, link_feed}
-use Rattle.dv_bridge.proofs.LinkedFeeds.{IsRowOf}
-use Rattle.dv_bridge.specs.BridgeRows.{is_whole, links_at}
-use Rattle.dv_bridge.specs.BridgeTables.{feed_links}
+use Rattle.dv_bridge.specs.BridgeRows.{is_whole}
 use Rattle.dv_bridge.specs.ZeroKeys.{HasZeroKeys}
 use Rattle.dv_mart.specs.PathTables.{path_row, steps_read}
 use Rattle.dv_mart.proofs.PathFeeds.{links_are}

@@ -1,7 +1,6 @@
 -- The columns of the parts of a hub's keys, one after the other.
 use Rattle.dv_texts.proofs.Vocabulary.{◌≡◌, ℕ, ◌+◌, List, [], ◌∷◌, ◌++◌, append_assoc, codes, map, ap, arith, sym, ◌∙◌, decimal, range_with_len, map-range_with_len_more, raw_header}
 use Rattle.dv_texts.proofs.Vocabulary.{append-nil, hub_name, refl, slice_get, Mapping}
-use Rattle.std.proofs.Common.{◌≤◌, length}
 use Rattle.std.specs.Prelude.{None}
 use Rattle.dv_catalog.specs.Feeds.{parts_of}
 use Rattle.dv_texts.specs.Texts.{dotted, hub_columns, numbered}

@@ -1,4 +1,4 @@
-use Rattle.std.proofs.Common.{◌≡◌, ◌<◌, ◌≤◌, ◌∙◌, ◌==◌, arith, length, refl, sym}
+use Rattle.std.proofs.Common.{◌≤◌, ◌∙◌, ◌==◌, arith, length, refl, sym}
 use Rattle.std.proofs.lemmas.List.Quantifiers.{position-Some}
 use Rattle.dv_catalog.specs.Limits.{most_references}
 use Rattle.dv_mart.proofs.PathFeeds.{few_named}
