@@ -5,6 +5,7 @@ use Rattle.dv_vault.proofs.Vocabulary.{entries_with, Became, IsOfKind, IsOpen, I
 use Rattle.dv_records.specs.declared.keepers.KeeperError.TheVariants.{Memory}
 use Rattle.dv_vault.proofs.BatchSteps.{AtPlace, nothing_then, others_stay, rows_stay}
 use Rattle.dv_vault.proofs.OtherTables.{with_has}
+use Rattle.std.specs.Prelude.{IsSome}
 
 -- ---- changing calls
 
@@ -122,3 +123,11 @@ sealed window entries batches head is before mid after begun e =
     became_changed (with_seal head) (IsOpen window (entries_with entries batches)) (TookWindow window (entries_with entries batches))
     (λ was now r. record { tables_are = r.tables_are; others = r.others; none_open = refl; windows = ap (λ l. l ++ head ∷ []) r.windows ∙ ap (λ h. was.windows ++ h ∷ []) is; mapping = r.mapping; snapshots = r.snapshots })
     before mid after e begun
+
+-- a store that was told is told after a change
+pub stays_told : {T : Type 0} (change : Store → Store) (old new : Option Store) (r : Result T KeeperError) → Changes change old new r → IsSome old → IsSome new
+stays_told change (Some old) new (Ok x) is some = subst IsSome (sym is) some
+stays_told change (Some old) new (Err Memory) is some = subst IsSome (sym is) some
+stays_told change (Some old) new (Err Failed) (inl is) some = subst IsSome (sym is) some
+stays_told change (Some old) new (Err Failed) (inr is) some = subst IsSome (sym is) some
+stays_told change None new r is none = cc

@@ -1,5 +1,5 @@
 // A window is kept: a keeper takes it, and then the tables.
-ghost use Rattle.std.specs.Prelude.{◌≡◌, ◌+◌, ◌≤◌, ◌++◌, ◌∷◌, [], IfErr, IfNone, IfOk, IfSome, IsTrue, None, OnErr, OnOk, length, map};
+ghost use Rattle.std.specs.Prelude.{◌≡◌, ◌+◌, ◌≤◌, ◌++◌, ◌∷◌, [], IfErr, IfNone, IfOk, IfSome, IsSome, IsTrue, None, OnErr, OnOk, length, map};
 ghost use Rattle.std.specs.List.{AllZip};
 ghost use Rattle.dv_text.specs.Causes.{Rose};
 ghost use Rattle.dv_text.specs.Told.{Told};
@@ -36,6 +36,7 @@ pub fn head(alloc: Global, window: &Window) -> Result<WindowHead, Memory>
 }
 
 // Puts rows behind those of a table, where there are any.
+#[tactic(auto, using(crate::proofs::StoreSteps::stays_told))]
 fn append_rows<K: Keeper>(
     alloc: Global,
     keeper: &mut K,
@@ -45,6 +46,7 @@ fn append_rows<K: Keeper>(
     requires given { IsTrue (is_of_kind table rows.now) }
     requires stored { Told (K.store keeper.old) (λ s. IsTrue (is_of_kind table (rows_in table s.tables))) }
     ensures change { Changes (spec.with_batch table rows.now) (K.store keeper.old) (K.store keeper.new) result }
+    ensures stays { IsSome (K.store keeper.old) → IsSome (K.store keeper.new) }
     ensures cause { KeeperCause (K.faults keeper.old) (K.faults keeper.new) result }
 {
     if count(rows) == 0 {
@@ -68,6 +70,7 @@ fn append_all<K: Keeper>(
     ensures told { OnOk result (spec.TakesRows (map entry_of tables.now) batches.now (K.store keeper.old) (K.store keeper.new)) }
     ensures broke { IfErr result (spec.BreaksRows (map entry_of tables.now) batches.now (K.store keeper.old) (K.store keeper.new)) }
     ensures opened { IfErr result (λ broken. broken.reached ≡ None → ⊥) }
+    ensures stays { IsSome (K.store keeper.old) → IsSome (K.store keeper.new) }
     ensures cause { BreakCause (K.faults keeper.old) (K.faults keeper.new) result }
 {
     for i in from..tables.len() {
@@ -82,6 +85,7 @@ fn append_all<K: Keeper>(
 }
 
 // Completes the open window: appends the batches from a place on, and seals it.
+#[tactic(auto, using(crate::proofs::StoreSteps::stays_told))]
 fn complete<K: Keeper>(
     alloc: Global,
     keeper: &mut K,
@@ -98,6 +102,7 @@ fn complete<K: Keeper>(
     ensures told { OnOk result (spec.TakesWindow addition.now.window (map entry_of tables.now) addition.now.batches (K.store keeper.old) (K.store keeper.new)) }
     ensures broke { IfErr result (spec.BreaksWindow addition.now.window (map entry_of tables.now) addition.now.batches (K.store keeper.old) (K.store keeper.new)) }
     ensures opened { IfErr result (λ broken. broken.reached ≡ None → ⊥) }
+    ensures stays { IsSome (K.store keeper.old) → IsSome (K.store keeper.new) }
     ensures cause { BreakCause (K.faults keeper.old) (K.faults keeper.new) result }
 {
     append_all(alloc, keeper, tables, from, addition.batches.items())?;
@@ -111,6 +116,7 @@ fn complete<K: Keeper>(
 }
 
 // Gives a window to the keeper: opens it where it isn't open, appends the batches that aren't there, and seals it.
+#[tactic(auto, using(crate::proofs::StoreSteps::stays_told))]
 fn keep<K: Keeper>(
     alloc: Global,
     keeper: &mut K,
@@ -127,6 +133,7 @@ fn keep<K: Keeper>(
     ensures told { OnOk result (spec.TakesWindow addition.now.window (map entry_of tables.now) addition.now.batches (K.store keeper.old) (K.store keeper.new)) }
     ensures broke { IfErr result (spec.BreaksWindow addition.now.window (map entry_of tables.now) addition.now.batches (K.store keeper.old) (K.store keeper.new)) }
     ensures still { IfErr result (λ broken. broken.reached ≡ None → begun ≡ None) }
+    ensures stays { IsSome (K.store keeper.old) → IsSome (K.store keeper.new) }
     ensures cause { BreakCause (K.faults keeper.old) (K.faults keeper.new) result }
 {
     let Some(from) = begun else {
@@ -231,6 +238,7 @@ impl Vault {
         ensures told { OnOk result (spec.TakesWindow addition.window self.old.tables addition.batches (K.store keeper.old) (K.store keeper.new)) }
         ensures broke { IfErr result (λ untaken. (untaken.addition ≡ addition) × spec.BreaksWindow addition.window self.old.tables addition.batches (K.store keeper.old) (K.store keeper.new) (break_of untaken)) }
         ensures still { IfErr result (λ untaken. untaken.reached ≡ None → begun ≡ None) }
+        ensures stays { IsSome (K.store keeper.old) → IsSome (K.store keeper.new) }
         ensures later { K.faults keeper.old ≤ K.faults keeper.new }
         ensures cause { IfErr result (λ untaken. untaken.error ≡ KeeperError.Failed → Rose (K.faults keeper.old) (K.faults keeper.new)) }
     {

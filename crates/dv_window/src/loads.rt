@@ -1,5 +1,5 @@
 // The load of a window.
-ghost use Rattle.std.specs.Prelude.{◌≡◌, ◌≤◌, None, false, true};
+ghost use Rattle.std.specs.Prelude.{◌≡◌, ◌≤◌, IsSome, None, false, true};
 ghost use Rattle.dv_text.specs.Causes.{Rose};
 ghost use Rattle.dv_text.specs.Keys.{hashes_of};
 ghost use Rattle.dv_text.specs.Told.{Told};
@@ -33,6 +33,7 @@ impl Office {
         ensures width { self.new.width ≡ self.old.width }
         ensures stale { StaleAfter result self.old.stale self.new.stale }
         ensures store { LeavesStore result (K.store keeper.old) (K.store keeper.new) }
+        ensures stays { IsSome (K.store keeper.old) → IsSome (K.store keeper.new) }
         ensures undamaged { (damage : Damage) → result ≡ LoadAnswer.Damaged damage → ⊥ }
         ensures cause { result ≡ LoadAnswer.KeeperFault → Rose (K.faults keeper.old) (K.faults keeper.new) }
         ensures later { K.faults keeper.old ≤ K.faults keeper.new }
@@ -79,6 +80,7 @@ impl Office {
         ensures width { (self.old.stale ≡ false → self.new.width ≡ self.old.width) × (self.old.stale ≡ true → self.new.stale ≡ false → self.new.width ≡ H.size) }
         ensures stale { StaleAfter result self.old.stale self.new.stale }
         ensures store { LeavesStore result (K.store keeper.old) (K.store keeper.new) }
+        ensures stays { IsSome (K.store keeper.old) → IsSome (K.store keeper.new) }
         ensures damaged { (damage : Damage) → result ≡ LoadAnswer.Damaged damage → Told (K.store keeper.old) (λ s. IsDamageFor self.old.vault.mapping (hashes_of H.digest_of H.size) H.size s damage) }
         ensures undamaged { (damage : Damage) → result ≡ LoadAnswer.Damaged damage → (state : State) → IsIn (hashes_of H.digest_of H.size) state self.old (K.store keeper.old) → ⊥ }
         ensures cause { result ≡ LoadAnswer.KeeperFault → Rose (K.faults keeper.old) (K.faults keeper.new) }

@@ -1,5 +1,5 @@
 // An addition is given to the keeper and to the vault, or broken off.
-ghost use Rattle.std.specs.Prelude.{◌≡◌, ◌≤◌, IfNone, IfSome, IsTrue, None, false, length, option_map};
+ghost use Rattle.std.specs.Prelude.{◌≡◌, ◌≤◌, IfNone, IfSome, IsSome, IsTrue, None, false, length, option_map};
 ghost use Rattle.dv_text.specs.Told.{Told};
 ghost use Rattle.dv_records.specs.Changes.{KeeperCause};
 ghost use Rattle.dv_vault.specs.Additions.{Fits};
@@ -44,6 +44,7 @@ impl Office {
         requires within { IfSome begun (λ from. from ≤ length self.old.vault.tables) }
         requires told { Told (K.store keeper.old) (IsBegun addition.window self.old.vault.tables addition.batches begun) }
         ensures came { TookOrBroke begun addition self.old self.new (K.store keeper.old) (K.store keeper.new) result }
+        ensures stays { IsSome (K.store keeper.old) → IsSome (K.store keeper.new) }
         ensures cause { KeeperCause (K.faults keeper.old) (K.faults keeper.new) result }
     {
         let rows = addition.rows;
@@ -61,6 +62,7 @@ impl Office {
         requires agrees { AgreesUnlessStale self.old (K.store keeper.old) }
         ensures none { IfNone result ((self.old.begun ≡ None) × (self.new ≡ self.old) × (K.store keeper.new ≡ K.store keeper.old)) }
         ensures some { IfSome result (CompletesAs self.old self.new (K.store keeper.old) (K.store keeper.new)) }
+        ensures stays { IsSome (K.store keeper.old) → IsSome (K.store keeper.new) }
         ensures valid_mapping { IsTrue (is_valid self.old.vault.mapping) }
         ensures cause { IfSome result (KeeperCause (K.faults keeper.old) (K.faults keeper.new)) }
         ensures later { K.faults keeper.old ≤ K.faults keeper.new }

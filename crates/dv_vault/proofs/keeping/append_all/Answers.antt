@@ -7,6 +7,7 @@ pub loop-i-init : goal.loop-i-init
 loop-i-init g c = record {
   told = took_first (map entry_of c.args.tables.now) c.args.batches.now c.args.from (g.K.Keeper.store c.args.keeper.now) c.requires.told;
   later = omega arith;
+  stays = λ told. told;
 }
 
 pub bounds-batches-i : goal.bounds-batches-i
@@ -53,6 +54,7 @@ loop-i-preserved g c =
           (g.K.Keeper.store c.args.keeper.now) (g.K.Keeper.store c.loop-i.keeper) (g.K.Keeper.store c.append_rows.new.keeper)
           (changed_ok (with_batch c.id.result c.index-batches-i.result) (g.K.Keeper.store c.loop-i.keeper) (g.K.Keeper.store c.append_rows.new.keeper) c.append_rows.result (search rules) c.append_rows.ensures.change) c.loop-i.invariant.told;
       later = omega (arith, c.loop-i.invariant.later, c.append_rows.ensures.cause.later);
+      stays = λ told. c.append_rows.ensures.stays (c.loop-i.invariant.stays told);
     }
 
 pub returns-clause-told : goal.returns-clause-told
