@@ -1,0 +1,358 @@
+-- How a request that was answered is a turn.
+use Rattle.std.specs.Prelude.{◌≡◌, ◌⊎◌, ℕ, ◌≤◌, Bool, true, false, List, Option, Some, IsSome, length, replicate, if◌then◌else◌}
+use Rattle.std.specs.List.{list_all}
+use Rattle.std.proofs.lemmas.List.{length-replicate}
+use Rattle.std.proofs.Common.{Bor, arith, inl, inr, refl, subst, sym, ◌∙◌}
+use Rattle.dv_text.specs.Causes.{Rose}
+use Rattle.dv_text.specs.declared.rows.Key.{Key}
+use Rattle.dv_text.specs.Keys.{Hashes, hashes_of, is_missing, refs_text}
+use Rattle.dv_text.specs.Told.{Told}
+use Rattle.dv_catalog.specs.Entries.{Mapping}
+use Rattle.dv_catalog.specs.declared.rules.Rule.TheVariants.{Manifest}
+use Rattle.dv_catalog.specs.declared.windows.WindowIn.{WindowIn}
+use Rattle.dv_bridge.specs.ZeroKeys.{HasZeroKeys}
+use Rattle.dv_records.specs.declared.answers.Damage.{Damage}
+use Rattle.dv_records.specs.declared.answers.LoadAnswer.{LoadAnswer}
+use Rattle.dv_records.specs.declared.answers.LoadAnswer.TheVariants as load
+use Rattle.dv_records.specs.declared.stores.Store.{Store}
+use Rattle.dv_records.specs.States.{State}
+use Rattle.dv_start.specs.declared.faults.StartFault.{StartFault}
+use Rattle.dv_start.specs.declared.faults.StartFault.TheVariants as faults
+use Rattle.dv_window.specs.Offices.{Held, IsDamageFor, IsIn, IsLeftIn, LeavesStore, StepsTo}
+use Rattle.dv_desk.specs.declared.answers.Answer.{Answer}
+use Rattle.dv_desk.specs.declared.answers.Answer.TheVariants as answers
+use Rattle.dv_desk.specs.declared.routes.Allowed.{Allowed}
+use Rattle.dv_desk.specs.declared.routes.Asked.{Asked as Found}
+use Rattle.dv_desk.specs.declared.routes.Asked.TheVariants as found
+use Rattle.dv_desk.specs.declared.posted.Posted.{Posted}
+use Rattle.dv_desk.specs.declared.posted.Posted.TheVariants.{NotJson, Faulty, Given}
+use Rattle.dv_desk.specs.Answers.{unrefreshed}
+use Rattle.dv_desk.specs.Posted.{posted}
+use Rattle.dv_desk.specs.Reads.{AreSized, IsQuiet, IsReadCause}
+use Rattle.dv_desk.specs.Routes.{Asked, asked_as, Load, Heads, MartAt, TableOf, PitAt, NotFound, NotAllowed}
+use Rattle.dv_desk.specs.Turns.{HasWidth, IsAllowed, IsAskedFor, IsCauseOf, IsDamageIn, IsDue, IsRead, IsSound, IsThere, Leads, Moment, PostSays, ReadSays, Says, Turn, answer_of, due}
+
+-- ---- small facts
+
+-- what is left as it was is still what the office and its keeper stand for
+pub left_in : (hashes : Hashes) (state : State) (held : Held) (before after : Option Store) → after ≡ before → IsIn hashes state held before → IsLeftIn hashes state held after
+left_in hashes state held before after same is_in = record {
+  stands = is_in.stands;
+  store_stands = λ s told. is_in.store_stands s (sym same ∙ told);
+}
+
+still_told : (before after : Option Store) → after ≡ before → IsSome before → IsSome after
+still_told before after same some = subst IsSome (sym same) some
+
+rose_before : (first before now : ℕ) → first ≤ before → Rose before now → Rose first now
+rose_before first before now less rose = omega (arith, less, rose)
+
+-- keys by a digest function of one width have this width
+key_width : (digest : List ℕ → List ℕ) (width : ℕ) → ((text : List ℕ) → length (digest text) ≡ width) → (missing : Bool) (refs : List Key) → length (if missing then replicate width 0 else digest (refs_text refs)) ≡ width
+key_width digest width sized true refs = length-replicate width 0
+key_width digest width sized false refs = sized (refs_text refs)
+
+pub sized_keys : (digest : List ℕ → List ℕ) (width : ℕ) → ((text : List ℕ) → length (digest text) ≡ width) → AreSized (hashes_of digest width) width
+sized_keys digest width sized = λ refs. key_width digest width sized (list_all is_missing refs) refs
+
+-- ---- what is only read
+
+-- an answer that needs no cause has one
+pub quiet_cause : (held : Held) (store : Option Store) (before now : ℕ) (answer : Answer) → IsQuiet answer → IsReadCause held store before now answer
+quiet_cause held store before now answers.Keeper none = absurd none
+quiet_cause held store before now (answers.Damaged damage) none = absurd none
+quiet_cause held store before now (answers.NotAllowed methods) none = none
+quiet_cause held store before now answer quiet = tt
+
+-- what is asked for of a route is only read where it is no window that is to be loaded
+pub there_read : (asked : Found) → IsThere (asked_as asked) → ((body : Bor (List ℕ)) → asked ≡ found.Load body → ⊥) → IsRead (asked_as asked)
+there_read (found.Load body) is other = other body refl
+there_read found.NotFound none other = none
+there_read (found.NotAllowed methods) none other = none
+there_read asked is other = tt
+
+-- what neither has no route nor no such method is asked for of a route
+pub has_route : (asked : Found) → (asked ≡ found.NotFound → ⊥) → ((methods : Allowed) → asked ≡ found.NotAllowed methods → ⊥) → IsThere (asked_as asked)
+has_route found.NotFound nowhere other = nowhere refl
+has_route (found.NotAllowed methods) nowhere other = other methods refl
+has_route asked nowhere other = tt
+
+module _ (mapping : Mapping) (hashes : Hashes) (state : State) (before after : Option Store) (answer : Answer) (state' : State) where
+  says_read : (asked : Asked) → IsRead asked → ReadSays mapping hashes state before after asked answer state' → Says mapping hashes state before after asked answer state'
+  says_read Heads is says = says
+  says_read (MartAt word date) is says = says
+  says_read (TableOf name) is says = says
+  says_read (PitAt hub date) is says = says
+  says_read asked none says = absurd none
+
+asked_read : (asked : Asked) (answer : Answer) → IsRead asked → IsAllowed answer → IsAskedFor asked answer
+asked_read Heads answer is allowed = allowed
+asked_read (MartAt word date) answer is allowed = allowed
+asked_read (TableOf name) answer is allowed = allowed
+asked_read (PitAt hub date) answer is allowed = allowed
+asked_read asked answer none allowed = absurd none
+
+module _ (hashes : Hashes) (width : ℕ) (held : Held) (before after : Option Store) (faults_before faults : ℕ) where
+  read_allowed : (answer : Answer) → IsReadCause held before faults_before faults answer → IsAllowed answer
+  read_allowed (answers.NotAllowed methods) none = absurd none
+  read_allowed answer cause = tt
+
+  read_cause : (answer : Answer) → IsReadCause held before faults_before faults answer
+      → IsCauseOf hashes width (record { held = held; store = before; faults = faults_before }) (record { held = held; store = after; faults = faults }) answer
+  read_cause answers.Keeper rose = rose
+  read_cause (answers.Damaged damage) (id, date, is) = λ s told. inr (id, date, is s told)
+  read_cause answer cause = tt
+
+  pub read_turn : (asked : Asked) (answer : Answer) → IsRead asked → held.stale ≡ false → HasZeroKeys hashes → AreSized hashes width → after ≡ before → faults_before ≤ faults
+      → ((state : State) (s : Store) → before ≡ Some s → IsIn hashes state held (Some s) → HasZeroKeys hashes → AreSized hashes held.width → IsDue (due held.vault.mapping hashes state asked s) answer)
+      → IsReadCause held before faults_before faults answer
+      → Turn hashes width asked answer (record { held = held; store = before; faults = faults_before }) (record { held = held; store = after; faults = faults })
+  read_turn asked answer is fresh zero sized same later says cause = record {
+    leads = λ state is_in wide. record {
+      state' = state;
+      says = says_read held.vault.mapping hashes state before after answer state asked is (
+        (λ s told. says state s told (subst (IsIn hashes state held) told is_in) zero (λ refs. sized refs ∙ sym (wide fresh))),
+        (refl, same),
+      );
+      left = left_in hashes state held before after same is_in;
+    };
+    cause = read_cause answer cause;
+    asked_for = asked_read asked answer is (read_allowed answer cause);
+    same_mapping = refl;
+    wide = λ w. w;
+    told = still_told before after same;
+    later = later;
+  }
+
+-- ---- the want of memory, and a keeper that failed
+
+-- an answer that may come of any request
+abbrev pub IsBroken : Answer → Type 0
+IsBroken answer = (answer ≡ answers.Keeper) ⊎ (answer ≡ answers.Memory)
+
+module _ (mapping : Mapping) (hashes : Hashes) (state : State) (store : Option Store) (answer : Answer) (broken : IsBroken answer) where
+  came_broken : IsBroken answer → LoadAnswer
+  came_broken (inl keeper) = load.KeeperFault
+  came_broken (inr memory) = load.Memory
+
+  post_broken : (found : Posted) → PostSays mapping hashes state store store found answer state
+  post_broken NotJson = (inr broken, (refl, refl))
+  post_broken (Faulty place) = (inr broken, (refl, refl))
+  post_broken (Given given) = by broken
+    where
+      by : IsBroken answer → PostSays mapping hashes state store store (Given given) answer state
+      by (inl keeper) = record { came = load.KeeperFault; answer_is = keeper; sound = tt; step = inl refl; store = tt }
+      by (inr memory) = record { came = load.Memory; answer_is = memory; sound = tt; step = inl refl; store = tt }
+
+  read_broken : (asked : Asked) → ReadSays mapping hashes state store store asked answer state
+  read_broken asked = ((λ s told. inr broken), (refl, refl))
+
+  pub says_broken : (asked : Asked) → IsThere asked → Says mapping hashes state store store asked answer state
+  says_broken (Load body) is = post_broken (posted body)
+  says_broken Heads is = read_broken Heads
+  says_broken (MartAt word date) is = read_broken (MartAt word date)
+  says_broken (TableOf name) is = read_broken (TableOf name)
+  says_broken (PitAt hub date) is = read_broken (PitAt hub date)
+  says_broken asked none = absurd none
+
+-- ---- a turn that leaves all as it was
+
+asked_there : (asked : Asked) (answer : Answer) → IsThere asked → IsAllowed answer → IsAskedFor asked answer
+asked_there (Load body) answer is allowed = allowed
+asked_there Heads answer is allowed = allowed
+asked_there (MartAt word date) answer is allowed = allowed
+asked_there (TableOf name) answer is allowed = allowed
+asked_there (PitAt hub date) answer is allowed = allowed
+asked_there asked answer none allowed = absurd none
+
+-- the answer says what it says in each state, and nothing has changed but the keeper's count
+pub still_turn : (hashes : Hashes) (width : ℕ) (asked : Asked) (answer : Answer) (held : Held) (before after : Option Store) (count now : ℕ) → after ≡ before → count ≤ now
+    → ((state : State) → IsIn hashes state held before → Says held.vault.mapping hashes state before before asked answer state)
+    → IsCauseOf hashes width (record { held = held; store = before; faults = count }) (record { held = held; store = after; faults = now }) answer
+    → IsAskedFor asked answer
+    → Turn hashes width asked answer (record { held = held; store = before; faults = count }) (record { held = held; store = after; faults = now })
+still_turn hashes width asked answer held before after count now same later says cause asked_for = record {
+  leads = λ state is_in wide. record {
+    state' = state;
+    says = subst (λ store. Says held.vault.mapping hashes state before store asked answer state) (sym same) (says state is_in);
+    left = left_in hashes state held before after same is_in;
+  };
+  cause = cause;
+  asked_for = asked_for;
+  same_mapping = refl;
+  wide = λ w. w;
+  told = still_told before after same;
+  later = later;
+}
+
+-- where memory ran out all is left as it was
+pub memory_turn : (hashes : Hashes) (width : ℕ) (asked : Asked) (held : Held) (before after : Option Store) (count now : ℕ) → IsThere asked → after ≡ before → count ≤ now
+    → Turn hashes width asked answers.Memory (record { held = held; store = before; faults = count }) (record { held = held; store = after; faults = now })
+memory_turn hashes width asked held before after count now is same later = still_turn hashes width asked answers.Memory held before after count now same later
+    (λ state is_in. says_broken held.vault.mapping hashes state before answers.Memory (inr refl) asked is) tt (asked_there asked answers.Memory is tt)
+
+-- ---- an office that could not be refreshed
+
+module _ (hashes : Hashes) (width : ℕ) (held : Held) (before after : Option Store) (count now : ℕ) (fault : StartFault) where
+  abbrev was : Moment
+  was = record { held = held; store = before; faults = count }
+
+  abbrev is_now : Moment
+  is_now = record { held = held; store = after; faults = now }
+
+  unrefreshed_cause : (f : StartFault) → (f ≡ faults.NoMapping → ⊥) → (f ≡ faults.KeeperFault → Rose count now)
+      → ((damage : Damage) → f ≡ faults.Damaged damage → Told before (λ s. IsDamageFor held.vault.mapping hashes width s damage)) → IsCauseOf hashes width was is_now (unrefreshed f)
+  unrefreshed_cause faults.NoMapping mapped rose damaged = absurd (mapped refl)
+  unrefreshed_cause (faults.Damaged damage) mapped rose damaged = λ s told. inl (damaged damage refl s told)
+  unrefreshed_cause faults.KeeperFault mapped rose damaged = rose refl
+  unrefreshed_cause faults.Memory mapped rose damaged = tt
+
+  unrefreshed_allowed : (f : StartFault) → IsAllowed (unrefreshed f)
+  unrefreshed_allowed faults.NoMapping = tt
+  unrefreshed_allowed (faults.Damaged damage) = tt
+  unrefreshed_allowed faults.KeeperFault = tt
+  unrefreshed_allowed faults.Memory = tt
+
+  unrefreshed_says : (state : State) (f : StartFault) → ((damage : Damage) → f ≡ faults.Damaged damage → ⊥) → (asked : Asked) → IsThere asked → Says held.vault.mapping hashes state before before asked (unrefreshed f) state
+  unrefreshed_says state faults.NoMapping sound asked is = says_broken held.vault.mapping hashes state before answers.Keeper (inl refl) asked is
+  unrefreshed_says state (faults.Damaged damage) sound asked is = absurd (sound damage refl)
+  unrefreshed_says state faults.KeeperFault sound asked is = says_broken held.vault.mapping hashes state before answers.Keeper (inl refl) asked is
+  unrefreshed_says state faults.Memory sound asked is = says_broken held.vault.mapping hashes state before answers.Memory (inr refl) asked is
+
+  pub unrefreshed_turn : (asked : Asked) → IsThere asked → after ≡ before → count ≤ now
+      → (fault ≡ faults.NoMapping → ⊥) → (fault ≡ faults.KeeperFault → Rose count now)
+      → ((damage : Damage) → fault ≡ faults.Damaged damage → Told before (λ s. IsDamageFor held.vault.mapping hashes width s damage))
+      → ((damage : Damage) → fault ≡ faults.Damaged damage → (state : State) → IsIn hashes state held before → ⊥)
+      → Turn hashes width asked (unrefreshed fault) was is_now
+  unrefreshed_turn asked is same later mapped rose damaged undamaged = still_turn hashes width asked (unrefreshed fault) held before after count now same later
+      (λ state is_in. unrefreshed_says state fault (λ damage broken. undamaged damage broken state is_in) asked is)
+      (unrefreshed_cause fault mapped rose damaged) (asked_there asked (unrefreshed fault) is (unrefreshed_allowed fault))
+
+-- ---- a window that was given to the office
+
+sound_of : (came : LoadAnswer) → ((damage : Damage) → came ≡ load.Damaged damage → ⊥) → IsSound came
+sound_of (load.Damaged damage) none = absurd (none damage refl)
+sound_of came none = tt
+
+loaded_allowed : (came : LoadAnswer) → IsAllowed (answer_of came)
+loaded_allowed (load.Loaded rows) = tt
+loaded_allowed load.Repeated = tt
+loaded_allowed (load.Refused rule) = tt
+loaded_allowed (load.Damaged damage) = tt
+loaded_allowed load.KeeperFault = tt
+loaded_allowed load.Memory = tt
+
+module _ (hashes : Hashes) (width : ℕ) (before after : Moment) (came : LoadAnswer) where
+  loaded_cause : (c : LoadAnswer) → (c ≡ load.KeeperFault → Rose before.faults after.faults)
+      → ((damage : Damage) → c ≡ load.Damaged damage → Told before.store (λ s. IsDamageFor before.held.vault.mapping hashes width s damage)) → IsCauseOf hashes width before after (answer_of c)
+  loaded_cause load.KeeperFault rose damaged = rose refl
+  loaded_cause (load.Damaged damage) rose damaged = λ s told. inl (damaged damage refl s told)
+  loaded_cause (load.Loaded rows) rose damaged = tt
+  loaded_cause load.Repeated rose damaged = tt
+  loaded_cause (load.Refused rule) rose damaged = tt
+  loaded_cause load.Memory rose damaged = tt
+
+  pub load_turn : (body : List ℕ) (given : WindowIn) → posted body ≡ Given given → before.held.stale ≡ false
+      → ((state : State) → IsIn hashes state before.held before.store → StepsTo before.held.vault.mapping hashes state given came after.held after.store)
+      → LeavesStore came before.store after.store
+      → ((damage : Damage) → came ≡ load.Damaged damage → Told before.store (λ s. IsDamageFor before.held.vault.mapping hashes width s damage))
+      → ((damage : Damage) → came ≡ load.Damaged damage → (state : State) → IsIn hashes state before.held before.store → ⊥)
+      → (came ≡ load.KeeperFault → Rose before.faults after.faults)
+      → after.held.vault.mapping ≡ before.held.vault.mapping
+      → after.held.width ≡ before.held.width
+      → (IsSome before.store → IsSome after.store)
+      → before.faults ≤ after.faults
+      → Turn hashes width (Load body) (answer_of came) before after
+  load_turn body given is fresh step leaves damaged undamaged rose mapped width_is told later = record {
+    leads = λ state is_in wide. by state is_in (step state is_in);
+    cause = loaded_cause came rose damaged;
+    asked_for = loaded_allowed came;
+    same_mapping = mapped;
+    wide = λ w fresh_then. width_is ∙ w fresh;
+    told = told;
+    later = later;
+  }
+    where
+      by : (state : State) → IsIn hashes state before.held before.store → StepsTo before.held.vault.mapping hashes state given came after.held after.store
+          → Leads hashes state before after (Load body) (answer_of came)
+      by state is_in (state', steps, left) = record {
+        state' = state';
+        says = subst (λ found. PostSays before.held.vault.mapping hashes state before.store after.store found (answer_of came) state') (sym is)
+            (record { came = came; answer_is = refl; sound = sound_of came (λ damage broken. undamaged damage broken state is_in); step = steps; store = leaves });
+        left = left;
+      }
+
+-- a body that is no window
+pub faulty_says : (mapping : Mapping) (hashes : Hashes) (state : State) (store : Option Store) (body place : List ℕ) → posted body ≡ Faulty place
+    → Says mapping hashes state store store (Load body) (answers.Broken (Manifest place)) state
+faulty_says mapping hashes state store body place is =
+    subst (λ found. PostSays mapping hashes state store store found (answers.Broken (Manifest place)) state) (sym is) (inl refl, (refl, refl))
+
+pub not_json_says : (mapping : Mapping) (hashes : Hashes) (state : State) (store : Option Store) (body : List ℕ) → posted body ≡ NotJson
+    → Says mapping hashes state store store (Load body) answers.BadRequest state
+not_json_says mapping hashes state store body is =
+    subst (λ found. PostSays mapping hashes state store store found answers.BadRequest state) (sym is) (inl refl, (refl, refl))
+
+-- ---- a turn behind a refresh
+
+module _ (hashes : Hashes) (width : ℕ) (asked : Asked) (answer : Answer) (before mid after : Moment) where
+  mid_wide : (stale : Bool) → before.held.stale ≡ stale → (before.held.stale ≡ false → mid.held.width ≡ before.held.width) → (before.held.stale ≡ true → mid.held.stale ≡ false → mid.held.width ≡ width)
+      → HasWidth width before → HasWidth width mid
+  mid_wide false is same anew wide = λ fresh. same is ∙ wide is
+  mid_wide true is same anew wide = λ fresh. anew is fresh
+
+  cause_behind : (a : Answer) → mid.held.vault.mapping ≡ before.held.vault.mapping → mid.store ≡ before.store → before.faults ≤ mid.faults → IsCauseOf hashes width mid after a → IsCauseOf hashes width before after a
+  cause_behind answers.Keeper mapped same later rose = rose_before before.faults mid.faults after.faults later rose
+  cause_behind (answers.Damaged damage) mapped same later is = λ s told. by s (is s (same ∙ told))
+    where
+      by : (s : Store) → IsDamageIn hashes width mid after s damage → IsDamageIn hashes width before after s damage
+      by s (inl read) = inl (subst (λ m. IsDamageFor m hashes width s damage) mapped read)
+      by s (inr stored) = inr stored
+  cause_behind a mapped same later cause = tt
+
+  pub turn_behind : ((state : State) → IsIn hashes state before.held before.store → IsIn hashes state mid.held mid.store)
+      → mid.held.vault.mapping ≡ before.held.vault.mapping
+      → (before.held.stale ≡ false → mid.held.width ≡ before.held.width) → (before.held.stale ≡ true → mid.held.stale ≡ false → mid.held.width ≡ width)
+      → mid.store ≡ before.store → before.faults ≤ mid.faults
+      → Turn hashes width asked answer mid after → Turn hashes width asked answer before after
+  turn_behind stands mapped same_width anew same later turn = record {
+    leads = λ state is_in wide. by state (turn.leads state (stands state is_in) (mid_wide before.held.stale refl same_width anew wide));
+    cause = cause_behind answer mapped same later turn.cause;
+    asked_for = turn.asked_for;
+    same_mapping = turn.same_mapping ∙ mapped;
+    wide = λ w. turn.wide (mid_wide before.held.stale refl same_width anew w);
+    told = λ told. turn.told (still_told before.store mid.store same told);
+    later = omega (arith, later, turn.later);
+  }
+    where
+      by : (state : State) → Leads hashes state mid after asked answer → Leads hashes state before after asked answer
+      by state led = record {
+        state' = led.state';
+        says = subst (λ m. Says m hashes state before.store after.store asked answer led.state') mapped
+            (subst (λ store. Says mid.held.vault.mapping hashes state store after.store asked answer led.state') same led.says);
+        left = led.left;
+      }
+
+-- ---- what needs no office
+
+pub nowhere_turn : (hashes : Hashes) (width : ℕ) (moment : Moment) → Turn hashes width NotFound answers.NotFound moment moment
+nowhere_turn hashes width moment = record {
+  leads = λ state is_in wide. record { state' = state; says = ((λ s told. inl refl), (refl, refl)); left = left_in hashes state moment.held moment.store moment.store refl is_in };
+  cause = tt;
+  asked_for = refl;
+  same_mapping = refl;
+  wide = λ w. w;
+  told = λ told. told;
+  later = omega arith;
+}
+
+pub not_allowed_turn : (hashes : Hashes) (width : ℕ) (methods : Allowed) (moment : Moment) → Turn hashes width (NotAllowed methods) (answers.NotAllowed methods) moment moment
+not_allowed_turn hashes width methods moment = record {
+  leads = λ state is_in wide. record { state' = state; says = ((λ s told. inl refl), (refl, refl)); left = left_in hashes state moment.held moment.store moment.store refl is_in };
+  cause = tt;
+  asked_for = refl;
+  same_mapping = refl;
+  wide = λ w. w;
+  told = λ told. told;
+  later = omega arith;
+}

@@ -1,0 +1,39 @@
+use Rattle.std.proofs.Common.{inl}
+use Rattle.dv_desk.specs.Reads.{IsQuiet, IsReadCause}
+use Rattle.dv_desk.proofs.Read.{so_answered}
+use Rattle.dv_desk.proofs.Turned.{quiet_cause}
+use Rattle.dv_desk.proofs.turns.read.Goals as goal
+
+pub returns-in-Heads-clause-due : goal.returns-in-Heads-clause-due
+returns-in-Heads-clause-due g c = rw c.in-Heads.is (
+    so_answered _ _ (λ answer due hashes state s told is_in zero sized. inl (due s (c.requires.agrees c.requires.fresh s told))) c.heads.result c.heads.ensures.due)
+
+pub returns-in-Heads-clause-cause : goal.returns-in-Heads-clause-cause
+returns-in-Heads-clause-cause g c =
+    let store = g.K.Keeper.store c.args.keeper.now in
+    let count = g.K.Keeper.faults c.args.keeper.now in
+    so_answered IsQuiet (IsReadCause c.args.office.now store count count) (quiet_cause c.args.office.now store count count) c.heads.result c.heads.ensures.quiet
+
+pub returns-in-MartAt-clause-due : goal.returns-in-MartAt-clause-due
+returns-in-MartAt-clause-due g c = rw c.in-MartAt.is (
+    so_answered _ _ (λ answer due hashes state s told is_in zero sized. inl (due hashes state zero (is_in.stands c.requires.fresh))) c.mart.result c.mart.ensures.due)
+
+pub returns-in-MartAt-clause-cause : goal.returns-in-MartAt-clause-cause
+returns-in-MartAt-clause-cause g c =
+    let store = g.K.Keeper.store c.args.keeper.now in
+    let count = g.K.Keeper.faults c.args.keeper.now in
+    so_answered IsQuiet (IsReadCause c.args.office.now store count count) (quiet_cause c.args.office.now store count count) c.mart.result c.mart.ensures.quiet
+
+pub returns-in-TableOf-clause-due : goal.returns-in-TableOf-clause-due
+returns-in-TableOf-clause-due g c = rw c.in-TableOf.is (
+    so_answered _ _ (λ answer due hashes state s told is_in zero sized. inl (due s (c.requires.agrees c.requires.fresh s told))) c.table.result c.table.ensures.due)
+
+pub returns-in-TableOf-clause-cause : goal.returns-in-TableOf-clause-cause
+returns-in-TableOf-clause-cause g c =
+    let store = g.K.Keeper.store c.args.keeper.now in
+    let count = g.K.Keeper.faults c.args.keeper.now in
+    so_answered IsQuiet (IsReadCause c.args.office.now store count count) (quiet_cause c.args.office.now store count count) c.table.result c.table.ensures.quiet
+
+pub returns-in-PitAt-clause-due : goal.returns-in-PitAt-clause-due
+returns-in-PitAt-clause-due g c = rw c.in-PitAt.is (
+    so_answered _ _ (λ answer due hashes state s told is_in zero sized. due hashes state s told is_in sized) c.pit.result c.pit.ensures.due)

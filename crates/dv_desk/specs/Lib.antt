@@ -1,0 +1,14 @@
+pub mod Answers
+pub mod Bodies
+pub mod Doors
+pub mod Lines
+pub mod Meets
+pub mod Posted
+pub mod Queries
+pub mod Reads
+pub mod Routes
+pub mod ServeWords
+pub mod Serving
+pub mod Steps
+pub mod Turns
+pub mod Writing

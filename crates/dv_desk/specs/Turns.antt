@@ -1,0 +1,185 @@
+-- A request and its answer: what it does to the warehouse, and why it is given.
+use Rattle.std.specs.Prelude.{◌≡◌, ◌⊎◌, ℕ, ◌≤◌, false, List, [], ◌∷◌, Option, Some, IsSome}
+use Rattle.dv_text.specs.Causes.{Rose}
+use Rattle.dv_text.specs.Keys.{Hashes}
+use Rattle.dv_text.specs.Told.{Told}
+use Rattle.dv_catalog.specs.Entries.{Mapping}
+use Rattle.dv_catalog.specs.declared.rules.Rule.TheVariants.{Manifest}
+use Rattle.dv_catalog.specs.declared.windows.WindowIn.{WindowIn}
+use Rattle.dv_http.specs.declared.requests.Request.{Request}
+use Rattle.dv_records.specs.declared.answers.Damage.{Damage}
+use Rattle.dv_records.specs.declared.answers.LoadAnswer.{LoadAnswer}
+use Rattle.dv_records.specs.declared.answers.LoadAnswer.TheVariants as load
+use Rattle.dv_records.specs.declared.snapshots.SnapId.{SnapId}
+use Rattle.dv_records.specs.declared.stores.Store.{Store}
+use Rattle.dv_records.specs.Standing.{Stands}
+use Rattle.dv_records.specs.States.{State}
+use Rattle.dv_records.specs.Steps.{LoadStep}
+use Rattle.dv_snapshots.specs.StoredTexts.{IsStoredDamage}
+use Rattle.dv_window.specs.Offices.{Held, IsDamageFor, IsIn, IsLeftIn, LeavesStore}
+use Rattle.dv_desk.specs.declared.answers.Answer.{Answer}
+use Rattle.dv_desk.specs.declared.answers.Answer.TheVariants as answers
+use Rattle.dv_desk.specs.declared.posted.Posted.{Posted}
+use Rattle.dv_desk.specs.declared.posted.Posted.TheVariants.{NotJson, Faulty, Given}
+use Rattle.dv_desk.specs.Posted.{posted}
+use Rattle.dv_desk.specs.Queries.{heads_answer, mart_answer, pit_answer, table_answer}
+use Rattle.dv_desk.specs.Routes.{Asked, Load, Heads, MartAt, TableOf, PitAt, NotFound, NotAllowed, asked}
+
+-- what stands between two requests: what the office holds, the keeper's store where it is told, and the keeper's count of
+-- faults
+pub record Moment : Type 0 where
+  pub held : Held
+  pub store : Option Store
+  pub faults : ℕ
+
+-- ---- what a request does, in a state
+
+-- the answer to a window that was given to the office
+abbrev pub answer_of : LoadAnswer → Answer
+answer_of (load.Loaded rows) = answers.Loaded rows
+answer_of load.Repeated = answers.Repeated
+answer_of (load.Refused rule) = answers.Broken rule
+answer_of (load.Damaged damage) = answers.Damaged damage
+answer_of load.KeeperFault = answers.Keeper
+answer_of load.Memory = answers.Memory
+
+-- no damage is named of a store that stands for a state
+abbrev pub IsSound : LoadAnswer → Type 0
+IsSound (load.Damaged damage) = ⊥
+IsSound answer = Unit {0}
+
+-- a window is given to the office: a step of the machine
+pub record Loads (mapping : Mapping) (hashes : Hashes) (given : WindowIn) (state : State) (before after : Option Store) (answer : Answer) (state' : State) : Type 0 where
+  pub came : LoadAnswer
+  pub answer_is : answer ≡ answer_of came
+  pub sound : IsSound came
+  pub step : LoadStep mapping hashes state given came state'
+  pub store : LeavesStore came before after
+
+-- the state and the store are as they were
+abbrev pub Stays : State → Option Store → Option Store → State → Type 0
+Stays state before after state' = (state' ≡ state) × (after ≡ before)
+
+-- this is the answer, or the keeper failed or memory ran out
+abbrev pub IsDue : Answer → Answer → Type 0
+IsDue due answer = (answer ≡ due) ⊎ ((answer ≡ answers.Keeper) ⊎ (answer ≡ answers.Memory))
+
+-- the window of a body is to be loaded; a body that is no window leaves all as it was
+abbrev pub PostSays : Mapping → Hashes → State → Option Store → Option Store → Posted → Answer → State → Type 0
+PostSays mapping hashes state before after NotJson answer state' = IsDue answers.BadRequest answer × Stays state before after state'
+PostSays mapping hashes state before after (Faulty place) answer state' =
+    IsDue (answers.Broken (Manifest place)) answer × Stays state before after state'
+PostSays mapping hashes state before after (Given given) answer state' = Loads mapping hashes given state before after answer state'
+
+-- what is due to a request that is only read; a window that is to be loaded is none
+abbrev pub due : Mapping → Hashes → State → Asked → Store → Answer
+due mapping hashes state (Load body) store = answers.BadRequest
+due mapping hashes state Heads store = heads_answer mapping store
+due mapping hashes state (MartAt word date) store = mart_answer mapping hashes state word date
+due mapping hashes state (TableOf name) store = table_answer mapping store name
+due mapping hashes state (PitAt hub date) store = pit_answer mapping hashes state hub date
+due mapping hashes state NotFound store = answers.NotFound
+due mapping hashes state (NotAllowed methods) store = answers.NotAllowed methods
+
+-- it is only read
+abbrev pub IsRead : Asked → Type 0
+IsRead (Load body) = ⊥
+IsRead NotFound = ⊥
+IsRead (NotAllowed methods) = ⊥
+IsRead asked = Unit {0}
+
+-- there is such a route, and it has the method
+abbrev pub IsThere : Asked → Type 0
+IsThere NotFound = ⊥
+IsThere (NotAllowed methods) = ⊥
+IsThere asked = Unit {0}
+
+-- what is read leaves all as it was
+abbrev pub ReadSays : Mapping → Hashes → State → Option Store → Option Store → Asked → Answer → State → Type 0
+ReadSays mapping hashes state before after asked answer state' =
+    Told before (λ store. IsDue (due mapping hashes state asked store) answer) × Stays state before after state'
+
+abbrev pub Says : Mapping → Hashes → State → Option Store → Option Store → Asked → Answer → State → Type 0
+Says mapping hashes state before after (Load body) answer state' = PostSays mapping hashes state before after (posted body) answer state'
+Says mapping hashes state before after asked answer state' = ReadSays mapping hashes state before after asked answer state'
+
+-- ---- why an answer is given, whatever the keeper tells
+
+-- a row of the store breaks a rule of form: one that a stale office reads again, or one of a stored snapshot
+abbrev pub IsDamageIn : Hashes → ℕ → Moment → Moment → Store → Damage → Type 0
+IsDamageIn hashes width before after store damage =
+    IsDamageFor before.held.vault.mapping hashes width store damage
+    ⊎ ((id : SnapId) × (date : ℕ) × IsStoredDamage after.held id date store.snapshots damage)
+
+abbrev pub IsCauseOf : Hashes → ℕ → Moment → Moment → Answer → Type 0
+IsCauseOf hashes width before after answers.Keeper = Rose before.faults after.faults
+IsCauseOf hashes width before after (answers.Damaged damage) =
+    Told before.store (λ store. IsDamageIn hashes width before after store damage)
+IsCauseOf hashes width before after answer = Unit {0}
+
+-- it isn't that the route has no such method
+abbrev pub IsAllowed : Answer → Type 0
+IsAllowed (answers.NotAllowed methods) = ⊥
+IsAllowed answer = Unit {0}
+
+-- what is no route, or has not this method, is answered so, and nothing else is answered that it has not its method
+abbrev pub IsAskedFor : Asked → Answer → Type 0
+IsAskedFor NotFound answer = answer ≡ answers.NotFound
+IsAskedFor (NotAllowed methods) answer = answer ≡ answers.NotAllowed methods
+IsAskedFor asked answer = IsAllowed answer
+
+-- ---- a turn
+
+-- an office that isn't stale was read by hash keys of this width
+abbrev pub HasWidth : ℕ → Moment → Type 0
+HasWidth width moment = moment.held.stale ≡ false → moment.held.width ≡ width
+
+-- an answer in a state, and the state that is left
+pub record Leads (hashes : Hashes) (state : State) (before after : Moment) (asked : Asked) (answer : Answer) : Type 0 where
+  pub state' : State
+  pub says : Says before.held.vault.mapping hashes state before.store after.store asked answer state'
+  pub left : IsLeftIn hashes state' after.held after.store
+
+-- what is asked for is answered: what that does in each state that the office and its keeper stand for, and why
+pub record Turn (hashes : Hashes) (width : ℕ) (asked : Asked) (answer : Answer) (before after : Moment) : Type 0 where
+  pub leads : (state : State) → IsIn hashes state before.held before.store → HasWidth width before → Leads hashes state before after asked answer
+  pub cause : IsCauseOf hashes width before after answer
+  pub asked_for : IsAskedFor asked answer
+  pub same_mapping : after.held.vault.mapping ≡ before.held.vault.mapping
+  pub wide : HasWidth width before → HasWidth width after
+  pub told : IsSome before.store → IsSome after.store
+  pub later : before.faults ≤ after.faults
+
+-- a request and what it is answered with
+pub record Exchange : Type 0 where
+  pub request : Request
+  pub answer : Answer
+
+-- requests are answered one after another
+abbrev pub Talks : Hashes → ℕ → List Exchange → Moment → Moment → Type 0
+Talks hashes width [] before after = after ≡ before
+Talks hashes width (exchange ∷ exchanges) before after =
+    (next : Moment) × Turn hashes width (asked exchange.request) exchange.answer before next × Talks hashes width exchanges next after
+
+-- ---- the talk, in states
+
+-- a moment's store is told, and stands for a state by a mapping
+pub record StandsAs (mapping : Mapping) (hashes : Hashes) (state : State) (moment : Moment) : Type 0 where
+  pub store : Store
+  pub told_is : moment.store ≡ Some store
+  pub stands : Stands mapping hashes state store
+
+-- there is a state before each request and one at the end, each with a store that stands for it; each request is answered
+-- in its state, and leads to the next one
+abbrev pub TalksIn : Mapping → Hashes → List Exchange → State → Moment → State → Moment → Type 0
+TalksIn mapping hashes [] state before state' after = (after ≡ before) × (state' ≡ state) × StandsAs mapping hashes state before
+TalksIn mapping hashes (exchange ∷ exchanges) state before state' after =
+    (next : Moment) × (state1 : State) × StandsAs mapping hashes state before
+    × Says mapping hashes state before.store next.store (asked exchange.request) exchange.answer state1
+    × TalksIn mapping hashes exchanges state1 next state' after
+
+-- the talk ends in a state that the office and its keeper stand for
+pub record Talked (mapping : Mapping) (hashes : Hashes) (exchanges : List Exchange) (state : State) (before after : Moment) : Type 0 where
+  pub state' : State
+  pub talk : TalksIn mapping hashes exchanges state before state' after
+  pub left : IsIn hashes state' after.held after.store
