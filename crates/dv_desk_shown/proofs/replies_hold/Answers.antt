@@ -1,0 +1,15 @@
+use Rattle.std.proofs.Common.{refl}
+use Rattle.std.specs.Fmt.{digits}
+use Rattle.serde_json.proofs.OnLiterals.{serde_json_on_literals}
+use Rattle.dv_desk_shown.proofs.replies_hold.Goals as goal
+
+pub returns : goal.returns
+unfolding digits serde_json_on_literals
+returns c = record {
+  loaded = refl;
+  method = refl;
+  conflict = refl;
+  long = refl;
+  other = refl;
+  query = refl;
+}

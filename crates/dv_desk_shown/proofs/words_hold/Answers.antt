@@ -1,0 +1,15 @@
+use Rattle.std.proofs.Common.{refl}
+use Rattle.dv_desk_shown.proofs.words_hold.Goals as goal
+
+pub returns : goal.returns
+returns c = record {
+  port = refl;
+  most = refl;
+  past = refl;
+  zero = refl;
+  leading = refl;
+  sign = refl;
+  nothing = refl;
+  two = refl;
+  none = refl;
+}
