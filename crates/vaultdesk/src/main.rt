@@ -1,9 +1,10 @@
-// The program: it makes the real folder and streams and the keeper over `vault.db`, runs the command of its words,
-// and ends with the command's status.
+// The program: it makes the real folder, streams and doors and the keeper over `vault.db`, does what its words ask for,
+// and ends with the status of that.
 #![tactic(auto)]
 
-use dv_app::{Md5Keys, run};
-use dv_outside::{OpenGate, RealErr, RealFolder, RealOut, Status};
+use dv_app::Md5Keys;
+use dv_outside::{OpenGate, RealDoors, RealErr, RealFolder, RealOut, Status};
+use dv_program::program;
 use dv_sqlite::SqliteKeeper;
 use dv_text::Text;
 use std::env;
@@ -31,10 +32,12 @@ fn main(rt: HostRuntime) -> ExitCode {
     let mut out = RealOut::new(rt.stdout());
     let mut err = RealErr::new(rt.stderr());
     let mut folder = RealFolder::new(rt);
-    let status = run(
+    let mut doors = RealDoors::new(rt);
+    let status = program(
         alloc,
         &words,
         &mut folder,
+        &mut doors,
         &mut keeper,
         &mut out,
         &mut err,
