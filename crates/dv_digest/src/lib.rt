@@ -16,6 +16,3 @@ pub use hex_texts::hex_text;
 pub use md5_keys::Md5Keys;
 pub use rooms::{ROOM_SIZE, Room};
 pub use tiny_keys::TinyKeys;
-
-#[cfg(test)]
-mod tests;

@@ -14,6 +14,3 @@ mod walks;
 pub use indexed_rows::IndexedRows;
 pub use placed::Placed;
 pub use successions::Succession;
-
-#[cfg(test)]
-mod tests;

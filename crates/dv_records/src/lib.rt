@@ -36,6 +36,3 @@ pub use sorting::{Ranked, sorted_firsts};
 pub use stores::{Rows, Store, TableRows};
 pub use turns::Fail;
 pub use weights::{Weighed, weight};
-
-#[cfg(test)]
-mod tests;

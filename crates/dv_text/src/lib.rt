@@ -23,8 +23,3 @@ pub use prefixes::{Prefixed, sorted_by_prefix};
 pub use rows::{Key, NRow, Staged, Window, WindowHead, are_missing};
 pub use stamps::Stamp;
 pub use texts::Text;
-
-#[cfg(test)]
-mod prefix_tests;
-#[cfg(test)]
-mod tests;

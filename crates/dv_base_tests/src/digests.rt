@@ -1,4 +1,5 @@
-use super::*;
+// Hash keys, hash differences, and digests as text.
+use dv_digest::{Md5Keys, Room, TinyKeys, attrs_fit, hash_diff, hash_key, hex_text, refs_fit};
 use dv_text::{Digest, Key, KeyDigest, List, Memory, Text};
 use std::alloc::Global;
 use std::process::Abort;

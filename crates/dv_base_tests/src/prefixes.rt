@@ -1,5 +1,5 @@
 // Values in order by their first sixteen bytes.
-use super::*;
+use dv_text::{Digest, Key, List, Memory, NRow, Prefixed, Text, sorted_by_prefix};
 use std::test::Fail;
 
 fn row_of(rt: &impl AllocGlobal, key: &[u8], attr: &[u8]) -> Result<NRow, Memory> {

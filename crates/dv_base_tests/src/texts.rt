@@ -1,4 +1,8 @@
-use super::*;
+// Texts, lists, rows, load dates and digests.
+use dv_text::{
+    Digest, Duplicate, Key, List, Memory, NRow, Staged, Stamp, Text, Window, WindowHead, field,
+    joined, key_part, sorted_rows,
+};
 use std::test::Fail;
 
 fn text(rt: &impl AllocGlobal, bytes: &[u8]) -> Result<Text, Memory> {

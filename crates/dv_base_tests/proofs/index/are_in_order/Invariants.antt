@@ -1,5 +1,5 @@
 use Rattle.dv_index.proofs.Vocabulary.{◌≡◌, length, are_in_load_order}
-use Rattle.dv_index.proofs.tests.are_in_order.Given as goal
+use Rattle.dv_base_tests.proofs.index.are_in_order.Given as goal
 
 -- the rows before are in order with all behind them
 abbrev pub invariant-loop-row : goal.invariant-loop-row

@@ -1,4 +1,4 @@
-use crate::HubNames;
+use dv_records::HubNames;
 use dv_text::{Digest, Key, List, Text};
 use std::process::Abort;
 use std::test::Fail;

@@ -2,10 +2,8 @@ ghost use Rattle.std.specs.Prelude.{IfOk, IsTrue};
 ghost use Rattle.dv_records.specs.Stores.{is_of_kind};
 ghost use Rattle.dv_catalog.specs.declared.tables.TableId.TheVariants.{Hub};
 
-mod hub_names;
-
-use super::*;
 use dv_catalog::TableId;
+use dv_records::{Fail, HubRow, Keeper, KeeperError, MemoryKeeper, Rows, Store};
 use dv_text::{Digest, Duplicate, Key, List, Memory, Stamp, Text, Window, WindowHead};
 use std::alloc::Global;
 use std::test::Fail as Failure;

@@ -2,7 +2,7 @@ ghost use Rattle.std.specs.Prelude.{◌≡◌, is_none, nat_le};
 ghost use Rattle.std.specs.List.{list_all};
 ghost use Rattle.dv_index.specs.Places.{are_in_load_order};
 
-use super::*;
+use dv_index::{IndexedRows, Placed, Succession};
 use dv_text::{Digest, List, Memory, Stamp};
 use std::alloc::Global;
 use std::test::Fail;
