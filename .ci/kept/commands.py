@@ -281,7 +281,8 @@ USAGE_WORDS = (
     "table", "table hub_customer hub_product", "try", "try feed:customers 2024-03-01T02:00:00",
     "snapshot", "snapshot customer 2024-03-01T02:00:00", "snapshot -- -1 2", "pit customer",
     "pit customer 2024-03-01T02:00:00 w1.toml", "bridge", "bridge sold", "bridge sold 2024-03-01T02:00:00 w1.toml",
-    "bridge -sold 2024-03-01T02:00:00", "exercise 4", "serve 8080",
+    "bridge -sold 2024-03-01T02:00:00", "exercise 4", "serve", "serve 0", "serve 08080", "serve 65536", "serve 8080 4",
+    "serve --workers 4 8080",
 )
 
 
