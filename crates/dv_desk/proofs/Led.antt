@@ -1,8 +1,7 @@
 -- Serving leads from states to states.
-use Rattle.std.specs.Prelude.{◌≡◌, ℕ, false, List, [], ◌∷◌, Option, Some, IsSome}
-use Rattle.std.proofs.Common.{ap, refl, subst, sym, ◌∙◌}
+use Rattle.std.specs.Prelude.{◌≡◌, ℕ, List, [], ◌∷◌, Option, Some, IsSome}
+use Rattle.std.proofs.Common.{refl, subst, sym, ◌∙◌}
 use Rattle.dv_text.specs.Keys.{Hashes}
-use Rattle.dv_text.specs.Told.{Told}
 use Rattle.dv_records.specs.declared.stores.Store.{Store}
 use Rattle.dv_records.specs.Standing.{Stands}
 use Rattle.dv_records.specs.States.{State}

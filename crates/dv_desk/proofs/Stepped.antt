@@ -1,5 +1,5 @@
 -- What comes of one request, by what was taken and what was written.
-use Rattle.std.specs.Prelude.{◌≡◌, ◌⊎◌, ℕ, Bool, true, false, List, Option, Some, IfSome, Ok, Err}
+use Rattle.std.specs.Prelude.{◌≡◌, ℕ, Bool, true, false, List, Option, Some, IfSome, Ok, Err}
 use Rattle.std.proofs.Common.{inl, inr, refl, subst, sym}
 use Rattle.dv_text.specs.Keys.{Hashes}
 use Rattle.dv_outside.specs.Bytes.{after as with_bytes}
@@ -13,7 +13,7 @@ use Rattle.dv_desk.specs.declared.answers.Answer.TheVariants as answers
 use Rattle.dv_desk.specs.declared.serving.Came.{Came}
 use Rattle.dv_desk.specs.declared.serving.Came.TheVariants as came
 use Rattle.dv_desk.specs.Answers.{reply_of, wire_answer}
-use Rattle.dv_desk.specs.Serving.{IsUnread, refusal, replied}
+use Rattle.dv_desk.specs.Serving.{refusal, replied}
 use Rattle.dv_desk.specs.Steps.{Answered, Comes, Refused, RepliedTo, Said, came_of}
 use Rattle.dv_desk.specs.Turns.{Moment}
 

@@ -1,15 +1,12 @@
 -- A talk in states: what is answered leads from a state to a state.
-use Rattle.std.specs.Prelude.{◌≡◌, ℕ, true, List, [], ◌∷◌, Option, Some, None, IsSome}
-use Rattle.std.proofs.Common.{refl, subst, sym, ◌∙◌}
+use Rattle.std.specs.Prelude.{◌≡◌, ℕ, List, [], ◌∷◌, Option, Some, None, IsSome}
+use Rattle.std.proofs.Common.{refl, subst, sym}
 use Rattle.std.proofs.lemmas.Bool.{false≢true}
 use Rattle.dv_text.specs.Keys.{Hashes}
-use Rattle.dv_catalog.specs.Entries.{Mapping}
 use Rattle.dv_records.specs.declared.stores.Store.{Store}
-use Rattle.dv_records.specs.Standing.{Stands}
 use Rattle.dv_records.specs.States.{State}
-use Rattle.dv_window.specs.Offices.{Held, IsIn, IsLeftIn}
-use Rattle.dv_desk.specs.Routes.{asked}
-use Rattle.dv_desk.specs.Turns.{Exchange, HasWidth, Leads, Moment, Says, StandsAs, Talked, Talks, TalksIn, Turn}
+use Rattle.dv_window.specs.Offices.{IsIn, IsLeftIn}
+use Rattle.dv_desk.specs.Turns.{Exchange, HasWidth, Moment, StandsAs, Talked, Talks, TalksIn}
 
 -- what is told of
 pub told_of : {A : Type 0} (o : Option A) → IsSome o → (x : A) × (o ≡ Some x)

@@ -1,4 +1,4 @@
-use Rattle.std.proofs.Common.{◌≡◌, ◌∙◌, sym}
+use Rattle.std.proofs.Common.{◌∙◌, sym}
 use Rattle.dv_desk.proofs.Stepped.{came_unbroken}
 use Rattle.dv_desk.proofs.serving.reply_to.Goals as goal
 

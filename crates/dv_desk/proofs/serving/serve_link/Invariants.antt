@@ -1,4 +1,4 @@
-use Rattle.std.specs.Prelude.{◌≡◌, ◌≤◌, false}
+use Rattle.std.specs.Prelude.{◌≤◌}
 use Rattle.dv_text.specs.Keys.{hashes_of}
 use Rattle.dv_outside.specs.Bytes.{in_front}
 use Rattle.dv_http.specs.Buffers.{held}
