@@ -1,5 +1,5 @@
 -- Words, requests, bodies and answers, and what the definitions of the desk say of them.
-use Rattle.std.specs.Prelude.{◌≡◌, ℕ, List, [], ◌∷◌, ◌++◌, Bool, true, false, Option, Some, None, codes}
+use Rattle.std.specs.Prelude.{◌≡◌, ℕ, List, [], ◌∷◌, ◌++◌, Bool, true, false, Some, None, codes}
 use Rattle.dv_catalog.specs.declared.rules.Rule.TheVariants.{Differs, NoExtracts, TooLong}
 use Rattle.dv_http.specs.Replies.{reply_text}
 use Rattle.dv_http.specs.declared.requests.Request.{Request}
