@@ -1,6 +1,6 @@
 // A window that breaks off at a call of the keeper: what is said of it then, and how it is completed.
 use super::mappings::{DAY_1, DAY_2, NAMES};
-use super::{Case, kept};
+use super::{Case, follow_failing, kept};
 use dv_outside::Status;
 use dv_records::{Fail, MemoryKeeper};
 use dv_text::Memory;
@@ -132,7 +132,7 @@ const STANDS_OPEN: &[Case] = &[
 #[test]
 fn an_open_window_is_told_apart(rt: HostRuntime) -> Result<(), Memory> {
     for fails in SATELLITE_FAILS {
-        kept(&rt, rt.alloc(), STANDS_OPEN, fails)?;
+        follow_failing(&rt, rt.alloc(), STANDS_OPEN, fails)?;
     }
     Ok(())
 }

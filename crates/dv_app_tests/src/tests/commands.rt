@@ -3,7 +3,10 @@ use super::mappings::{DAY_1, KEYS, NAMES};
 use super::{Case, Faults, NO_FAULTS, files, follow, is_heard, kept, run_on};
 use dv_app::Md5Keys;
 use dv_outside::Status;
+use dv_records::MemoryKeeper;
 use dv_text::Memory;
+use std::alloc::Global;
+use std::process::Abort;
 
 /// A window of two customers, of whom the second has a space at both ends.
 const TWO_KEYS: &[(&[u8], &[u8])] = &[
@@ -195,12 +198,17 @@ const OUT_FAILS: Faults = Faults {
     ..NO_FAULTS
 };
 
+// Over a keeper the mart is not written.
+fn is_unwritten(rt: &impl Abort, alloc: Global, keeper: &mut MemoryKeeper) -> Result<(), Memory> {
+    let files = files(alloc, TWO_KEYS)?;
+    let heard = run_on(alloc, FIRST_MART, files, keeper, OUT_FAILS, &Md5Keys)?;
+    is_heard(rt, &heard, "", "", Status::WriteFault);
+    Ok(())
+}
+
 #[test]
 fn a_text_that_is_not_written_is_a_write_fault(rt: HostRuntime) -> Result<(), Memory> {
     let alloc = rt.alloc();
     let mut keeper = kept(&rt, alloc, ONE_WINDOW, &[])?;
-    let files = files(alloc, TWO_KEYS)?;
-    let heard = run_on(alloc, FIRST_MART, files, &mut keeper, OUT_FAILS, &Md5Keys)?;
-    is_heard(&rt, &heard, "", "", Status::WriteFault);
-    Ok(())
+    is_unwritten(&rt, alloc, &mut keeper)
 }

@@ -82,15 +82,26 @@ fn first_steps_without_rows_are_not_too_large(rt: HostRuntime) -> Result<(), Fai
     Ok(())
 }
 
-// The steps one after another, over a vault of one order.
-fn hold_each(rt: &impl Abort, alloc: Global, customers: u64, steps: &[Step]) -> Result<(), Memory> {
-    let mut keeper = MemoryKeeper::new(alloc, List::new(alloc));
+// The steps one after another, over a keeper and the files of one order.
+fn hold_over(
+    rt: &impl Abort,
+    alloc: Global,
+    customers: u64,
+    steps: &[Step],
+    keeper: &mut MemoryKeeper,
+) -> Result<(), Memory> {
     for step in steps {
         let files = one_order(alloc, SOLD, customers, 1_000)?;
-        let heard = run_on(alloc, step.words, files, &mut keeper, NO_FAULTS, &Md5Keys)?;
+        let heard = run_on(alloc, step.words, files, keeper, NO_FAULTS, &Md5Keys)?;
         is_heard(rt, &heard, step.out, step.err, step.status);
     }
     Ok(())
+}
+
+// The same, over a new keeper in memory.
+fn hold_each(rt: &impl Abort, alloc: Global, customers: u64, steps: &[Step]) -> Result<(), Memory> {
+    let mut keeper = MemoryKeeper::new(alloc, List::new(alloc));
+    hold_over(rt, alloc, customers, steps, &mut keeper)
 }
 
 const STORED: Step = Step {

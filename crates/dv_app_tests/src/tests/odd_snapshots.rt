@@ -85,6 +85,18 @@ fn heads_at(alloc: Global, dates: &[&[u8]], weight: u64) -> Result<List<SnapHead
     Ok(heads)
 }
 
+// The case holds over the vault of these with a snapshot at the last date, of whose tables each has these rows.
+fn hold_with(
+    rt: &impl Abort,
+    alloc: Global,
+    vault: &[Case],
+    rows: Rows,
+    case: Case,
+) -> Result<(), Memory> {
+    let heads = heads_at(alloc, &[LAST], 0)?;
+    hold_over(rt, alloc, vault, heads, rows, &[case])
+}
+
 // So many heads, a second apart, without rows.
 fn many_heads(alloc: Global, count: i64) -> Result<List<SnapHead>, Memory> {
     let mut heads = List::new(alloc);
@@ -240,9 +252,8 @@ fn a_stored_row_has_its_cells_and_its_width(rt: HostRuntime) -> Result<(), Memor
         (2, Digest::zero(16), MISSHAPEN),
         (1, Digest::zero(32), MISSHAPEN),
     ] {
-        let heads = heads_at(alloc, &[LAST], 0)?;
         let rows = row_of(alloc, cells, key)?;
-        hold_over(&rt, alloc, ONE_WINDOW, heads, rows, &[case])?;
+        hold_with(&rt, alloc, ONE_WINDOW, rows, case)?;
     }
     Ok(())
 }
@@ -310,9 +321,8 @@ fn a_stored_bridge_row_has_its_digests_and_their_width(rt: HostRuntime) -> Resul
         ((2, 4), (32, 16), BROKEN_BRIDGE),
         ((2, 4), (16, 32), BROKEN_BRIDGE),
     ] {
-        let heads = heads_at(alloc, &[LAST], 0)?;
         let rows = bridge_of(alloc, counts, widths)?;
-        hold_over(&rt, alloc, SOLD_WINDOW, heads, rows, &[case])?;
+        hold_with(&rt, alloc, SOLD_WINDOW, rows, case)?;
     }
     Ok(())
 }
@@ -320,10 +330,8 @@ fn a_stored_bridge_row_has_its_digests_and_their_width(rt: HostRuntime) -> Resul
 #[test]
 fn a_stored_row_is_of_its_kind(rt: HostRuntime) -> Result<(), Memory> {
     let alloc = rt.alloc();
-    let heads = heads_at(alloc, &[LAST], 0)?;
     let rows = row_of(alloc, 1, Digest::zero(16))?;
-    hold_over(&rt, alloc, SOLD_WINDOW, heads, rows, &[BROKEN_BRIDGE])?;
-    let heads = heads_at(alloc, &[LAST], 0)?;
+    hold_with(&rt, alloc, SOLD_WINDOW, rows, BROKEN_BRIDGE)?;
     let rows = bridge_of(alloc, (2, 4), (16, 16))?;
-    hold_over(&rt, alloc, ONE_WINDOW, heads, rows, &[MISSHAPEN])
+    hold_with(&rt, alloc, ONE_WINDOW, rows, MISSHAPEN)
 }

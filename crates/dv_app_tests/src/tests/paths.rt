@@ -132,15 +132,25 @@ pub(super) struct Step {
     pub(super) status: Status,
 }
 
-// The steps one after another, over one keeper in memory and the files of two days.
-fn follow(rt: &impl Abort, alloc: Global, steps: &[Step]) -> Result<(), Memory> {
-    let mut keeper = MemoryKeeper::new(alloc, List::new(alloc));
+// The steps one after another, over a keeper and the files of two days.
+fn follow_over(
+    rt: &impl Abort,
+    alloc: Global,
+    steps: &[Step],
+    keeper: &mut MemoryKeeper,
+) -> Result<(), Memory> {
     for step in steps {
         let files = files(alloc, TWO_DAYS)?;
-        let heard = run_on(alloc, step.words, files, &mut keeper, NO_FAULTS, &Md5Keys)?;
+        let heard = run_on(alloc, step.words, files, keeper, NO_FAULTS, &Md5Keys)?;
         is_heard(rt, &heard, step.out, step.err, step.status);
     }
     Ok(())
+}
+
+// The same, over one keeper in memory.
+fn follow(rt: &impl Abort, alloc: Global, steps: &[Step]) -> Result<(), Memory> {
+    let mut keeper = MemoryKeeper::new(alloc, List::new(alloc));
+    follow_over(rt, alloc, steps, &mut keeper)
 }
 
 const STORED: Step = Step {

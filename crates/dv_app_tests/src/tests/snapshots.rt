@@ -1,6 +1,6 @@
 // Snapshots over a keeper in memory: at which dates they are stored, and while a window is open.
 use super::mappings::{DAY_1, DAY_2, KEYS, NAMES};
-use super::{Case, follow, hold, kept};
+use super::{Case, follow, follow_failing, hold};
 use dv_outside::Status;
 use dv_records::Fail as KeeperFail;
 use dv_text::Memory;
@@ -209,7 +209,7 @@ const SATELLITE_FAILS: &[&[KeeperFail]] = &[
 #[test]
 fn a_snapshot_is_of_the_sealed_windows(rt: HostRuntime) -> Result<(), Memory> {
     for fails in SATELLITE_FAILS {
-        kept(&rt, rt.alloc(), WHILE_OPEN, fails)?;
+        follow_failing(&rt, rt.alloc(), WHILE_OPEN, fails)?;
     }
     Ok(())
 }
@@ -248,9 +248,8 @@ const SNAPSHOT_FAILS_LATE: KeeperFail = KeeperFail {
 #[test]
 fn a_snapshot_that_broke_off_is_stored_or_not(rt: HostRuntime) -> Result<(), Memory> {
     let alloc = rt.alloc();
-    kept(&rt, alloc, NOT_STORED, &[SNAPSHOT_FAILS])?;
-    kept(&rt, alloc, WAS_STORED, &[SNAPSHOT_FAILS_LATE])?;
-    Ok(())
+    follow_failing(&rt, alloc, NOT_STORED, &[SNAPSHOT_FAILS])?;
+    follow_failing(&rt, alloc, WAS_STORED, &[SNAPSHOT_FAILS_LATE])
 }
 
 const NO_COMMAND: Case = Case {

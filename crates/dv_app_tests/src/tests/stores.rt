@@ -35,12 +35,17 @@ const ONE_KEY: &[Case] = &[
     },
 ];
 
+// A keeper that is filled under one digest is damaged under another one.
+fn is_damaged(rt: &impl Abort, alloc: Global, keeper: &mut MemoryKeeper) -> Result<(), Memory> {
+    play(rt, alloc, ONE_KEY, keeper, &TinyKeys)?;
+    play(rt, alloc, &[DAMAGED], keeper, &Md5Keys)
+}
+
 #[test]
 fn a_wrong_digest_is_damage(rt: HostRuntime) -> Result<(), Memory> {
     let alloc = rt.alloc();
     let mut keeper = MemoryKeeper::new(alloc, List::new(alloc));
-    play(&rt, alloc, ONE_KEY, &mut keeper, &TinyKeys)?;
-    play(&rt, alloc, &[DAMAGED], &mut keeper, &Md5Keys)
+    is_damaged(&rt, alloc, &mut keeper)
 }
 
 // Over a keeper that has the mapping of keys alone, these windows and no rows, the case holds.
