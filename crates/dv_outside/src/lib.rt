@@ -35,6 +35,3 @@ pub use real_links::RealLink;
 pub use real_streams::{RealErr, RealOut};
 pub use sinks::Sink;
 pub use statuses::Status;
-
-#[cfg(test)]
-mod tests;

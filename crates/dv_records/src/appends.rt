@@ -53,7 +53,7 @@ fn append_entry(entries: &mut Vec<TableRows>, table: TableId, rows: Rows) -> Res
 }
 
 /// Puts rows at the end of a table. For want of memory the tables are as before.
-pub(crate) fn append(
+pub fn append(
     alloc: Global,
     tables: &mut List<TableRows>,
     table: TableId,

@@ -25,14 +25,17 @@ mod turns;
 mod weights;
 
 pub use answers::{Damage, InitAnswer, LoadAnswer, Outcome, ResumeAnswer, SnapAnswer};
+pub use appends::append;
 pub use deliveries::{Delivery, DeltaFault, HashedDelivery, HubNames};
 pub use keepers::{Keeper, KeeperError};
 pub use mart_rows::{HubCell, HubMartRow, PathRow, Period, PeriodRow};
 pub use memory_keepers::MemoryKeeper;
+pub use pages::table_page;
 pub use raw_rows::{Code, EffectRow, HubRow, LinkRow, MultiRow, SatRow, StatusRow};
 pub use raw_tables::RawTable;
 pub use snapshots::{BridgeRow, PitCell, PitRow, Snap, SnapHead, SnapId, SnapTable};
 pub use sorting::{Ranked, sorted_firsts};
+pub use stored_snapshots::{heads_of, snapshot_page};
 pub use stores::{Rows, Store, TableRows};
 pub use turns::Fail;
 pub use weights::{Weighed, weight};

@@ -63,7 +63,7 @@ pub(crate) fn page(alloc: Global, rows: &Rows, from: u64, most: u32) -> Result<R
 }
 
 /// At most `most` of a table's rows, from place `from` on.
-pub(crate) fn table_page(
+pub fn table_page(
     alloc: Global,
     tables: &[TableRows],
     table: TableId,

@@ -13,7 +13,7 @@ use std::alloc::Global;
 use std::mem;
 
 /// The heads of snapshots, in their order.
-pub(crate) fn heads_of(alloc: Global, snaps: &[Snap]) -> Result<List<SnapHead>, Memory>
+pub fn heads_of(alloc: Global, snaps: &[Snap]) -> Result<List<SnapHead>, Memory>
     ensures { IfOk result (λ heads. heads ≡ map (λ snap. snap.head) snaps.now) }
 {
     let mut heads = List::new(alloc);
@@ -58,7 +58,7 @@ fn table_page(
 }
 
 /// At most `most` of the rows of a table of the snapshot at a date, from place `from` on.
-pub(crate) fn snapshot_page(
+pub fn snapshot_page(
     alloc: Global,
     snaps: &[Snap],
     date: Stamp,

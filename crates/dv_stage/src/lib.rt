@@ -17,6 +17,3 @@ mod whole;
 pub use faults::StageFault;
 pub use partners::two_drivers;
 pub use stages::{Staged2, stage};
-
-#[cfg(test)]
-mod tests;
