@@ -29,6 +29,9 @@ impl SqliteKeeper {
         }
     }
 
+    /// Gives the file up. To let go of a keeper so costs a caller no proof of how its connection is let go of.
+    pub fn close(self) {}
+
     // The answer of a call, whose fault is counted. Behind one the file is opened anew, so that what is read then is
     // what stands on the disk.
     fn settle<T: Drop>(&mut self, answer: Result<T, Refusal>) -> Result<T, KeeperError>

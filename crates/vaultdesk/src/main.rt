@@ -44,5 +44,6 @@ fn main(rt: HostRuntime) -> ExitCode {
         &Md5Keys,
         &OpenGate,
     );
+    keeper.close();
     ExitCode::from(status as u8)
 }
