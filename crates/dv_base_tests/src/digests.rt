@@ -1,140 +1,121 @@
 // Hash keys, hash differences, and digests as text.
+use crate::values::{is, keys, texts};
 use dv_digest::{Md5Keys, Room, TinyKeys, attrs_fit, hash_diff, hash_key, hex_text, refs_fit};
-use dv_text::{Digest, Key, KeyDigest, List, Memory, Text};
+use dv_text::{KeyDigest, Memory};
 use std::alloc::Global;
-use std::process::Abort;
-use std::test::Fail;
 
-fn texts_of(alloc: Global, texts: &[&str]) -> Result<List<Text>, Memory> {
-    let mut made = List::new(alloc);
-    for text in texts {
-        made.push(Text::of(alloc, text.as_bytes())?)?;
-    }
-    Ok(made)
-}
-
-fn refs_of(alloc: Global, keys: &[&[&str]]) -> Result<List<Key>, Memory> {
-    let mut made = List::new(alloc);
-    for parts in keys {
-        let parts = texts_of(alloc, parts)?;
-        made.push(Key { parts })?;
-    }
-    Ok(made)
-}
-
-fn key_hex<H: KeyDigest>(
-    rt: &(impl Abort + AllocGlobal),
-    d: &H,
+// Whether the hash key of keys that fit is this one.
+fn is_hash_key<H: KeyDigest>(
+    alloc: Global,
+    digest: &H,
     room: &mut Room,
-    keys: &[&[&str]],
-) -> Result<Text, Memory> {
-    let refs = refs_of(rt.alloc(), keys)?;
-    assert!(rt; refs_fit(refs.items()));
-    hex_text(rt.alloc(), &hash_key(d, refs.items(), room))
+    parts: &[&[&[u8]]],
+    expected: &[u8],
+) -> bool {
+    match keys(alloc, parts) {
+        Ok(refs) => {
+            refs_fit(refs.items())
+                && is(
+                    hex_text(alloc, &hash_key(digest, refs.items(), room)),
+                    expected,
+                )
+        }
+        Err(Memory) => false,
+    }
 }
 
-fn diff_hex<H: KeyDigest>(
-    rt: &(impl Abort + AllocGlobal),
-    d: &H,
+// Whether the hash difference of attributes that fit is this one.
+fn is_hash_diff<H: KeyDigest>(
+    alloc: Global,
+    digest: &H,
     room: &mut Room,
-    attrs: &[&str],
-) -> Result<Text, Memory> {
-    let attrs = texts_of(rt.alloc(), attrs)?;
-    assert!(rt; attrs_fit(&attrs));
-    hex_text(rt.alloc(), &hash_diff(d, &attrs, room))
-}
-
-const DIGITS: &str =
-    "12345678901234567890123456789012345678901234567890123456789012345678901234567890";
-
-const ZERO: &str = "00000000000000000000000000000000";
-
-const ONES: &str = "01010101010101010101010101010101";
-
-// The digests are those of `md5sum`.
-#[test]
-fn hash_keys_are_the_digests_of_joined_keys(rt: HostRuntime) -> Result<(), Fail> {
-    let mut room = Room::new(rt.alloc())?;
-    let table: [(&[&[&str]], &str); 12] = [
-        (&[&["1"]], "c4ca4238a0b923820dcc509a6f75849b"),
-        (&[&["2"]], "c81e728d9d4c2f636f067f89cc14862c"),
-        (&[&["3"]], "eccbc87e4b5ce2fe28308fd9f2a7baf3"),
-        (&[&[DIGITS]], "57edf4a22be3c955ac49da2e2107b67a"),
-        (&[], ZERO),
-        (&[&[""]], ZERO),
-        (&[&["", ""], &[""]], ZERO),
-        (&[&["", "P"]], "897ad1622608c6466db82142d6eee053"),
-        (&[&["A", ""]], "34c0de6faf3f5b5719619ff8a277ca51"),
-        (&[&[""], &["O2"]], "f8e4c621b87bf9c2bd13f39fb99db41d"),
-        (&[&["A;B", "C"]], "1dc0d4712f3f815fe294d66b5d793716"),
-        (&[&["A"], &["B;C"]], "1dc0d4712f3f815fe294d66b5d793716"),
-    ];
-    for (keys, expected) in table {
-        let made = key_hex(&rt, &Md5Keys, &mut room, keys)?;
-        assert_eq!(rt; made.bytes(), expected.as_bytes());
+    attrs: &[&[u8]],
+    expected: &[u8],
+) -> bool {
+    match texts(alloc, attrs) {
+        Ok(attrs) => {
+            attrs_fit(&attrs) && is(hex_text(alloc, &hash_diff(digest, &attrs, room)), expected)
+        }
+        Err(Memory) => false,
     }
-    Ok(())
 }
 
+const DIGITS: &[u8] =
+    b"12345678901234567890123456789012345678901234567890123456789012345678901234567890";
+
+const ZERO: &[u8] = b"00000000000000000000000000000000";
+
+// Keys and their hash keys, which are the digests of `md5sum`.
+const HASH_KEYS: &[(&[&[&[u8]]], &[u8])] = &[
+    (&[&[b"1"]], b"c4ca4238a0b923820dcc509a6f75849b"),
+    (&[&[b"2"]], b"c81e728d9d4c2f636f067f89cc14862c"),
+    (&[&[b"3"]], b"eccbc87e4b5ce2fe28308fd9f2a7baf3"),
+    (&[&[DIGITS]], b"57edf4a22be3c955ac49da2e2107b67a"),
+    (&[], ZERO),
+    (&[&[b""]], ZERO),
+    (&[&[b"", b""], &[b""]], ZERO),
+    (&[&[b"", b"P"]], b"897ad1622608c6466db82142d6eee053"),
+    (&[&[b"A", b""]], b"34c0de6faf3f5b5719619ff8a277ca51"),
+    (&[&[b""], &[b"O2"]], b"f8e4c621b87bf9c2bd13f39fb99db41d"),
+    (&[&[b"A;B", b"C"]], b"1dc0d4712f3f815fe294d66b5d793716"),
+    (&[&[b"A"], &[b"B;C"]], b"1dc0d4712f3f815fe294d66b5d793716"),
+];
+
+// Attributes and their hash differences, which are the digests of `md5sum`.
+const HASH_DIFFS: &[(&[&[u8]], &[u8])] = &[
+    (&[b"abc"], b"900150983cd24fb0d6963f7d28e17f72"),
+    (&[b""], b"d41d8cd98f00b204e9800998ecf8427e"),
+    (&[], b"d41d8cd98f00b204e9800998ecf8427e"),
+    (&[b"", b""], b"9eecb7db59d16c80417c72d1e1f4fbf1"),
+    (&[b"x", b"y", b""], b"412f28950bc4c89e8d78d7728daa79c0"),
+    (&[LONGEST; 32], b"a0bdd8eb8d05c253d5056d96e0725a56"),
+];
+
+const LONGEST: &[u8] = &[b'x'; 4096];
+
 #[test]
-fn hash_differences_are_the_digests_of_joined_attributes(rt: HostRuntime) -> Result<(), Fail> {
-    let mut room = Room::new(rt.alloc())?;
-    let table: [(&[&str], &str); 5] = [
-        (&["abc"], "900150983cd24fb0d6963f7d28e17f72"),
-        (&[""], "d41d8cd98f00b204e9800998ecf8427e"),
-        (&[], "d41d8cd98f00b204e9800998ecf8427e"),
-        (&["", ""], "9eecb7db59d16c80417c72d1e1f4fbf1"),
-        (&["x", "y", ""], "412f28950bc4c89e8d78d7728daa79c0"),
-    ];
-    for (attrs, expected) in table {
-        let made = diff_hex(&rt, &Md5Keys, &mut room, attrs)?;
-        assert_eq!(rt; made.bytes(), expected.as_bytes());
+fn hashes_are_the_digests_of_joined_texts(rt: HostRuntime) {
+    let alloc = rt.alloc();
+    let mut room = Room::new(alloc).expect(&rt, "memory");
+    for (keys, expected) in HASH_KEYS {
+        assert!(rt;
+            is_hash_key(alloc, &Md5Keys, &mut room, keys, expected),
+            "{expected:?}"
+        );
     }
-    Ok(())
-}
-
-#[test]
-fn tiny_digests_begin_with_the_first_byte(rt: HostRuntime) -> Result<(), Fail> {
-    let mut room = Room::new(rt.alloc())?;
-    let made = key_hex(&rt, &TinyKeys, &mut room, &[&["A1"]])?;
-    assert_eq!(rt;
-        made.bytes(),
-        b"41010101010101010101010101010101".as_slice()
-    );
-    let again = key_hex(&rt, &TinyKeys, &mut room, &[&["A2"]])?;
-    assert!(rt; made == again);
-    let made = key_hex(&rt, &TinyKeys, &mut room, &[&[""]])?;
-    assert_eq!(rt; made.bytes(), ZERO.as_bytes());
-    let made = diff_hex(&rt, &TinyKeys, &mut room, &[""])?;
-    assert_eq!(rt; made.bytes(), ONES.as_bytes());
-    Ok(())
-}
-
-// 32 attributes of so many bytes.
-fn long_attributes(alloc: Global, bytes: usize) -> Result<List<Text>, Memory> {
-    let long = Text::from_vec(vec![in alloc; b'x'; bytes]?)?;
-    let mut attrs = List::new(alloc);
-    for _ in 0..32 {
-        attrs.push(Text::of(alloc, long.bytes())?)?;
+    for (attrs, expected) in HASH_DIFFS {
+        assert!(rt;
+            is_hash_diff(alloc, &Md5Keys, &mut room, attrs, expected),
+            "{expected:?}"
+        );
     }
-    Ok(attrs)
 }
 
-// The digest is that of `md5sum` over 32 times 4,096 letters x, joined by semicolons.
 #[test]
-fn the_longest_attributes_fit_and_longer_ones_do_not(rt: HostRuntime) -> Result<(), Fail> {
-    let mut room = Room::new(rt.alloc())?;
-    let attrs = long_attributes(rt.alloc(), 4096)?;
-    assert!(rt; attrs_fit(&attrs));
-    let made = hex_text(rt.alloc(), &hash_diff(&Md5Keys, &attrs, &mut room))?;
-    assert_eq!(rt;
-        made.bytes(),
-        b"a0bdd8eb8d05c253d5056d96e0725a56".as_slice()
-    );
-    assert!(rt; !attrs_fit(&long_attributes(rt.alloc(), 4097)?));
-    let many = refs_of(rt.alloc(), &[&["1"], &["2"], &["3"], &["4"], &["5"]])?;
-    assert!(rt; !refs_fit(many.items()));
-    let parts = refs_of(rt.alloc(), &[&["1", "2", "3", "4", "5"]])?;
-    assert!(rt; !refs_fit(parts.items()));
-    Ok(())
+fn tiny_digests_begin_with_the_first_byte(rt: HostRuntime) {
+    let alloc = rt.alloc();
+    let mut room = Room::new(alloc).expect(&rt, "memory");
+    let ones = b"01010101010101010101010101010101";
+    let of_a = b"41010101010101010101010101010101";
+    assert!(rt; is_hash_key(alloc, &TinyKeys, &mut room, &[&[b"A1"]], of_a));
+    assert!(rt; is_hash_key(alloc, &TinyKeys, &mut room, &[&[b"A2"]], of_a));
+    assert!(rt; is_hash_key(alloc, &TinyKeys, &mut room, &[&[b""]], ZERO));
+    assert!(rt; is_hash_diff(alloc, &TinyKeys, &mut room, &[b""], ones));
+}
+
+fn keys_fit(alloc: Global, parts: &[&[&[u8]]]) -> Result<bool, Memory> {
+    Ok(refs_fit(keys(alloc, parts)?.items()))
+}
+
+fn texts_fit(alloc: Global, attrs: &[&[u8]]) -> Result<bool, Memory> {
+    Ok(attrs_fit(&texts(alloc, attrs)?))
+}
+
+#[test]
+fn longer_attributes_and_more_keys_do_not_fit(rt: HostRuntime) {
+    let alloc = rt.alloc();
+    let longer = [b'x'; 4097];
+    assert!(rt; texts_fit(alloc, &[longer.as_slice(); 32]) == Ok(false));
+    assert!(rt; keys_fit(alloc, &[&[b"1"], &[b"2"], &[b"3"], &[b"4"], &[b"5"]]) == Ok(false));
+    assert!(rt; keys_fit(alloc, &[&[b"1", b"2", b"3", b"4", b"5"]]) == Ok(false));
 }

@@ -1,7 +1,6 @@
+use crate::values::key;
 use dv_records::HubNames;
-use dv_text::{Digest, Key, List, Text};
-use std::process::Abort;
-use std::test::Fail;
+use dv_text::{Digest, Key};
 
 // One key of one hub, with its digest.
 #[derive(Drop)]
@@ -27,33 +26,21 @@ impl HubNames for OneName {
     }
 }
 
-// The key of a hub with a digest is this one.
-fn names<N: HubNames>(
-    rt: &impl Abort,
-    known: &N,
-    hub: u32,
-    digest: &Digest,
-    expected: Option<&Key>,
-) {
-    assert!(rt; known.name(hub, digest) == expected, "hub {hub}");
+// Whether the key of a hub with a digest is this one.
+fn names<N: HubNames>(known: &N, hub: u32, digest: &Digest, expected: Option<&Key>) -> bool {
+    known.name(hub, digest) == expected
 }
 
 #[test]
-fn a_key_is_named_by_its_hub_and_its_digest(rt: HostRuntime) -> Result<(), Fail> {
-    let alloc = rt.alloc();
-    let mut parts = List::new(alloc);
-    parts.push(Text::of(alloc, b"C1")?)?;
-    let digest = Digest::of(&[7; 16]).ok_or("no digest")?;
-    let mut same = List::new(alloc);
-    same.push(Text::of(alloc, b"C1")?)?;
-    let key = Key { parts: same };
+fn a_key_is_named_by_its_hub_and_its_digest(rt: HostRuntime) {
+    let digest = Digest::of(&[7; 16]).expect(&rt, "a digest");
+    let same = key(rt.alloc(), b"C1").expect(&rt, "memory");
     let known = OneName {
         hub: 3,
         digest,
-        key: Key { parts },
+        key: key(rt.alloc(), b"C1").expect(&rt, "memory"),
     };
-    names(&rt, &known, 3, &digest, Some(&key));
-    names(&rt, &known, 2, &digest, None);
-    names(&rt, &known, 3, &Digest::zero(16), None);
-    Ok(())
+    assert!(rt; names(&known, 3, &digest, Some(&same)));
+    assert!(rt; names(&known, 2, &digest, None));
+    assert!(rt; names(&known, 3, &Digest::zero(16), None));
 }
