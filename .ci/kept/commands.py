@@ -131,22 +131,15 @@ def marts_after_each_load(bench):
 
 
 def texts_of_the_readmes(bench):
-    """the texts that the examples' READMEs show come from kept vaults too"""
+    """the texts of `try` that the examples' READMEs show come from kept vaults too"""
     vault = orders.kept(bench, 3)
     customers = "CUST_NO,NAME,CITY"
     vault.says("mart", "feed:customers", DATES[1], out=block("orders", customers))
     vault.says("mart", "feed:customers", LAST_DATE, out=block("orders", customers, 1))
     vault.says("mart", "feed:lines", "2024-03-15T12:00:00", out=block("orders", "ORDER_NO,PRODUCT_NO,QTY"))
     vault.says("table", "status_customers", out=block("orders", "hash_key,load_date,record_source,status"))
-    vault.says("windows", out=block("orders", "load_date,state,feeds"))
-    vault.says("table", "hub_sales_order", out=block("orders", "hash_key,load_date,record_source,part_1"))
-    for at, date in enumerate(("2024-03-31T00:00:00", DATES[1])):
-        vault.says("mart", "feed:placements", date, out=block("orders", "CUST_NO,ORDER_NO", at))
     for at, date in enumerate((LAST_DATE, "2024-03-15T12:00:00")):
         vault.says("mart", "path:sold", date, out=block("orders", SOLD, at))
-    vault.says("snapshot", LAST_DATE, err="snapshot: Stored 12")
-    bridge = "snapshot,placements,lines,placements.customer,placements.sales_order,lines.sales_order,lines.product"
-    vault.says("bridge", "sold", LAST_DATE, out=block("orders", bridge))
     vault = bench.kept_example("phones", *loaded_rows("phones"))
     vault.says("mart", "feed:phones", "2024-04-01T02:00:00", out=block("phones", "CUST_NO,KIND,PHONE"))
     vault.says("table", "msat_phones", out=block("phones", "hash_key,load_date,record_source,hash_diff,KIND,PHONE"))

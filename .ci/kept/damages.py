@@ -1,10 +1,10 @@
 """Checks of stores that somebody changed with SQLite: each command names the first damage, and leaves the file."""
-from kept import orders
+from kept import orders, rooms
 from kept.commands import EVERY_COMMAND
 from kept.orders import DATES
 from kept.program import KEEPER_FAULT, expect
 from kept.readmes import loaded_rows
-from kept.stores import change, change_row, contents
+from kept.stores import change, change_row, contents, opened_copy
 
 NO_DIGEST = bytes(range(16))
 GREATEST_DIGEST = b"\xff" * 16
@@ -18,9 +18,11 @@ CHANGED_ROWS = (
     ("hub_customer", 1, "load_date", DATES[1], "hub_customer 2 F6"),
     ("hub_customer", 4, "record_source", "crm.clients", "hub_customer 4 F8"),
     ("hub_customer", 1, "part_1", None, "hub_customer 1 F4"),
+    ("hub_customer", 1, "hash_key", bytes(32), "hub_customer 1 F4"),
     ("hub_product", 2, "hash_key", GREATEST_DIGEST, "hub_product 2 F7"),
     ("link_placed", 3, "hash_key", bytes(16), "link_placed 3 F7"),
     ("link_placed", 1, "hub_1", NO_DIGEST, "link_placed 1 F9"),
+    ("link_placed", 1, "hub_1", bytes(32), "link_placed 1 F4"),
     ("link_placed", 3, "hub_2", C1, "link_placed 3 F9"),
     ("sat_customers", 1, "attribute_2", "Hamar", "sat_customers 1 F7"),
     ("sat_customers", 6, "load_date", DATES[0], "sat_customers 6 F6"),
@@ -50,6 +52,7 @@ CHANGED_WINDOWS = (
     ("UPDATE windows SET load_date = '2024-06-01T02:00:00' WHERE load_date = '2024-04-01T02:00:00'", "windows 3 F2"),
     ("UPDATE windows SET feeds = '4 0' WHERE load_date = '2024-05-01T02:00:00'", "windows 3 F2"),
     ("UPDATE windows SET feeds = '0 5' WHERE load_date = '2024-05-01T02:00:00'", "windows 3 F2"),
+    ("UPDATE windows SET feeds = '0 70000' WHERE load_date = '2024-05-01T02:00:00'", "windows 3 F2"),
     ("UPDATE windows SET feeds = '' WHERE load_date = '2024-05-01T02:00:00'", "windows 3 F2"),
     ("UPDATE windows SET feeds = '4' WHERE load_date = '2024-05-01T02:00:00'", "sat_customers 6 F5"),
     ("DELETE FROM windows WHERE load_date = '2024-05-01T02:00:00'", "sat_customers 6 F5"),
@@ -106,10 +109,21 @@ def changed_windows(bench):
 def a_changed_mapping(bench):
     """a stored mapping that is none any more is named, also by init"""
     vault = orders.kept(bench, 3)
-    for text in (b"hub = [", b"\xff\xfe", b'link = [{ name = "works", hubs = ["employee", "department"] }]'):
+    for text in (b"hub = [", b"\xff a mapping file of more than 22 bytes\n",
+                 b'link = [{ name = "works", hubs = ["employee", "department"] }]'):
         change(vault, "UPDATE mapping SET content = ?", text)
         for words in EVERY_COMMAND:
             vault.says(*words, **damaged("mapping 1 F1"))
+
+
+def a_changed_stage(bench):
+    """an open window with another feed than the mapping's is named"""
+    vault = rooms.with_open_window(bench)
+    with opened_copy(vault) as connection:
+        [(content,)] = connection.execute("SELECT content FROM stage").fetchall()
+    # The load date takes eight bytes, the number of extracts four, and then comes the first one's feed.
+    change(vault, "UPDATE stage SET content = ?", content[:12] + (70_000).to_bytes(4, "big") + content[16:])
+    vault.says("resume", **damaged("stage 1 F3"))
 
 
 def every_command_names_it(bench):
@@ -138,5 +152,17 @@ def values_of_nothing(bench):
         bench.drop(changed)
 
 
-CHECKS = (changed_rows, changed_periods_and_phones, a_key_twice, changed_windows, a_changed_mapping,
-          every_command_names_it, values_of_nothing)
+def lists_of_other_lengths(bench):
+    """a row has as many items as stand in its batch's columns: one more is named, and a gap is a fault"""
+    vault = orders.kept(bench, 3)
+    text = vault.text("table", "sat_lines")
+    change(vault, "UPDATE batches SET list_columns = 2 WHERE kind = 'satellite' AND entity = 4", rows=3)
+    vault.says("table", "sat_lines", out=text)
+    change_row(vault, "sat_lines", 1, "attribute_2", "X")
+    vault.says("windows", **damaged("sat_lines 1 F4"))
+    change(vault, "UPDATE rows_of_satellites SET attribute_1 = NULL WHERE attribute_2 = 'X'")
+    vault.says("windows", **KEEPER_FAULT)
+
+
+CHECKS = (changed_rows, changed_periods_and_phones, a_key_twice, changed_windows, a_changed_mapping, a_changed_stage,
+          lists_of_other_lengths, every_command_names_it, values_of_nothing)

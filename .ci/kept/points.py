@@ -27,12 +27,12 @@ def windows_of(vault):
 @functools.lru_cache(maxsize=64)
 def records_at(path):
     with open(path, encoding="utf-8-sig", newline="") as file:
-        return tuple(tuple(row) for row in csv.reader(file) if row)
+        header, *rows = [row for row in csv.reader(file) if row]
+    return [dict(zip(header, row)) for row in rows]
 
 
 def records(vault, name):
-    header, *rows = records_at(str(vault.file(name).resolve()))
-    return [dict(zip(header, row)) for row in rows]
+    return records_at(str(vault.file(name).resolve()))
 
 
 def mapping_of(vault):
@@ -88,16 +88,19 @@ def rows_of(feed, extract):
     return said
 
 
-def cell(feed, windows, key):
+def told(feed, windows):
+    """What each extract of a feed says, with its load date."""
+    return [(date, rows_of(feed, extracts[feed["name"]])) for date, extracts in windows if feed["name"] in extracts]
+
+
+def cell(feed, said, key):
     """The load date of the last change of what the feed says of a key, and whether its last extract has the key."""
     load, last, present = "", None, "N"
-    for date, extracts in windows:
-        if feed["name"] not in extracts:
-            continue
-        said = rows_of(feed, extracts[feed["name"]]).get(key)
-        present = "N" if said is None else "Y"
-        if said is not None and said != last:
-            load, last = date, said
+    for date, rows_by_key in said:
+        rows = rows_by_key.get(key)
+        present = "N" if rows is None else "Y"
+        if rows is not None and rows != last:
+            load, last = date, rows
     return (load if as_list(feed.get("attrs")) else "", present)
 
 
@@ -105,11 +108,11 @@ def pit_text(vault, hub, date):
     """The text of a hub's point-in-time table at a date."""
     mapping = mapping_of(vault)
     windows = [window for window in windows_of(vault) if window[0] <= date]
-    feeds = [feed for feed in mapping["feed"] if feed.get("hub") == hub]
+    feeds = [(feed, told(feed, windows)) for feed in mapping["feed"] if feed.get("hub") == hub]
     keys = {key for key in delivered_keys(mapping, windows, hub) if any(key)}
-    header = ["hash_key", "snapshot", *(f"{feed['name']}.{what}" for feed in feeds for what in ("load", "present"))]
+    header = ["hash_key", "snapshot", *(f"{feed['name']}.{what}" for feed, _ in feeds for what in ("load", "present"))]
     lines = [",".join(header)]
     for key in sorted(keys, key=hash_of):
-        cells = [value for feed in feeds for value in cell(feed, windows, key)]
+        cells = [value for feed, said in feeds for value in cell(feed, said, key)]
         lines.append(",".join([hash_of(key), date, *cells]))
     return "".join(line + "\n" for line in lines).encode()

@@ -3,7 +3,7 @@ import re
 
 from kept.program import TOP
 
-BLOCK = re.compile(r"^```\w*\n(.*?)^```$", re.M | re.S)
+BLOCK = re.compile(r"^```[^\n`]*\n(.*?)^```$", re.M | re.S)
 LINE_OF_WINDOW = re.compile(r"^(w\d+\.toml): Loaded (\d+)$", re.M)
 LAST_NUMBER = re.compile(r"(\d+)\s*$")
 

@@ -4,8 +4,8 @@ import time
 from kept import breaks, history, joins, orders
 from kept.orders import DATES, MANIFESTS
 from kept.points import hubs_of, mapping_of, pit_text, windows_of
-from kept.program import expect
-from kept.stores import change, is_whole, opened, opened_copy, shown_rows
+from kept.program import KEEPER_FAULT, expect, with_limits
+from kept.stores import change, contents, is_whole, opened, opened_copy, shown_rows
 
 BETWEEN = "2024-03-15T12:00:00"
 BEFORE = "2024-02-29T00:00:00"
@@ -151,7 +151,7 @@ def printed_tables(vault, table, dates):
 def views_of_snapshots(bench):
     """each hub has a view that shows its stored point-in-time tables, and each path one of its bridges"""
     vault = orders.kept(bench, 3)
-    for date in SNAPSHOT_DATES:
+    for date in SNAPSHOT_DATES[::-1]:
         stored(vault, date)
     with opened_copy(vault) as connection:
         for table in tables(vault):
@@ -161,13 +161,35 @@ def views_of_snapshots(bench):
 
 def views_with_other_names(bench):
     """a column of a bridge's view whose name stands there already is called by its number"""
-    vault = history.make(bench).after_first
-    stored(vault, history.DATES[0])
-    header, rows = vault.text("bridge", "met", history.DATES[0]).split(b"\n", 1)
+    vault, dates = history.make(bench).after_first, history.DATES[:2]
+    vault.loaded("w2.toml")
+    for date in dates[::-1]:
+        stored(vault, date)
+    header, rows = printed_tables(vault, ("bridge", "met"), dates).split(b"\n", 1)
     expect("bridge met", b"snapshot,visits,visits,visits.customer,visits.site,visits.customer,visits.site", header)
     with opened_copy(vault) as connection:
         shown = b"snapshot,visits,column_3,visits.customer,visits.site,column_6,column_7\n" + rows
         expect("the view bridge_met", shown, shown_table(connection, "bridge_met"))
+
+
+def refused_whole(bench):
+    """a snapshot that the file doesn't take is a keeper fault, and none of it is stored"""
+    vault = orders.kept(bench, 2)
+    stored(vault, DATES[0])
+    before = contents(vault)
+    most = vault.file("vault.db-wal").stat().st_size
+    vault.says("snapshot", DATES[1], **KEEPER_FAULT, limits=with_limits(file_size=most))
+    expect("what is kept where the file may not grow", before, contents(vault))
+    twice = ("INSERT INTO snapshot_tables (kind, entity, snapshot_date, first_row, row_count, sub_columns, list_columns) "
+             "VALUES ('bridge', 0, ?, 1, 0, 0, 0)")
+    change(vault, twice, DATES[1])
+    with_line = contents(vault)
+    vault.says("snapshot", DATES[1], **KEEPER_FAULT)
+    expect("what is kept where a table stands there already", with_line, contents(vault))
+    change(vault, "DELETE FROM snapshot_tables WHERE snapshot_date = ?", DATES[1])
+    stored(vault, DATES[1])
+    for date in DATES[:2]:
+        is_as_delivered(vault, date)
 
 
 def damaged(place):
@@ -221,4 +243,4 @@ def a_vault_from_before(bench):
 
 
 CHECKS = (snapshots_at_dates, snapshots_stay, refused_snapshots, unstored_tables, killed_snapshots, views_of_snapshots,
-          views_with_other_names, changed_snapshots, a_vault_from_before)
+          views_with_other_names, refused_whole, changed_snapshots, a_vault_from_before)

@@ -1,10 +1,10 @@
-"""The examples of README.md and docs/manual, as the pages have them.
+"""The examples of README.md, docs/manual and the READMEs of examples/, as the pages have them.
 
 A page has fenced blocks of these kinds; any other block is passed over:
 
     ```file:NAME    a file. It stands from there on, for each later example of the page, until it is given again
-    ```sh run       an example: commands, run by bash in a fresh folder that has the files so far; PORT is a port
-                    that nobody has
+    ```sh run       an example: commands, run by bash in a fresh folder that has the files so far, or, of an example's
+                    README, in a fresh copy of its folder that has them; PORT is a port that nobody has
     ```sh run if PROGRAM    the same, which is left out, with a line, where the program is not on this machine
     ```sql run      an example: queries, run by psql, and left out where there is no PostgreSQL
     ```out          what the example behind which it stands writes to standard output; absent: nothing
@@ -36,12 +36,21 @@ class Example(NamedTuple):
     def place(self):
         return f"{self.page.relative_to(TOP)}:{self.line}"
 
+    def home(self):
+        """Where it is run, from the fresh folder, which has a copy of examples/."""
+        folder = self.page.parent.relative_to(TOP)
+        return folder if folder.parts[:1] == ("examples",) else pathlib.Path()
+
     def expects(self, part):
         return self.expected.get(part, ABSENT[part])
 
 
-def all_pages():
+def manual_pages():
     return [TOP / "README.md", *sorted((TOP / "docs" / "manual").glob("*.md"))]
+
+
+def all_pages():
+    return [*manual_pages(), *sorted((TOP / "examples").glob("*/README.md"))]
 
 
 def examples_of(page):

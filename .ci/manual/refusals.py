@@ -2,7 +2,7 @@
 writes. An example that is left out on some machines is no case."""
 import re
 
-from manual.pages import TOP, all_pages, examples_of
+from manual.pages import TOP, examples_of, manual_pages
 
 # The sources, as texts: those of the program's crates, without tests and worked examples.
 CODE = re.compile(r'"((?:[WQ]\d+|\d+) [A-Z]\w+)')
@@ -17,7 +17,7 @@ BUILDING = ("vaultdesk: waiting for rt", "vaultdesk: built")
 def sources(pattern):
     """The texts of the program's own sources."""
     for path in sorted(TOP.glob(f"crates/*/{pattern}")):
-        if not re.search(r"_(tests|shown|samples|laws)$", path.relative_to(TOP).parts[1]):
+        if not re.search(r"_(cases|tests|shown|samples|laws)$", path.relative_to(TOP).parts[1]):
             yield path.read_text(encoding="utf-8")
 
 
@@ -46,7 +46,7 @@ def refusals():
 
 def cases():
     """The examples of the manual that every machine runs."""
-    return [example for page in all_pages() for example in examples_of(page) if not example.needs and example.kind == "sh"]
+    return [example for page in manual_pages() for example in examples_of(page) if not example.needs and example.kind == "sh"]
 
 
 def without_case():
