@@ -49,10 +49,12 @@ def stopped_load(vault, manifest, seconds):
     process = vault.begin("load", manifest, err_to=subprocess.PIPE)
     time.sleep(seconds)
     process.send_signal(signal.SIGSTOP)
-    _, status = os.waitpid(process.pid, os.WUNTRACED)
-    if os.WIFSTOPPED(status):
-        return process
-    process.returncode = os.waitstatus_to_exitcode(status)
+    # Where it had ended, its status was taken before the signal was sent.
+    if process.returncode is None:
+        _, status = os.waitpid(process.pid, os.WUNTRACED)
+        if os.WIFSTOPPED(status):
+            return process
+        process.returncode = os.waitstatus_to_exitcode(status)
     process.stderr.close()
     return None
 
