@@ -10,8 +10,9 @@ TOP = pathlib.Path(__file__).resolve().parent.parent
 
 
 def built_program():
-    """The repository's program; the script vaultdesk builds it where a source is newer."""
-    subprocess.run([TOP / "vaultdesk"], stdin=subprocess.DEVNULL, stderr=subprocess.DEVNULL)
+    """The repository's program, which the script vaultdesk builds where it is not built of these sources."""
+    subprocess.run([TOP / "vaultdesk"], env={**os.environ, "VAULTDESK_BUILD": "1"}, stdin=subprocess.DEVNULL,
+                   stderr=subprocess.DEVNULL)
     return TOP / "crates/vaultdesk/out/vaultdesk"
 
 

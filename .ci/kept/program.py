@@ -28,12 +28,13 @@ class Answer(NamedTuple):
 
 
 def found_program():
-    """The program that the environment names, or the repository's, which the script `vaultdesk` builds where a source
-    is newer."""
+    """The program that the environment names, or the repository's, which the script `vaultdesk` builds where it is not
+    built of these sources."""
     named = os.environ.get("VAULTDESK")
     if named:
         return pathlib.Path(named).resolve()
-    subprocess.run([TOP / "vaultdesk"], stdin=subprocess.DEVNULL, stdout=subprocess.DEVNULL, stderr=subprocess.DEVNULL)
+    subprocess.run([TOP / "vaultdesk"], env={**os.environ, "VAULTDESK_BUILD": "1"}, stdin=subprocess.DEVNULL,
+                   stdout=subprocess.DEVNULL, stderr=subprocess.DEVNULL)
     if not BUILT.exists():
         raise SystemExit("kept check failed: the script vaultdesk did not build the program")
     return BUILT

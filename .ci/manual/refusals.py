@@ -9,9 +9,8 @@ CODE = re.compile(r'"((?:[WQ]\d+|\d+) [A-Z]\w+)')
 LINE = re.compile(r'b"((?:vaultdesk|init|resume|snapshot): [^"\\]+)')
 FORM_RULE = re.compile(r"\bF(\d+)\b")
 STATUS = re.compile(r"^    \w+ = (\d+),$", re.M)
-SCRIPT_LINE = re.compile(r'echo "(vaultdesk: [^"]+)"')
-# Lines of the script that refuse nothing, and which `manual-checks` passes over.
-BUILDING = ("vaultdesk: waiting for rt", "vaultdesk: built")
+# What the script `vaultdesk` says, up to what differs from run to run.
+SCRIPT_LINE = re.compile(r'(?:fail "|echo "vaultdesk: )([^"$]+)')
 
 
 def sources(pattern):
@@ -39,9 +38,6 @@ def refusals():
         yield text.rstrip(), as_line(text)
     for number in printed(FORM_RULE, "specs/*.antt"):
         yield f"F{number}", re.compile(rf"^vaultdesk: damaged \S+ \d+ F{number}$", re.M)
-    for text in SCRIPT_LINE.findall((TOP / "vaultdesk").read_text(encoding="utf-8")):
-        if not text.startswith(BUILDING):
-            yield text, as_line(text)
 
 
 def cases():
@@ -50,7 +46,7 @@ def cases():
 
 
 def without_case():
-    """What is printed, or is an exit status, and has no case."""
+    """What is printed, or is an exit status, and has no case; and what the script says and the page of commands has not."""
     examples = cases()
     lines = "\n".join(example.expects(part) for example in examples for part in ("out", "err"))
     for text, line in refusals():
@@ -60,3 +56,7 @@ def without_case():
     for status in STATUS.findall((TOP / "crates/dv_outside/src/statuses.rt").read_text(encoding="utf-8")):
         if status not in statuses:
             yield f"no example of the manual ends with status {status}"
+    page = (TOP / "docs/manual/commands.md").read_text(encoding="utf-8")
+    for text in SCRIPT_LINE.findall((TOP / "vaultdesk").read_text(encoding="utf-8")):
+        if text.strip() not in page:
+            yield f"the script says `{text}`, which docs/manual/commands.md has not"
