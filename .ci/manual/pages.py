@@ -5,7 +5,8 @@ A page has fenced blocks of these kinds; any other block is passed over:
     ```file:NAME    a file. It stands from there on, for each later example of the page, until it is given again
     ```sh run       an example: commands, run by bash in a fresh folder that has the files so far, or, of an example's
                     README, in a fresh copy of its folder that has them; PORT is a port that nobody has
-    ```sh run if PROGRAM    the same, which is left out, with a line, where the program is not on this machine
+    ```sh run if PROGRAM    the same, which is left out, with a line, where the program is not on this machine; of
+                    PYTHON:MODULE, where that Python lacks the module
     ```sql run      an example: queries, run by psql, and left out where there is no PostgreSQL
     ```out          what the example behind which it stands writes to standard output; absent: nothing
     ```err          the same of standard error
@@ -16,6 +17,8 @@ import re
 from typing import NamedTuple, Optional
 
 TOP = pathlib.Path(__file__).resolve().parents[2]
+# Where pages are: the README, the manual, the READMEs of the examples.
+PAGES = ("README.md", "docs/manual/*.md", "examples/*/README.md")
 BLOCK = re.compile(r"^```([^\n`]*)\n(.*?)^```$", re.M | re.S)
 RUN = re.compile(r"(sh|sql) run(?: if (\S+))?")
 # What an example is to write, where no block says it.
@@ -46,11 +49,11 @@ class Example(NamedTuple):
 
 
 def manual_pages():
-    return [TOP / "README.md", *sorted((TOP / "docs" / "manual").glob("*.md"))]
+    return [path for form in PAGES[:2] for path in sorted(TOP.glob(form))]
 
 
 def all_pages():
-    return [*manual_pages(), *sorted((TOP / "examples").glob("*/README.md"))]
+    return [path for form in PAGES for path in sorted(TOP.glob(form))]
 
 
 def examples_of(page):
