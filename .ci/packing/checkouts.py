@@ -15,7 +15,7 @@ NOBODY = 65534
 # The toolchain of a release that is made for the checks.
 TOOLCHAIN = "rattle-kit-for-checks logic 0"
 # Beside the sources, what a check needs of the checkout.
-KEPT = ("vaultdesk", "crates.txt", "HANDLES", "README.md", ".ci", "examples", "docs/manual")
+KEPT = ("vaultdesk", "crates.txt", "HANDLES", "README.md", ".ci", "examples", "docs")
 
 RT = """\
 #!/bin/sh

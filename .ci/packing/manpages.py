@@ -7,6 +7,7 @@ out, since a package has the program alone.
 import re
 
 BLOCK = re.compile(r"```([^\n`]*)\n(.*?)^```$", re.M | re.S)
+LINK = re.compile(r"\[([^]]*)\]\([^)\s]*\)")
 # What is said before a block that shows what an example writes.
 SHOWN = {"out": "writes", "err": "writes on standard error", "status": "ends with the status"}
 # A row of more columns than these is one line.
@@ -17,7 +18,7 @@ NAME = "vaultdesk \\- a Data Vault 2.0 warehouse of CSV extracts, with reports a
 FILES = (
     ("mapping.toml", "the mapping, in the folder in which a command is given"),
     ("vault.db, vault.db-wal", "the vault, and the log that is part of it, in the same folder"),
-    ("/usr/share/doc/vaultdesk/manual", "the manual, of which this page is one; it stands there in place of docs/manual"),
+    ("/usr/share/doc/vaultdesk/docs/manual", "the manual, of which this page is one; README.md there lists the pages"),
     ("/usr/share/doc/vaultdesk/examples", "the examples that the manual speaks of"),
 )
 
@@ -31,7 +32,8 @@ def bold(text):
 
 
 def inline(text):
-    """A text with code and stress in bold."""
+    """A text with code and stress in bold, and of links what they show."""
+    text = LINK.sub(r"\1", text)
     # Every second part is one that the pattern found.
     parts = re.split(r"(`[^`]+`|\*\*.+?\*\*)", text)
     return "".join(bold(part.strip("`*")) if at % 2 else escaped(part) for at, part in enumerate(parts))

@@ -1,7 +1,6 @@
 """Checks of the Debian package: what is in it, what lintian and man say of it, what completion offers, and the package
 installed, used and removed."""
 import os
-import pathlib
 import re
 import shutil
 import subprocess
@@ -9,7 +8,8 @@ import sys
 import tomllib
 
 from kept.program import CheckFailed, expect
-from manual.pages import all_pages, examples_of
+from manual.links import faults_in
+from manual.pages import PAGES, all_pages, examples_of
 from packing import packages
 from packing.checkouts import TOP, append
 from packing.releases import sum_of
@@ -94,17 +94,20 @@ def lacks(*programs):
 
 
 def what_it_has(trial):
-    """the package has the released program byte for byte, the manual and the examples, and is the same when made again"""
+    """the package has the released program byte for byte, documents and examples whose links can be followed there, and is
+    the same when made again"""
     lacks("dpkg-deb")
     package = package_of(trial)
     before, root = package.read_bytes(), unpacked(trial, package)
     expect("made again", True, package_of(trial).read_bytes() == before)
     program = (root / "usr/bin/vaultdesk").read_bytes()
     expect("the program's sum", (trial.release / "SHA256SUMS").read_text()[:64], sum_of(program))
-    for folder, form in (("docs/manual", "*.md"), ("examples", "*/*")):
-        of_checkout = {str(at.relative_to(trial.top / folder)): at.read_bytes() for at in (trial.top / folder).glob(form)}
-        inside = root / "usr/share/doc/vaultdesk" / pathlib.Path(folder).name
-        expect(folder, of_checkout, {str(at.relative_to(inside)): at.read_bytes() for at in inside.glob(form)})
+    inside = root / "usr/share/doc/vaultdesk"
+    for form in packages.COPIED:
+        of_checkout = {str(at.relative_to(trial.top)): at.read_bytes() for at in trial.top.glob(form)}
+        expect(form, of_checkout, {str(at.relative_to(inside)): at.read_bytes() for at in inside.glob(form)})
+    found = [f"{page.name}: {fault}" for form in PAGES for page in inside.glob(form) for _, fault in faults_in(page)]
+    expect("links that lead nowhere", [], found)
     done = subprocess.run(["dpkg-deb", "--field", package, "Package", "Version", "Architecture"], capture_output=True, text=True)
     version = (trial.top / "VERSION").read_text().split()[0]
     expect("its fields", f"Package: vaultdesk\nVersion: {version}\nArchitecture: amd64\n", done.stdout)
@@ -142,7 +145,7 @@ def man_page(trial):
     for status in range(9):
         if not re.search(rf"^ +{status} +when: ", plain, re.M):
             raise CheckFailed(f"the man page has no line of the status {status}")
-    if re.search(r"`|\*\*|^ *\|", plain, re.M):
+    if re.search(r"`|\*\*|^ *\||\]\(", plain, re.M):
         raise CheckFailed("the man page has signs of Markdown")
 
 

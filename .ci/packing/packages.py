@@ -1,7 +1,7 @@
 """The Debian package of the release: its files, and how dpkg-deb makes it of them.
 
-It has the released program, byte for byte, a man page, completion for bash, the manual and its examples. The same release
-gives the same package: files have the date of VERSION and belong to root.
+It has the released program, byte for byte, a man page, completion for bash, the documents with the manual, and the
+examples. The same release gives the same package: files have the date of VERSION and belong to root.
 """
 import datetime
 import gzip
@@ -43,10 +43,13 @@ vaultdesk for Debian
 The program is the one of the release {version}, byte for byte: its SHA-256 sum is
 {sum}.
 
-What the manual calls docs/manual stands here in manual/, and examples/ beside
-it. Copy an example into a folder of your own before you try it. Where the
-manual speaks of the script vaultdesk at the top of a checkout, read the program.
+README.md, docs/ and examples/ are those of the repository; the manual begins in
+docs/manual/README.md. Copy an example into a folder of your own before you try
+it. Where the manual speaks of the script vaultdesk at the top of a checkout,
+read the program.
 """
+# What is copied to the same paths below the package's folder of documents, so that links lead on there.
+COPIED = ("README.md", "docs/*.md", "docs/manual/*.md", "examples/*/*")
 # lintian's tags that are no fault here, each with why.
 OVERRIDES = (("unstripped-binary-or-object", "the program is that of the release, byte for byte, so that its sum can be held to it"),)
 
@@ -89,12 +92,10 @@ def own_files(program, version, date):
 
 
 def copied_files():
-    """The contents of the manual and of its examples, by their paths in the package."""
-    for folder, form in (("docs/manual", "*.md"), ("examples", "*/*")):
-        for path in sorted((TOP / folder).glob(form)):
-            if path.is_file() and not path.name.startswith("vault.db"):
-                place = path.relative_to(TOP / folder)
-                yield f"usr/share/doc/vaultdesk/{folder.rpartition('/')[2]}/{place}", path.read_bytes()
+    """The contents of the documents and the examples, by their paths in the package."""
+    for path in sorted(path for form in COPIED for path in TOP.glob(form)):
+        if path.is_file() and not path.name.startswith("vault.db"):
+            yield f"usr/share/doc/vaultdesk/{path.relative_to(TOP)}", path.read_bytes()
 
 
 def control(files, program, version):

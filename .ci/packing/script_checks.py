@@ -143,6 +143,20 @@ def others_do_not(trial):
     expect("the release", RELEASED, trial.run())
 
 
+def installed_goes_on(trial):
+    """a program that is installed by the commands of the manual is run as it is where a source was changed since"""
+    page = (trial.top / "docs/manual/commands.md").read_text()
+    commands = re.search(r"^```\n(version=.*?)^```$", page, re.M | re.S)[1]
+    folder = trial.folder / "bin"
+    folder.mkdir()
+    expect("the program of the release", RELEASED, trial.run())
+    installing = commands.replace("sudo ", "").replace("/usr/local/bin", str(folder))
+    expect("the commands", (0, b"", b""), trial.run("bash", "-ec", installing, at=trial.top))
+    append(trial.top / "crates/dv_text/src/lib.rt", "// more\n")
+    expect("the script", refused(NO_RT + DIFFERS), trial.run())
+    expect("the installed program", RELEASED, trial.run(folder / "vaultdesk", "windows"))
+
+
 def changed_is_built(trial):
     """changed sources are told in one line and built once; where they are as before, the release is run again"""
     source = trial.top / "crates/dv_text/src/lib.rt"
@@ -308,5 +322,5 @@ def many_at_once(trial):
 
 
 CHECKS = (answers_at_once, first_vault, asks_no_rt, by_a_link, times_decide_nothing, sources_decide, others_do_not,
-          changed_is_built, built_in_any_case, edited_meanwhile, damaged, sources_gone, another_program, another_machine,
-          no_xz, unpacked_changed, read_only, no_room, many_at_once)
+          installed_goes_on, changed_is_built, built_in_any_case, edited_meanwhile, damaged, sources_gone, another_program,
+          another_machine, no_xz, unpacked_changed, read_only, no_room, many_at_once)
