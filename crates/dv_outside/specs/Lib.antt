@@ -11,3 +11,4 @@ pub mod MemorySinks
 pub mod RealFolders
 pub mod RealLinks
 pub mod RealStreams
+pub mod Seen

@@ -7,6 +7,15 @@ use crate::doors::Doors;
 use crate::folders::Failed;
 use crate::real_links::RealLink;
 use std::net::{Ipv4Addr, Net, SocketAddr, TcpListener, TcpStream};
+use std::thread::sleep;
+use std::time::{Clock, Duration};
+
+/// How often the next connection is asked for in one call of `next`. The system may refuse one for a reason
+/// that passes, as where too many files are open or a client has gone.
+const MOST_TRIES: u32 = 50;
+
+/// The pause behind each refusal, in milliseconds.
+const PAUSE_MILLIS: u64 = 100;
 
 /// A listener on 127.0.0.1, which is opened at the first call of `next`. It tells nothing of the
 /// connections, and counts its faults: each `next` without a port or a listener, or that gave no connection.
@@ -33,7 +42,7 @@ impl<R> RealDoors<R> {
     }
 }
 
-impl<R: Net<Listener = TcpListener, Stream = TcpStream>> RealDoors<R> {
+impl<R: Net<Listener = TcpListener, Stream = TcpStream> + Clock> RealDoors<R> {
     // Opens the listener where it is not open, and answers whether it is.
     pub(crate) fn open(&mut self) -> bool
         ensures port { real_doors_port self.new ≡ real_doors_port self.old }
@@ -45,9 +54,21 @@ impl<R: Net<Listener = TcpListener, Stream = TcpStream>> RealDoors<R> {
         }
         self.listener.is_some()
     }
+
+    // The next connection; none without a listener, or where the system refuses it each time.
+    fn accept(&self) -> Option<RealLink> {
+        let listener = self.listener.as_ref()?;
+        for _ in 0..MOST_TRIES {
+            if let Ok(line) = RealLink::accept(listener) {
+                return Some(line);
+            }
+            sleep(&self.rt, Duration::from_millis(PAUSE_MILLIS));
+        }
+        None
+    }
 }
 
-impl<R: Net<Listener = TcpListener, Stream = TcpStream>> Doors for RealDoors<R> {
+impl<R: Net<Listener = TcpListener, Stream = TcpStream> + Clock> Doors for RealDoors<R> {
     type Line = RealLink;
 
     ghost lines = { real_doors_lines };
@@ -71,16 +92,15 @@ impl<R: Net<Listener = TcpListener, Stream = TcpStream>> Doors for RealDoors<R> 
         ensures some { IfOk result (λ line. IsSome line) }
     {
         if self.open()
-            && let Some(listener) = &self.listener
-            && let Ok((stream, _)) = listener.accept()
+            && let Some(line) = self.accept()
         {
-            return Ok(Some(RealLink::new(stream)));
+            return Ok(Some(line));
         }
         self.faults = self.faults.saturating_add(1);
         Err(Failed)
     }
 
     fn done(&mut self, line: RealLink) {
-        drop(line);
+        line.close(&self.rt);
     }
 }

@@ -4,7 +4,26 @@ ghost use Rattle.dv_outside.specs.RealStreams.{real_out_faults, real_err_faults}
 
 use crate::folders::Failed;
 use crate::sinks::Sink;
-use std::io::{Stderr, Stdout, Write};
+use std::io;
+use std::io::{ErrorKind, Read, Stderr, Stdout, Write};
+
+// How often a call of the system is made that signals break off. One that has a limit of time is broken off
+// also where the process is stopped and goes on.
+const MOST_TRIES: u32 = 1_000;
+
+// The bytes that one call of the system gives.
+pub(crate) fn read_some<R: Read>(from: &mut R, into: &mut [u8]) -> io::Result<usize>
+    ensures { IfOk result (λ n. n ≤ length into.new) }
+{
+    for _ in 0..MOST_TRIES {
+        match from.read(into) {
+            Ok(count) => return Ok(count),
+            Err(e) if e.kind() == ErrorKind::Interrupted => {}
+            Err(e) => return Err(e),
+        }
+    }
+    Err(io::Error::from(ErrorKind::Interrupted))
+}
 
 // Neither the standard streams nor a connection keep a buffer: each write is one call of the system, and its
 // failure is answered by that very call.
@@ -17,13 +36,15 @@ pub(crate) fn write_some<W: Write>(
     ensures within { IfOk result (λ n. n ≤ length piece.now) }
     ensures cause { HasCause faults.old faults.new result }
 {
-    match to.write(piece) {
-        Ok(count) if count > 0 => Ok(count),
-        _ => {
-            *faults = faults.saturating_add(1);
-            Err(Failed)
+    for _ in 0..MOST_TRIES {
+        match to.write(piece) {
+            Ok(count) if count > 0 => return Ok(count),
+            Err(e) if e.kind() == ErrorKind::Interrupted => {}
+            _ => break,
         }
     }
+    *faults = faults.saturating_add(1);
+    Err(Failed)
 }
 
 /// Standard output. It tells nothing of what was written, and counts its faults: each write that failed or
