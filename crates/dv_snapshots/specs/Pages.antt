@@ -27,7 +27,14 @@ TellsPage own is_sound most stored rows pages.More = AreFirst own is_sound most 
 TellsPage own is_sound most stored rows pages.Last = TellsRows own is_sound (page 0 most stored) (Rows rows)
 TellsPage own is_sound most stored rows (pages.Flawed row) = TellsRows own is_sound (page 0 most stored) (Flawed row)
 
--- a page behind which there may be more has rows, and fewer were read before it than are asked for
+-- a page behind which there may be more has rows, and fewer were read before it than are asked for; a flawed row is
+-- counted from 1
 abbrev pub IsGrown : {R : Type 0} → ℕ → List R → List R → Page → Type 0
 IsGrown most before rows pages.More = (length before < length rows) × (length before < most)
-IsGrown most before rows page = Unit {0}
+IsGrown most before rows pages.Last = Unit {0}
+IsGrown most before rows (pages.Flawed row) = 1 ≤ row
+
+-- and so is one that reading all of them came to
+abbrev pub CountsFlaw : {R : Type 0} → Read R → Type 0
+CountsFlaw (Rows read) = Unit {0}
+CountsFlaw (Flawed row) = 1 ≤ row

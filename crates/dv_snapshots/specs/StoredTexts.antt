@@ -1,5 +1,6 @@
 -- The text of a stored table of a snapshot, and the damage that its rows can show.
-use Rattle.std.specs.Prelude.{◌≡◌, ◌<◌, ℕ, ◌++◌, List, None, Option, Some, codes, length, slice_get}
+use Rattle.std.specs.Prelude.{◌≡◌, ◌<◌, ◌≤◌, ℕ, ◌++◌, List, None, Option, Some, codes, length, slice_get}
+use Rattle.dv_text.specs.declared.rows.Key.{Key}
 use Rattle.dv_text.specs.declared.rows.Window.{Window}
 use Rattle.dv_text.specs.Keys.{Hashes}
 use Rattle.dv_catalog.specs.Entries.{Mapping}
@@ -11,12 +12,14 @@ use Rattle.dv_records.specs.declared.snapshots.SnapHead.{SnapHead}
 use Rattle.dv_records.specs.declared.snapshots.SnapId.{SnapId}
 use Rattle.dv_records.specs.declared.snapshots.SnapId.TheVariants.{Pit, Bridge}
 use Rattle.dv_records.specs.declared.stores.Rows.{Rows}
+use Rattle.dv_records.specs.declared.stores.Store.{Store}
 use Rattle.dv_records.specs.Snapshots.{bridge, pit}
+use Rattle.dv_records.specs.States.{State}
 use Rattle.dv_snapshots.specs.declared.asked.Asked.{Asked}
 use Rattle.dv_snapshots.specs.RowForms.{bridge_form, bridges_in, is_sound_bridge, is_sound_pit, pit_form, pits_in}
 use Rattle.dv_snapshots.specs.StoredRows.{asked_of, first_flaw, head_at, own_rows, read_rows}
 use Rattle.dv_texts.specs.Texts.{bridge_text, pit_text}
-use Rattle.dv_window.specs.Offices.{Held}
+use Rattle.dv_window.specs.Offices.{Held, IsIn}
 
 -- ---- a table of a snapshot
 
@@ -50,6 +53,12 @@ flawed_row mapping width (Bridge path) rows = first_flaw bridges_in (is_sound_br
 
 -- ---- what is asked for of the stored snapshots
 
+-- the damage names a row of a table, whatever is stored: by its number from 1, and the rule F4
+pub record IsRowOf (mapping : Mapping) (id : SnapId) (damage : Damage) : Type 0 where
+  pub counted : 1 ≤ damage.row
+  pub table_is : damage.table ≡ snap_name mapping id
+  pub rule_is : damage.rule ≡ 4
+
 -- none of the rows that are asked for is flawed, and the text has them
 pub record IsTextOf (mapping : Mapping) (width : ℕ) (asked : Asked) (snapshots : List Snap) (text : List ℕ) : Type 0 where
   pub sound : flawed_row mapping width asked.id (read_rows asked snapshots) ≡ None
@@ -71,3 +80,9 @@ pub record IsStoredDamage (held : Held) (id : SnapId) (date : ℕ) (snapshots : 
   pub head : SnapHead
   pub head_is : head_at date held.snapshots ≡ Some head
   pub damage_is : IsDamageOf held.vault.mapping held.width (asked_of id head) snapshots damage
+
+-- in no state are an office and its keeper's store, which is told, by digests of the office's width
+abbrev pub AreInNoState : Held → Option Store → Type 0
+AreInNoState held stored =
+    (hashes : Hashes) (state : State) (store : Store) → stored ≡ Some store → IsIn hashes state held (Some store)
+    → ((refs : List Key) → length (hashes.hash refs) ≡ held.width) → ⊥

@@ -3,7 +3,7 @@ ghost use Rattle.std.specs.List.{position};
 ghost use Rattle.std.specs.Prelude.{◌≡◌, ◌<◌, ◌+◌, ◌^◌, [], None, Some, IfErr, IfOk, not};
 ghost use Rattle.dv_text.specs.Told.{Told};
 ghost use Rattle.dv_records.specs.Changes.{KeeperCause};
-ghost use Rattle.dv_snapshots.specs.Pages.{AreFirst, IsGrown, TellsPage, TellsRows};
+ghost use Rattle.dv_snapshots.specs.Pages.{AreFirst, CountsFlaw, IsGrown, TellsPage, TellsRows};
 ghost use Rattle.dv_snapshots.specs.StoredRows as spec;
 
 use crate::asked::Asked;
@@ -129,6 +129,7 @@ pub(crate) fn read_rows<R: Drop, F: RowForm<R>, K: Keeper>(
     asked: &Asked,
     form: &F,
 ) -> Result<Read<R>, KeeperError>
+    ensures counted { IfOk result CountsFlaw }
     ensures told { IfOk result (λ read. Told (K.store keeper.old) (λ s. TellsRows F.own (F.is_sound form.now) (spec.read_rows asked.now s.snapshots) read)) }
     ensures kept { K.store keeper.new ≡ K.store keeper.old }
     ensures cause { KeeperCause (K.faults keeper.old) (K.faults keeper.new) result }

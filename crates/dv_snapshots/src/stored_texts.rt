@@ -1,6 +1,5 @@
 // The text of a stored table of a snapshot.
-ghost use Rattle.std.specs.Prelude.{◌≡◌, ◌↔◌, ◌≤◌, IfOk, IsErrOf, List, None, Some, false, length};
-ghost use Rattle.dv_text.specs.declared.rows.Key.{Key};
+ghost use Rattle.std.specs.Prelude.{◌≡◌, ◌↔◌, ◌≤◌, IfOk, IsErrOf, None, Some, false};
 ghost use Rattle.dv_text.specs.Causes.{Rose};
 ghost use Rattle.dv_text.specs.Keys.{Hashes};
 ghost use Rattle.dv_text.specs.Told.{Told};
@@ -9,7 +8,7 @@ ghost use Rattle.dv_records.specs.declared.stores.Store.{Store};
 ghost use Rattle.dv_records.specs.States.{State};
 ghost use Rattle.dv_snapshots.specs.StoredRows as rows;
 ghost use Rattle.dv_snapshots.specs.StoredTexts as spec;
-ghost use Rattle.dv_window.specs.Offices.{IsIn};
+ghost use Rattle.dv_window.specs.Offices.{IsIn, made_stale};
 
 use crate::asked::{Asked, asked_of, head_at};
 use crate::bridge_forms::bridge_form;
@@ -36,6 +35,7 @@ fn asked_text<K: Keeper>(
     requires { spec.HasTable catalog.now asked.now.id }
     ensures text { IfOk result (λ text. Told (K.store keeper.old) (λ s. spec.IsTextOf catalog.now width asked.now s.snapshots text)) }
     ensures damaged { (damage : Damage) → IsErrOf result (StoredFault.Damaged damage) → Told (K.store keeper.old) (λ s. spec.IsDamageOf catalog.now width asked.now s.snapshots damage) }
+    ensures formed { (damage : Damage) → IsErrOf result (StoredFault.Damaged damage) → spec.IsRowOf catalog.now asked.now.id damage }
     ensures stored { IsErrOf result StoredFault.NoSnapshot → ⊥ }
     ensures kept { K.store keeper.new ≡ K.store keeper.old }
     ensures cause { IsErrOf result StoredFault.KeeperFault → Rose (K.faults keeper.old) (K.faults keeper.new) }
@@ -72,22 +72,26 @@ fn asked_text<K: Keeper>(
 /// digests than the links of these have hubs together. It names the first such row, counted from 1,
 /// the table, `pit_H` or `bridge_P`, and the rule F4; it never comes where the store stands for a
 /// state that the office is in, by digests of the office's width. `KeeperFault` comes only where
-/// the keeper's count of faults rose. The store is as before. Conditions: the office isn't stale,
-/// and the mapping has the hub or the path.
+/// the keeper's count of faults rose, and leaves the office stale; else the office is as before.
+/// The store is as before. Conditions: the office isn't stale, and the mapping has the hub or the
+/// path.
 pub fn stored_text<K: Keeper>(
     alloc: Global,
-    office: &Office,
+    office: &mut Office,
     keeper: &mut K,
     id: SnapId,
     date: Stamp,
 ) -> Result<Text, StoredFault>
-    requires fresh { office.now.stale ≡ false }
-    requires table { spec.HasTable office.now.vault.mapping id }
-    ensures absent { IsErrOf result StoredFault.NoSnapshot ↔ (rows.head_at date office.now.snapshots ≡ None) }
-    ensures text { IfOk result (λ text. Told (K.store keeper.old) (λ s. spec.IsStoredText office.now id date s.snapshots text)) }
-    ensures damaged { (damage : Damage) → IsErrOf result (StoredFault.Damaged damage) → Told (K.store keeper.old) (λ s. spec.IsStoredDamage office.now id date s.snapshots damage) }
-    ensures state { IfOk result (λ text. (hashes : Hashes) (state : State) (store : Store) → K.store keeper.old ≡ Some store → IsIn hashes state office.now (Some store) → text ≡ spec.table_text office.now.vault.mapping hashes state.sealed id date) }
-    ensures undamaged { (damage : Damage) → IsErrOf result (StoredFault.Damaged damage) → (hashes : Hashes) (state : State) (store : Store) → K.store keeper.old ≡ Some store → IsIn hashes state office.now (Some store) → ((refs : List Key) → length (hashes.hash refs) ≡ office.now.width) → ⊥ }
+    requires fresh { office.old.stale ≡ false }
+    requires table { spec.HasTable office.old.vault.mapping id }
+    ensures absent { IsErrOf result StoredFault.NoSnapshot ↔ (rows.head_at date office.old.snapshots ≡ None) }
+    ensures text { IfOk result (λ text. Told (K.store keeper.old) (λ s. spec.IsStoredText office.old id date s.snapshots text)) }
+    ensures damaged { (damage : Damage) → IsErrOf result (StoredFault.Damaged damage) → Told (K.store keeper.old) (λ s. spec.IsStoredDamage office.old id date s.snapshots damage) }
+    ensures formed { (damage : Damage) → IsErrOf result (StoredFault.Damaged damage) → spec.IsRowOf office.old.vault.mapping id damage }
+    ensures state { IfOk result (λ text. (hashes : Hashes) (state : State) (store : Store) → K.store keeper.old ≡ Some store → IsIn hashes state office.old (Some store) → text ≡ spec.table_text office.old.vault.mapping hashes state.sealed id date) }
+    ensures undamaged { (damage : Damage) → IsErrOf result (StoredFault.Damaged damage) → spec.AreInNoState office.old (K.store keeper.old) }
+    ensures stale { IsErrOf result StoredFault.KeeperFault → office.new ≡ made_stale office.old }
+    ensures left { (IsErrOf result StoredFault.KeeperFault → ⊥) → office.new ≡ office.old }
     ensures kept { K.store keeper.new ≡ K.store keeper.old }
     ensures cause { IsErrOf result StoredFault.KeeperFault → Rose (K.faults keeper.old) (K.faults keeper.new) }
     ensures later { K.faults keeper.old ≤ K.faults keeper.new }
@@ -96,5 +100,9 @@ pub fn stored_text<K: Keeper>(
         return Err(StoredFault::NoSnapshot);
     };
     let asked = asked_of(id, head);
-    asked_text(alloc, office.catalog(), office.width(), keeper, &asked)
+    let text = asked_text(alloc, office.catalog(), office.width(), keeper, &asked);
+    if matches!(text, Err(StoredFault::KeeperFault)) {
+        office.mark_stale();
+    }
+    text
 }

@@ -1,21 +1,46 @@
--- Where the store of a stale office stands for a state, its mapping is the office's.
-use Rattle.dv_window.proofs.Vocabulary.{None, Some, inl, inr, sym, ◌∙◌, ◌≡◌, ◌⊎◌, Damage, Hashes, IsNotRead, IsOtherMapping, Mapping, Stands, State, Store, refl, CompletesTo, Held, IsLeftIn, Option, StartFault, StepsTo, WindowIn, unrefreshed, unresumed, Err, Ok, Result}
+-- The damage of a stale office's store, and where it has none of the mapping.
+use Rattle.dv_window.proofs.Vocabulary.{None, Some, ap, inl, inr, same_Some, sym, ℕ, ◌∙◌, ◌≡◌, ◌⊎◌, BreaksRule, Damage, Hashes, IsDamageFor, IsNotRead, IsOther, IsOtherMapping, IsReadAs, Mapping, Stands, State, Store, read_mapping}
+use Rattle.dv_window.proofs.Vocabulary.{refl, CompletesTo, Held, IsLeftIn, Option, StartFault, StepsTo, WindowIn, unrefreshed, unresumed, Err, Ok, Result}
 use Rattle.dv_records.specs.declared.answers.LoadAnswer.TheVariants as answers
 use Rattle.dv_records.specs.declared.answers.ResumeAnswer.TheVariants as resumed
 use Rattle.dv_start.specs.declared.faults.StartFault.TheVariants as faults
 use Rattle.dv_start.proofs.StandingStores.{never_unread, same_mapping}
 
-module _ (mapping : Mapping) (hashes : Hashes) (state : State) (store : Store) (stands : Stands mapping hashes state store) where
-  pub none_other : (damage : Damage) → IsOtherMapping mapping store damage → ⊥
-  none_other damage (inl gone, is) = none (sym stands.mapped.stored_is ∙ gone)
-    where
-      none : Some stands.mapped.text ≡ None → ⊥
-      none e = cc
-  none_other damage (inr (other, read, differs), is) = differs (same_mapping other mapping store read stands.mapped)
+-- ---- the stored text is not another mapping
 
-  pub not_damaged : (damage : Damage) → IsOtherMapping mapping store damage ⊎ IsNotRead store damage → ⊥
-  not_damaged damage (inl other) = none_other damage other
-  not_damaged damage (inr unread) = never_unread mapping hashes state store stands damage unread
+-- where it is read as the mapping
+pub not_other : (mapping : Mapping) (store : Store) → IsReadAs mapping store → IsOther mapping store → ⊥
+not_other mapping store here (inl gone) = none (sym here.stored_is ∙ gone)
+  where
+    none : Some here.text ≡ None → ⊥
+    none e = cc
+not_other mapping store here (inr (other, read, differs)) = differs (same_mapping other mapping store read here)
+
+-- where it is read as none
+unread_not_other : (mapping : Mapping) (store : Store) (damage : Damage) → IsNotRead store damage → IsOther mapping store → ⊥
+unread_not_other mapping store damage unread (inl gone) = none (sym unread.stored_is ∙ gone)
+  where
+    none : Some unread.text ≡ None → ⊥
+    none e = cc
+unread_not_other mapping store damage unread (inr (other, read, differs)) =
+    let text : read.text ≡ unread.text = same_Some read.text unread.text (sym read.stored_is ∙ unread.stored_is) in
+    unread.refused other (ap read_mapping (sym text) ∙ read.reads)
+
+-- ---- the damage for an office
+
+-- of the mapping
+pub mapping_for : (mapping : Mapping) (hashes : Hashes) (width : ℕ) (store : Store) (damage : Damage) → IsOtherMapping mapping store damage ⊎ IsNotRead store damage → IsDamageFor mapping hashes width store damage
+mapping_for mapping hashes width store damage (inl other) = inl other
+mapping_for mapping hashes width store damage (inr unread) = inr (inl unread, unread_not_other mapping store damage unread)
+
+-- of what is behind it
+pub rule_for : (mapping : Mapping) (hashes : Hashes) (width : ℕ) (store : Store) (damage : Damage) → IsReadAs mapping store → BreaksRule hashes width mapping store damage → IsDamageFor mapping hashes width store damage
+rule_for mapping hashes width store damage read broken = inr (inr (mapping, read, broken), not_other mapping store read)
+
+-- a store that stands for a state has none of the mapping
+pub not_damaged : (mapping : Mapping) (hashes : Hashes) (state : State) (store : Store) → Stands mapping hashes state store → (damage : Damage) → IsOtherMapping mapping store damage ⊎ IsNotRead store damage → ⊥
+not_damaged mapping hashes state store stands damage (inl (other, is)) = not_other mapping store stands.mapped other
+not_damaged mapping hashes state store stands damage (inr unread) = never_unread mapping hashes state store stands damage unread
 
 -- ---- what a call answers where an office could not be refreshed
 

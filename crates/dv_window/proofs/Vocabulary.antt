@@ -29,7 +29,8 @@ pub use Rattle.dv_vault.proofs.EmptyTables.{empty_rows}
 pub use Rattle.dv_records.proofs.NoWindows.{none_valid}
 pub use Rattle.dv_vault.proofs.NoWindows.{none_sealed}
 pub use Rattle.dv_start.specs.Completions.{IsBegunAs, MayBeTaken}
-pub use Rattle.dv_start.specs.Damages.{IsFirstDamage, IsInForm, IsNotRead, IsReadAs}
+pub use Rattle.dv_catalog.specs.MappingFiles.{read_mapping}
+pub use Rattle.dv_start.specs.Damages.{BreaksRule, IsFirstDamage, IsInForm, IsNotRead, IsReadAs}
 pub use Rattle.std.specs.Prelude.{not}
 pub use Rattle.dv_start.specs.Restored.{HasKept, IsOfState}
 pub use Rattle.dv_start.specs.declared.restored.Begun.{Begun}
@@ -39,7 +40,7 @@ pub use Rattle.dv_vault.specs.Vaults.{entries_with}
 pub use Rattle.dv_vault.proofs.SealedContents.{sealed_rows}
 pub use Rattle.dv_vault.proofs.VaultCollisions.{apart_is_free, clash_collides}
 pub use Rattle.dv_vault.specs.declared.additions.Addition.{Addition}
-pub use Rattle.dv_window.specs.Offices.{Agrees, AgreesUnlessStale, CompletesTo, Held, IsDamageFor, IsIn, IsLeftIn, IsOtherMapping, LeavesOffice, LeavesStill, LeavesStore, StaleAfter, StaleThen, StandsFor, StepsTo, rows_behind, staged}
+pub use Rattle.dv_window.specs.Offices.{Agrees, AgreesUnlessStale, CompletesTo, Held, IsDamageFor, IsIn, IsLeftIn, IsOther, IsOtherMapping, LeavesOffice, LeavesStill, LeavesStore, StaleAfter, StaleThen, StandsFor, StepsTo, rows_behind, staged}
 pub use Rattle.dv_window.specs.Plans.{Collides, IsAgain, IsNewWindow, IsOpenAgain, IsPlan, IsPlanned, IsTooMuch, Stops, early_rule, given_rules, head_at, held_broken, held_with, late_by, window_read}
 pub use Rattle.dv_window.specs.Stopping.{answer_of, load_answer, resume_answer, unrefreshed, unresumed}
 pub use Rattle.dv_window.specs.Takings.{BrokeAt, CompletesAs, TookOrBroke}

@@ -37,6 +37,10 @@ pub record Held : Type 0 where
 abbrev pub staged : Held → Option Window
 staged held = option_map (λ b. b.addition.window) held.begun
 
+-- an office that is the same, but stale
+abbrev pub made_stale : Held → Held
+made_stale held = record held { stale = true }
+
 -- rows of a table, and behind them those that the open window has in it, where there are some
 abbrev pub rows_behind : Rows → Option Rows → Rows
 rows_behind rows None = rows
@@ -130,10 +134,14 @@ LeavesStill resume.Memory before after = Unit {0}
 -- ---- damage
 
 -- the stored mapping is gone, or is another one
-abbrev pub IsOtherMapping : Mapping → Store → Damage → Type 0
-IsOtherMapping mapping store damage =
-    ((store.mapping ≡ None) ⊎ ((other : Mapping) × IsReadAs other store × (other ≡ mapping → ⊥))) × (damage ≡ mapping_damage)
+abbrev pub IsOther : Mapping → Store → Type 0
+IsOther mapping store = (store.mapping ≡ None) ⊎ ((other : Mapping) × IsReadAs other store × (other ≡ mapping → ⊥))
 
--- the first damage of a store by an office's mapping
+-- this is damage of the mapping, and no other rule is asked then
+abbrev pub IsOtherMapping : Mapping → Store → Damage → Type 0
+IsOtherMapping mapping store damage = IsOther mapping store × (damage ≡ mapping_damage)
+
+-- the damage of a store for an office of a mapping: that its mapping is another one, or else its first damage
 abbrev pub IsDamageFor : Mapping → Hashes → ℕ → Store → Damage → Type 0
-IsDamageFor mapping hashes width store damage = IsOtherMapping mapping store damage ⊎ IsFirstDamage hashes width store damage
+IsDamageFor mapping hashes width store damage =
+    IsOtherMapping mapping store damage ⊎ (IsFirstDamage hashes width store damage × (IsOther mapping store → ⊥))

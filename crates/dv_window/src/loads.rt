@@ -59,19 +59,21 @@ impl Office {
     /// that the window adds to all tables, whichever call appended them. `KeeperFault` comes only
     /// where the keeper's count of faults rose, and leaves the office stale. After it, and after
     /// `Memory`, the keeper's store stands for the state before, or has this window open, or has it
-    /// sealed. All memory that the window needs is taken before the store changes. Condition: the
-    /// keeper's store, where it is told, is what the office holds, unless this is stale. One loader
-    /// works through the tables in declared order, whatever `workers` and `order` say.
+    /// sealed. All memory that the window needs is taken before the store changes. Conditions: the
+    /// keeper's store, where it is told, is what the office holds, unless this is stale; and 1 to 64
+    /// workers. One loader works through the tables in declared order, whatever `workers` and
+    /// `order` say.
     pub fn load<K: Keeper, H: KeyDigest, G: Gate>(
         &mut self,
         keeper: &mut K,
         given: &WindowIn,
-        _workers: u32,
+        workers: u32,
         _order: Order,
         digest: &H,
         _gate: &G,
     ) -> LoadAnswer
-        requires { AgreesUnlessStale self.old (K.store keeper.old) }
+        requires agrees { AgreesUnlessStale self.old (K.store keeper.old) }
+        requires workers { (1 ≤ workers) × (workers ≤ 64) }
         ensures step { (state : State) → IsIn (hashes_of H.digest_of H.size) state self.old (K.store keeper.old) → StepsTo self.old.vault.mapping (hashes_of H.digest_of H.size) state given.now result self.new (K.store keeper.new) }
         ensures answer { self.old.stale ≡ false → (state : State) → StandsFor (hashes_of H.digest_of H.size) state self.old → StepsTo self.old.vault.mapping (hashes_of H.digest_of H.size) state given.now result self.new None }
         ensures kept { self.old.stale ≡ false → LeavesOffice result self.old self.new }

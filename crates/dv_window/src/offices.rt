@@ -134,6 +134,13 @@ impl Office {
         self.stale
     }
 
+    /// Makes the office stale: for a caller that had a call of the keeper fail. The rest of it stays.
+    pub fn mark_stale(&mut self)
+        ensures { self.new ≡ spec.made_stale self.old }
+    {
+        self.stale = true;
+    }
+
     /// The width of the digests, in bytes, with which the store was last read.
     pub fn width(&self) -> u8
         ensures { result ≡ self.now.width }

@@ -5,7 +5,7 @@ ghost use Rattle.dv_text.specs.Keys.{hashes_of};
 ghost use Rattle.dv_text.specs.Told.{Told};
 ghost use Rattle.dv_records.specs.declared.answers.Damage.{Damage};
 ghost use Rattle.dv_records.specs.States.{State};
-ghost use Rattle.dv_start.specs.Damages.{IsNotRead, IsReadAs};
+ghost use Rattle.dv_start.specs.Damages.{IsInForm, IsNotRead, IsReadAs};
 ghost use Rattle.dv_window.specs.Offices.{AgreesUnlessStale, IsDamageFor, IsIn, IsOtherMapping};
 
 use crate::offices::Office;
@@ -43,9 +43,10 @@ impl Office {
         Ok(catalog)
     }
 
-    /// Reads the keeper again, where the office is stale; then it isn't stale. It never answers `NoMapping`: a mapping that
-    /// is gone, or another one, is damage of the mapping (F1). `Damaged` and `KeeperFault` come as from `start`. With an
-    /// error the office is as before. The store is as before.
+    /// Reads the keeper again, where the office is stale; then it isn't stale, and the store breaks no rule of form. It
+    /// never answers `NoMapping`: a mapping that is gone, or another one, is damage of the mapping (F1), and no other rule
+    /// is asked then. `Damaged` and `KeeperFault` come else as from `start`. With an error the office is as before. The
+    /// store is as before.
     pub fn refresh<K: Keeper, H: KeyDigest>(
         &mut self,
         keeper: &mut K,
@@ -58,6 +59,7 @@ impl Office {
         ensures mapping { self.new.vault.mapping ≡ self.old.vault.mapping }
         ensures width { (self.old.stale ≡ false → self.new.width ≡ self.old.width) × (self.old.stale ≡ true → self.new.stale ≡ false → self.new.width ≡ H.size) }
         ensures agrees { AgreesUnlessStale self.new (K.store keeper.new) }
+        ensures in_form { self.old.stale ≡ true → OnOk result (Told (K.store keeper.old) (IsInForm (hashes_of H.digest_of H.size) H.size self.new.vault.mapping)) }
         ensures stands { (state : State) → IsIn (hashes_of H.digest_of H.size) state self.old (K.store keeper.old) → OnOk result (IsIn (hashes_of H.digest_of H.size) state self.new (K.store keeper.new)) }
         ensures mapped { IsErrOf result StartFault.NoMapping → ⊥ }
         ensures damaged { (damage : Damage) → IsErrOf result (StartFault.Damaged damage) → Told (K.store keeper.old) (λ s. IsDamageFor self.old.vault.mapping (hashes_of H.digest_of H.size) H.size s damage) }

@@ -1,7 +1,11 @@
-use Rattle.dv_window.proofs.Vocabulary.{Some, ap, inr, rules, subst, sym, true, ◌∙◌, ◌≡◌, Agrees, Held, IsIn, IsMappedBy, Mapping, Stands, hashes_of}
-use Rattle.dv_window.proofs.Refreshed.{not_damaged}
+use Rattle.dv_window.proofs.Vocabulary.{BreaksRule, Some, ap, rules, subst, sym, true, ◌∙◌, ◌≡◌, Agrees, Held, IsIn, IsInForm, IsMappedBy, IsReadAs, Mapping, Stands, hashes_of}
+use Rattle.dv_window.proofs.Refreshed.{mapping_for, not_damaged, rule_for}
 use Rattle.dv_window.proofs.StartFacts.{stands_as}
 use Rattle.dv_window.proofs.offices.Office.refresh.Goals as goal
+
+pub returns-in_err-catalog-clause-damaged : goal.returns-in_err-catalog-clause-damaged
+returns-in_err-catalog-clause-damaged g c damage is = λ store at.
+    mapping_for c.args.self.now.vault.mapping (hashes_of g.H.KeyDigest.digest_of g.H.KeyDigest.size) g.H.KeyDigest.size store damage (c.same_mapping.ensures.damaged damage (search rules) store at)
 
 pub returns-in_err-catalog-clause-undamaged : goal.returns-in_err-catalog-clause-undamaged
 returns-in_err-catalog-clause-undamaged g c damage is state is_in =
@@ -12,7 +16,10 @@ returns-in_err-catalog-clause-undamaged g c damage is state is_in =
 
 pub returns-in_err-restored-clause-damaged : goal.returns-in_err-restored-clause-damaged
 returns-in_err-restored-clause-damaged g c damage is = λ store at.
-    inr (inr (c.in_ok-catalog.catalog, c.in_ok-catalog.ensures.read store at, c.read_store.ensures.damaged damage (search rules) store (c.same_mapping.ensures.store ∙ at)))
+    let hashes = hashes_of g.H.KeyDigest.digest_of g.H.KeyDigest.size in
+    let broken = c.read_store.ensures.damaged damage (search rules) store (c.same_mapping.ensures.store ∙ at) in
+    rule_for c.args.self.now.vault.mapping hashes g.H.KeyDigest.size store damage (subst (λ (m : Mapping). IsReadAs m store) c.in_ok-catalog.ensures.same (c.in_ok-catalog.ensures.read store at))
+    (subst (λ (m : Mapping). BreaksRule hashes g.H.KeyDigest.size m store damage) c.in_ok-catalog.ensures.same broken)
 
 pub returns-in_err-restored-clause-undamaged : goal.returns-in_err-restored-clause-undamaged
 returns-in_err-restored-clause-undamaged g c damage is state is_in =
@@ -45,3 +52,9 @@ returns-clause-stands g c state is_in =
       told = λ no. cc;
       store_stands = λ other e. subst (λ (mapping : Mapping). Stands mapping hashes state other) (sym same) (is_in.store_stands other (sym kept ∙ e));
     })
+
+pub returns-clause-in_form : goal.returns-clause-in_form
+returns-clause-in_form g c was = λ store at.
+    let hashes = hashes_of g.H.KeyDigest.digest_of g.H.KeyDigest.size in
+    subst (λ (held : Held). IsInForm hashes g.H.KeyDigest.size held.vault.mapping store) (sym (c.change_to.ensures ∙ c.of_restored.ensures))
+    (subst (λ (mapping : Mapping). IsInForm hashes g.H.KeyDigest.size mapping store) (sym c.in_ok-restored.ensures.mapping) (c.in_ok-restored.ensures.in_form store (c.same_mapping.ensures.store ∙ at)))

@@ -1,4 +1,4 @@
-use Rattle.dv_window.proofs.Vocabulary.{Some, Ok, inl, inr, rules, subst, sym, ◌∙◌, ◌≡◌}
+use Rattle.dv_window.proofs.Vocabulary.{Ok, inl, inr, rules, ◌≡◌}
 use Rattle.dv_text.specs.Told.{Told}
 use Rattle.dv_start.specs.Damages.{IsReadAs}
 use Rattle.dv_window.proofs.offices.Office.same_mapping.Goals as goal
