@@ -1,6 +1,7 @@
 -- How the storing of the mapping is what the command says of it.
-use Rattle.std.specs.Prelude.{◌≡◌, ℕ, List, Option, Some, None, Result, Ok, Err, IsErrOf, option_map}
+use Rattle.std.specs.Prelude.{◌≡◌, ◌≤◌, ℕ, List, Option, Some, None, Result, Ok, Err, IsErrOf, option_map}
 use Rattle.std.proofs.Common.{◌∙◌, ap, inl, inr, refl, subst, sym}
+use Rattle.dv_text.specs.Causes.{Rose}
 use Rattle.dv_text.specs.Keys.{Hashes}
 use Rattle.dv_text.specs.Told.{Told}
 use Rattle.dv_catalog.specs.Entries.{Mapping}
@@ -19,23 +20,25 @@ use Rattle.dv_records.specs.Stores.{with_mapping}
 use Rattle.dv_start.specs.Damages.{IsNotRead, IsReadAs}
 use Rattle.dv_try.specs.declared.endings.Ending.{Ending}
 use Rattle.dv_try.specs.declared.endings.Ending.TheVariants as endings
-use Rattle.dv_try.specs.Endings.{MappingEnds}
+use Rattle.dv_try.specs.Endings.{IsReadCause, MappingEnds}
 use Rattle.dv_try.specs.Given.{absent_line}
 use Rattle.dv_try.specs.Tried.{Tried, ended, mapping_at, mapping_bytes}
+use Rattle.dv_try.proofs.EndSteps.{rose_later}
 use Rattle.dv_app.specs.declared.replies.Reply.{Reply}
-use Rattle.dv_app.specs.Replies as replies
-use Rattle.dv_app.proofs.MoreRises.{init_for_more}
 use Rattle.dv_app.specs.declared.stops.Stop.{Stop}
 use Rattle.dv_app.specs.declared.stops.Stop.TheVariants as stop
-use Rattle.dv_app.specs.Kept.{IsStanding, InitBy, InitFor, InitSays, InitWith, Rises}
+use Rattle.dv_app.specs.Changes.{Leaves}
+use Rattle.dv_app.specs.Damaged.{IsFound, NamesDamage}
+use Rattle.dv_app.specs.Kept.{IsStanding, InitBy, InitFor, InitSays, InitWith, Rises, risen, unread}
 use Rattle.dv_app.specs.Lines.{kept_line, stored_line}
+use Rattle.dv_app.specs.Keyed.{Keyed}
+use Rattle.dv_outside.specs.Seen.{Seen}
 use Rattle.dv_app.specs.Stops.{IsStopCause, said_of, stop_of_error}
-use Rattle.dv_app.specs.Works.{Comes, memory_said}
-
--- why the keeper's call failed
-pub error_cause : {T : Type 0} (rises : Rises) (e : KeeperError) → (IsErrOf {T = T} (Err e) errors.Failed → rises.keeper) → IsStopCause rises (stop_of_error e)
-error_cause rises errors.Failed failed = failed refl
-error_cause rises errors.Memory failed = tt
+use Rattle.dv_app.specs.Words.{Init}
+use Rattle.dv_app.specs.Works.{Comes, Does, Stores, Works, memory_said}
+use Rattle.dv_app.proofs.MoreRises.{cause_of_more, init_for_more}
+use Rattle.dv_app.proofs.ReplySteps.{line_cause, memory_cause}
+use Rattle.dv_app.proofs.WorkSteps.{comes_so, ended_undamaged, left_works, memory_undamaged, named_by, names_none}
 
 module _ (rises : Rises) (file : List ℕ) (store : Store) (after : Option Store) where
   abbrev Says : Tried → Type 0
@@ -110,14 +113,6 @@ module _ (rises : Rises) (file : List ℕ) (store : Store) (after : Option Store
       pub fault_stored : rises.keeper → Says (said_of stop.KeeperFault)
       fault_stored rose = inl (record { answer = init.KeeperFault; cause = rose; store' = with_mapping file store; step = inr is_stored; after_is = stored; says = refl })
 
-    -- a call that stored it or failed
-    pub put_comes : (before : Option Store) → before ≡ Some store → (e : KeeperError) → Changes {T = Unit {0}} (with_mapping file) before after (Err e) → IsStopCause rises (stop_of_error e)
-        → Says (said_of (stop_of_error e)) × Says memory_said
-    put_comes before told errors.Memory same cause = (memory_kept (same ∙ told), memory_kept (same ∙ told))
-    put_comes before told errors.Failed (inl same) cause = (fault_kept (same ∙ told) cause, memory_kept (same ∙ told))
-    put_comes before told errors.Failed (inr made) cause =
-        let is : after ≡ Some (with_mapping file store) = made ∙ ap (changed (with_mapping file)) told in (fault_stored is cause, memory_stored is)
-
 -- a store that stands for a state has a text that is read
 pub not_read_sound : (hashes : Hashes) (told : Option Store) (damage : Damage) → Told told (λ s. IsNotRead s damage) → IsStanding hashes told → ⊥
 not_read_sound hashes told damage not_read standing =
@@ -164,24 +159,137 @@ module _ (rises : Rises) (files : List NamedFile) (store : Store) (after : Optio
   read_says file catalog there reads said says =
       inl (subst (InitWith rises store after said) (sym there) (subst (InitBy rises file store after said) (sym reads) says))
 
--- ---- what comes of it, over the store that the keeper told
+-- ---- what comes of it, whatever the keeper tells
 
-module _ (Read Lost : Type 0) (told : Option (List NamedFile)) (store : Store) (after : Option Store) where
-  abbrev pub rises : Rises
-  rises = record { folder = Read; keeper = Lost }
+module _ (file : List ℕ) (keeper : Seen Store) where
+  stores_by : (s : Stop) → Told keeper.old (λ store. InitFor (unread keeper) file store keeper.new (said_of s)) → IsStopCause (unread keeper) s → Leaves Init keeper (said_of s)
+      → ((k : Keyed) (damage : Damage) → s ≡ stop.Damaged damage → IsFound (λ store. IsNotRead store damage) k.hashes keeper.old) → Stores file keeper (said_of s)
+  stores_by s says cause leaves found = record { says = says; cause = line_cause (unread keeper) s cause; leaves = leaves; damage = λ k. named_by Init k keeper.old s (found k) }
 
-  pub init_unread : after ≡ Some store → (ending : Ending) → Told told (λ files. MappingEnds files ending) → IsStopCause rises (stop.Ended ending)
-      → (Told told (λ files. InitSays rises files store after (said_of (stop.Ended ending)))) × (Told told (λ files. InitSays rises files store after memory_said))
-  init_unread kept ending ends cause = (
-    (λ files e. (ending_comes rises files store after kept ending (ends files e) cause).0),
-    (λ files e. (ending_comes rises files store after kept ending (ends files e) cause).1),
-  )
+  memory_by : Told keeper.old (λ store. InitFor (unread keeper) file store keeper.new memory_said) → Leaves Init keeper memory_said → Stores file keeper memory_said
+  memory_by says leaves = record { says = says; cause = memory_cause (unread keeper); leaves = leaves; damage = λ k. names_none Init k keeper.old memory_said memory_undamaged }
 
-  module _ (file : List ℕ) (catalog : Mapping) (there : Told told (λ files. mapping_bytes files ≡ Some file)) (reads : read_mapping file ≡ Ok catalog) where
-    by_file : (said : Tried) → InitFor (record { folder = ⊥; keeper = Lost }) file store after said → Told told (λ files. InitSays rises files store after said)
-    by_file said says = λ files e. read_says rises files store after file catalog (there files e) reads said
-        (init_for_more (record { folder = ⊥; keeper = Lost }) rises (λ none. absurd none) (λ rose. rose) file store after said says)
+  line_by : (line : List ℕ) → Told keeper.old (λ store. InitFor (unread keeper) file store keeper.new (ended statuses.Done line)) → Leaves Init keeper (ended statuses.Done line) → Stores file keeper (ended statuses.Done line)
+  line_by line says leaves = record {
+    says = says;
+    cause = tt;
+    leaves = leaves;
+    damage = λ k. names_none Init k keeper.old (ended statuses.Done line) (λ is. let no : statuses.Done ≡ statuses.Damaged = is in cc);
+  }
 
-    pub init_read : (result : Result Reply Stop) → Comes (InitFor (record { folder = ⊥; keeper = Lost }) file store after) result → Comes (λ said. Told told (λ files. InitSays rises files store after said)) result
-    init_read (Ok reply) says = by_file (replies.said reply) says
-    init_read (Err s) says = (by_file (said_of s) says.0, by_file memory_said says.1)
+  module _ (left : keeper.new ≡ keeper.old) where
+    pub stores_memory : Stores file keeper memory_said
+    stores_memory = memory_by (λ store e. memory_kept (unread keeper) file store keeper.new (left ∙ e)) (inl left)
+
+    pub memory_left : Comes (Stores file keeper) (Err (stop.Ended endings.Memory))
+    memory_left = (stores_memory, stores_memory)
+
+    pub fault_left : Rose keeper.before keeper.now → Comes (Stores file keeper) (Err stop.KeeperFault)
+    fault_left rose = (
+      stores_by stop.KeeperFault (λ store e. fault_kept (unread keeper) file store keeper.new (left ∙ e) rose) rose (inl left) (λ k damage is. absurd (let no : stop.KeeperFault ≡ stop.Damaged damage = is in cc)),
+      stores_memory,
+    )
+
+    pub damage_left : (damage : Damage) → Told keeper.old (λ store. IsNotRead store damage) → Comes (Stores file keeper) (Err (stop.Damaged damage))
+    damage_left damage not_read = (
+      stores_by (stop.Damaged damage) (λ store e. damage_kept (unread keeper) file store keeper.new (left ∙ e) damage (not_read store e)) tt (inl left) found,
+      stores_memory,
+    )
+      where
+        same : {other : Damage} → stop.Damaged damage ≡ stop.Damaged other → damage ≡ other
+        same e = cc
+
+        found : (k : Keyed) (other : Damage) → stop.Damaged damage ≡ stop.Damaged other → IsFound (λ store. IsNotRead store other) k.hashes keeper.old
+        found k other is = subst (λ d. IsFound (λ store. IsNotRead store d) k.hashes keeper.old) (same is) (record { has = not_read; stands_for_none = not_read_sound k.hashes keeper.old damage not_read })
+
+    module _ (stored catalog : Mapping) (stored_as : Told keeper.old (IsReadAs stored)) (reads : read_mapping file ≡ Ok catalog) where
+      pub equal_left : stored ≡ catalog → Stores file keeper (ended statuses.Done kept_line)
+      equal_left same = line_by kept_line (λ store e. equal_kept (unread keeper) file store keeper.new (left ∙ e) stored catalog (stored_as store e) reads same) (inl left)
+
+      pub other_left : (stored ≡ catalog → ⊥) → Comes (Stores file keeper) (Err stop.Differs)
+      other_left other = (
+        stores_by stop.Differs (λ store e. other_kept (unread keeper) file store keeper.new (left ∙ e) stored catalog (stored_as store e) reads other) tt (inl left)
+            (λ k damage is. absurd (let no : stop.Differs ≡ stop.Damaged damage = is in cc)),
+        stores_memory,
+      )
+
+  module _ (catalog : Mapping) (reads : read_mapping file ≡ Ok catalog) (none : Told keeper.old (λ store. store.mapping ≡ None)) where
+    module _ (made : keeper.new ≡ changed (with_mapping file) keeper.old) where
+      stored_as_told : (store : Store) → keeper.old ≡ Some store → keeper.new ≡ Some (with_mapping file store)
+      stored_as_told store e = made ∙ ap (changed (with_mapping file)) e
+
+      pub stored_does : Stores file keeper (ended statuses.Done stored_line)
+      stored_does = line_by stored_line (λ store e. stored_says (unread keeper) file store keeper.new catalog reads (none store e) (stored_as_told store e)) (inr (inl refl))
+
+      memory_made : Stores file keeper memory_said
+      memory_made = memory_by (λ store e. memory_stored (unread keeper) file store keeper.new catalog reads (none store e) (stored_as_told store e)) (inr (inr (inr refl)))
+
+      pub stored_unsaid : Comes (Stores file keeper) (Err (stop.Ended endings.Memory))
+      stored_unsaid = (memory_made, memory_made)
+
+      fault_made : Rose keeper.before keeper.now → Comes (Stores file keeper) (Err stop.KeeperFault)
+      fault_made rose = (
+        stores_by stop.KeeperFault (λ store e. fault_stored (unread keeper) file store keeper.new catalog reads (none store e) (stored_as_told store e) rose) rose (inr (inr (inl refl)))
+            (λ k damage is. absurd (let no : stop.KeeperFault ≡ stop.Damaged damage = is in cc)),
+        memory_made,
+      )
+
+    -- a call that stored it or failed
+    pub put_fails : (e : KeeperError) → Changes {T = Unit {0}} (with_mapping file) keeper.old keeper.new (Err e) → (IsErrOf {T = Unit {0}} (Err e) errors.Failed → Rose keeper.before keeper.now) → Comes (Stores file keeper) (Err (stop_of_error e))
+    put_fails errors.Memory same rose = memory_left same
+    put_fails errors.Failed (inl same) rose = fault_left same (rose refl)
+    put_fails errors.Failed (inr made) rose = fault_made made (rose refl)
+
+-- the same since an earlier moment, at which the keeper told the same store
+module _ (file : List ℕ) (keeper : Seen Store) (old : Option Store) (before : ℕ) (same : keeper.old ≡ old) (later : before ≤ keeper.before) where
+  abbrev since : Seen Store
+  since = record { old = old; new = keeper.new; before = before; now = keeper.now }
+
+  rose_since : Rose keeper.before keeper.now → Rose before keeper.now
+  rose_since = rose_later before keeper.before keeper.now later
+
+  leaves_since : (said : Tried) → Leaves Init keeper said → Leaves Init since said
+  leaves_since said (inl left) = inl (left ∙ same)
+  leaves_since said (inr may) = inr may
+
+  one_since : (said : Tried) → Stores file keeper said → Stores file since said
+  one_since said stores = record {
+    says = λ store e. init_for_more (unread keeper) (unread since) (λ none. none) rose_since file store keeper.new said (stores.says store (same ∙ e));
+    cause = cause_of_more (unread keeper) (unread since) (λ none. none) rose_since said.err said.status stores.cause;
+    leaves = leaves_since said stores.leaves;
+    damage = λ k. subst (λ told. NamesDamage Init k told said) same (stores.damage k);
+  }
+
+  pub stores_since : (result : Result Reply Stop) → Comes (Stores file keeper) result → Comes (Stores file since) result
+  stores_since result stores = comes_so (Stores file keeper) (Stores file since) one_since result stores
+
+-- ---- of the whole command
+
+-- why the file was not read
+pub read_stop_cause : (folder : Seen (List NamedFile)) (keeper : Seen Store) (ending : Ending) → IsReadCause folder.before folder.now ending → IsStopCause (risen folder keeper) (stop.Ended ending)
+read_stop_cause folder keeper (endings.Unread file) rose = rose
+read_stop_cause folder keeper (endings.Absent file) cause = tt
+read_stop_cause folder keeper (endings.BadMapping e) cause = tt
+read_stop_cause folder keeper (endings.BadQuery rule) cause = tt
+read_stop_cause folder keeper endings.Memory cause = tt
+
+module _ (k : Keyed) (folder : Seen (List NamedFile)) (keeper : Seen Store) where
+  abbrev rises : Rises
+  rises = risen folder keeper
+
+  pub init_unread : keeper.new ≡ keeper.old → (ending : Ending) → Told folder.old (λ files. MappingEnds files ending) → IsStopCause rises (stop.Ended ending) → Works Init k folder keeper (Err (stop.Ended ending))
+  init_unread left ending ends cause = left_works Init k folder keeper left (stop.Ended ending) cause (λ damage is. absurd (ended_undamaged ending damage is))
+      (λ store told files e. (ending_comes rises files store keeper.new (left ∙ told) ending (ends files e) cause).0)
+      (λ store told files e. (ending_comes rises files store keeper.new (left ∙ told) ending (ends files e) cause).1)
+
+  pub init_read : (file : List ℕ) (catalog : Mapping) → Told folder.old (λ files. mapping_bytes files ≡ Some file) → read_mapping file ≡ Ok catalog
+      → (result : Result Reply Stop) → Comes (Stores file keeper) result → Works Init k folder keeper result
+  init_read file catalog there reads result stores = comes_so (Stores file keeper) (Does Init k folder keeper) does result stores
+    where
+      does : (said : Tried) → Stores file keeper said → Does Init k folder keeper said
+      does said s = record {
+        says = λ store told files e. read_says rises files store keeper.new file catalog (there files e) reads said (init_for_more (unread keeper) rises (λ none. absurd none) (λ rose. rose) file store keeper.new said (s.says store told));
+        cause = cause_of_more (unread keeper) rises (λ none. absurd none) (λ rose. rose) said.err said.status s.cause;
+        leaves = s.leaves;
+        damage = s.damage k;
+      }

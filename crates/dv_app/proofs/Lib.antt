@@ -13,3 +13,4 @@ pub mod StoredComes
 pub mod TextComes
 pub mod TextSteps
 pub mod WholeLoads
+pub mod WorkSteps

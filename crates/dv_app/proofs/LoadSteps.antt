@@ -18,17 +18,14 @@ use Rattle.dv_records.specs.Standing.{Stands}
 use Rattle.dv_records.specs.States.{State}
 use Rattle.dv_records.specs.Steps.{sealed_with}
 use Rattle.dv_window.specs.Offices.{Held, IsLeftIn, StepsTo}
-use Rattle.dv_try.specs.declared.endings.Ending.{Ending}
 use Rattle.dv_try.specs.declared.endings.Ending.TheVariants as endings
 use Rattle.dv_try.specs.declared.takings.Taken.{Taken}
 use Rattle.dv_try.specs.declared.takings.Taken.TheVariants as taken
-use Rattle.dv_try.specs.Endings.{BringEnds}
 use Rattle.dv_try.specs.Given.{absent_line}
-use Rattle.dv_try.specs.Says.{IsReadFor}
-use Rattle.dv_try.specs.Tried.{Arrival, Brought, Tried, Absent, Broken, arrival, ended, window_line}
+use Rattle.dv_try.specs.Tried.{Arrival, Brought, Tried, Absent, Broken, ended, window_line}
 use Rattle.dv_app.specs.declared.stops.Stop.{Stop}
 use Rattle.dv_app.specs.declared.stops.Stop.TheVariants as stop
-use Rattle.dv_app.specs.Kept.{Answers, BreaksTo, IsLeft, LoadBreaks, LoadSays, Rises, StandsAt, load_answer, load_with}
+use Rattle.dv_app.specs.Kept.{Answers, BreaksTo, IsLeft, IsReadOf, LoadBreaks, LoadSays, Rises, StandsAt, load_answer, load_with}
 use Rattle.dv_app.specs.Stops.{IsStopCause, said_of}
 use Rattle.dv_app.specs.Takings.{IsBreak, taken_said}
 use Rattle.dv_app.specs.Works.{memory_said}
@@ -68,7 +65,7 @@ module _ (mapping : Mapping) (hashes : Hashes) (name : List ℕ) (state : State)
   same_stands : after ≡ before → StandsAt mapping hashes state after
   same_stands kept = λ s told. stands s (sym kept ∙ told)
 
-  stay_broke : after ≡ before → (a : Arrival) → BreaksTo mapping hashes (LoadBreaks mapping hashes state a) after
+  pub stay_broke : after ≡ before → (a : Arrival) → BreaksTo mapping hashes (LoadBreaks mapping hashes state a) after
   stay_broke kept a = (state, stays mapping hashes state a, same_stands kept)
 
   -- memory may run out behind the answer
@@ -83,25 +80,22 @@ module _ (mapping : Mapping) (hashes : Hashes) (name : List ℕ) (state : State)
   answer_broke (Broken rule) said answers = stay_broke answers.1 (Broken rule)
   answer_broke (Brought given) said answers = next_broke given (outcome mapping hashes state given) refl answers.1
 
-  module _ (rises : Rises) (files : List NamedFile) where
+  module _ (rises : Rises) (told : Option (List NamedFile)) (came : Arrival) where
     abbrev Says : Tried → Type 0
-    Says = LoadSays rises mapping hashes files name state before after
+    Says = LoadSays rises mapping hashes told name came state before after
 
     -- memory ran out, by what is left
-    pub memory_says : BreaksTo mapping hashes (LoadBreaks mapping hashes state (arrival files name)) after → Says memory_said
+    pub memory_says : BreaksTo mapping hashes (LoadBreaks mapping hashes state came) after → Says memory_said
     memory_says broke = inr (inr (inr (refl, broke)))
 
-    -- a file of the manifest is absent, or could not be read
-    pub bring_says : (kept : after ≡ before) (ending : Ending) → BringEnds files name ending → IsStopCause rises (stop.Ended ending) → Says (said_of (stop.Ended ending))
-    bring_says kept (endings.Absent file) absent cause = inl (
-        subst (λ a. Answers mapping hashes (load_answer mapping hashes name state a) before after (ended statuses.ReadFault (absent_line file))) (sym absent) (refl, kept))
-    bring_says kept (endings.Unread file) read cause = inr (inl (file, read, cause, refl, kept))
-    bring_says kept endings.Memory memory cause = memory_says (stay_broke kept (arrival files name))
-    bring_says kept ending none cause = absurd none
+    -- a file of the manifest is absent
+    pub absent_says : (file : List ℕ) → came ≡ Absent file → after ≡ before → Says (said_of (stop.Ended (endings.Absent file)))
+    absent_says file is kept = inl (subst (λ a. Answers mapping hashes (load_answer mapping hashes name state a) before after (ended statuses.ReadFault (absent_line file))) (sym is) (refl, kept))
 
-    pub bring_comes : (kept : after ≡ before) (ending : Ending) → BringEnds files name ending → IsStopCause rises (stop.Ended ending) → Says (said_of (stop.Ended ending)) × Says memory_said
-    bring_comes kept ending ends cause = (bring_says kept ending ends cause, memory_says (stay_broke kept (arrival files name)))
+    -- or could not be read
+    pub unread_says : (file : List ℕ) → IsReadOf told name file → rises.folder → after ≡ before → Says (said_of (stop.Ended (endings.Unread file)))
+    unread_says file read rose kept = inr (inl (file, read, rose, refl, kept))
 
     -- the keeper failed
-    pub break_comes : (s : Stop) → IsBreak s → IsStopCause rises s → BreaksTo mapping hashes (LoadBreaks mapping hashes state (arrival files name)) after → Says (said_of s) × Says memory_said
-    break_comes s break cause broke = (inr (break_ends rises (IsReadFor files name) (after ≡ before) (BreaksTo mapping hashes (LoadBreaks mapping hashes state (arrival files name)) after) s break cause broke), memory_says broke)
+    pub break_says : (s : Stop) → IsBreak s → IsStopCause rises s → BreaksTo mapping hashes (LoadBreaks mapping hashes state came) after → Says (said_of s)
+    break_says s break cause broke = inr (break_ends rises (IsReadOf told name) (after ≡ before) (BreaksTo mapping hashes (LoadBreaks mapping hashes state came) after) s break cause broke)

@@ -10,20 +10,16 @@ use Rattle.dv_records.specs.declared.answers.InitAnswer.{InitAnswer}
 use Rattle.dv_records.specs.declared.answers.InitAnswer.TheVariants as init
 use Rattle.dv_records.specs.declared.stores.Store.{Store}
 use Rattle.dv_records.specs.States.{State}
-use Rattle.dv_try.specs.Tried.{Tried, mapping_bytes}
-use Rattle.dv_app.specs.declared.replies.Reply.{Reply}
+use Rattle.dv_try.specs.Tried.{Arrival, Tried, mapping_bytes}
 use Rattle.dv_app.specs.declared.stops.Stop.{Stop}
 use Rattle.dv_app.specs.declared.stops.Stop.TheVariants as stop
-use Rattle.dv_try.specs.Causes.{Faults}
 use Rattle.dv_try.specs.declared.endings.Ending.TheVariants as endings
 use Rattle.dv_app.specs.Kept.{EndsAtFault, InitBy, InitFor, InitSays, InitWith, IsInitCause, KeptSays, LoadSays, OpenedSays, OpensOr, ResumeSays, Rises, SnapshotSays, TextSays, mart_says, stored_says, table_says, windows_say}
 use Rattle.dv_outside.specs.declared.statuses.Status.{Status}
 use Rattle.dv_outside.specs.declared.statuses.Status.TheVariants as statuses
-use Rattle.dv_app.specs.Replies as replies
 use Rattle.dv_app.specs.Replies.{IsCauseOf}
-use Rattle.dv_app.specs.Stops.{IsStopCause, said_of}
+use Rattle.dv_app.specs.Stops.{IsStopCause}
 use Rattle.dv_app.specs.Words.{Init, KeptCommand, Load, Mart, Resume, Snapshot, Stored, Table, Windows}
-use Rattle.dv_app.specs.Works.{Comes, ComesFor, memory_said}
 
 module _ (rises more : Rises) (read_so : rises.folder → more.folder) (loss_so : rises.keeper → more.keeper) where
   fault_more : (IsRead : List ℕ → Type 0) (Left Broke : Type 0) (said : Tried) → EndsAtFault rises IsRead Left Broke said → EndsAtFault more IsRead Left Broke said
@@ -42,10 +38,10 @@ module _ (rises more : Rises) (read_so : rises.folder → more.folder) (loss_so 
   text_more text said before now (inl is, kept) = (inl is, kept)
   text_more text said before now (inr fault, kept) = (inr (fault_more _ _ _ said fault), kept)
 
-  load_more : (mapping : Mapping) (hashes : Hashes) (files : List NamedFile) (name : List ℕ) (state : State) (before now : Option Store) (said : Tried)
-      → LoadSays rises mapping hashes files name state before now said → LoadSays more mapping hashes files name state before now said
-  load_more mapping hashes files name state before now said (inl answers) = inl answers
-  load_more mapping hashes files name state before now said (inr fault) = inr (fault_more _ _ _ said fault)
+  load_more : (mapping : Mapping) (hashes : Hashes) (told : Option (List NamedFile)) (name : List ℕ) (came : Arrival) (state : State) (before now : Option Store) (said : Tried)
+      → LoadSays rises mapping hashes told name came state before now said → LoadSays more mapping hashes told name came state before now said
+  load_more mapping hashes told name came state before now said (inl answers) = inl answers
+  load_more mapping hashes told name came state before now said (inr fault) = inr (fault_more _ _ _ said fault)
 
   resume_more : (mapping : Mapping) (hashes : Hashes) (state : State) (before now : Option Store) (said : Tried) → ResumeSays rises mapping hashes state before now said → ResumeSays more mapping hashes state before now said
   resume_more mapping hashes state before now said (inl answers) = inl answers
@@ -73,10 +69,6 @@ module _ (rises more : Rises) (read_so : rises.folder → more.folder) (loss_so 
   })
   init_for_more file store now said (inr damage) = inr damage
 
-  pub init_for_comes : (file : List ℕ) (store : Store) (now : Option Store) (result : Result Reply Stop) → Comes (InitFor rises file store now) result → Comes (InitFor more file store now) result
-  init_for_comes file store now (Ok reply) says = init_for_more file store now (replies.said reply) says
-  init_for_comes file store now (Err s) says = (init_for_more file store now (said_of s) says.0, init_for_more file store now memory_said says.1)
-
   init_by_more : (file : List ℕ) (store : Store) (now : Option Store) (said : Tried) (read : Result Mapping MapError) → InitBy rises file store now said read → InitBy more file store now said read
   init_by_more file store now said (Ok mapping) is = init_for_more file store now said is
   init_by_more file store now said (Err e) is = is
@@ -93,7 +85,7 @@ module _ (rises more : Rises) (read_so : rises.folder → more.folder) (loss_so 
   opened_more : (hashes : Hashes) (told : Option (List NamedFile)) (command : KeptCommand) (store : Store) (now : Option Store) (mapping : Mapping) (said : Tried)
       → OpenedSays rises hashes told command store now mapping said → OpenedSays more hashes told command store now mapping said
   opened_more hashes told Init store now mapping said none = none
-  opened_more hashes told (Load name) store now mapping said so = λ state stands files e. load_more mapping hashes files name state (Some store) now said (so state stands files e)
+  opened_more hashes told (Load name) store now mapping said (came, brought, so) = (came, brought, λ state stands. load_more mapping hashes told name came state (Some store) now said (so state stands))
   opened_more hashes told Resume store now mapping said so = λ state stands. resume_more mapping hashes state (Some store) now said (so state stands)
   opened_more hashes told (Mart what date) store now mapping said so = λ state stands. text_more (mart_says mapping hashes state what date) said (Some store) now (so state stands)
   opened_more hashes told (Table name) store now mapping said so = text_more (table_says mapping store name) said (Some store) now so
@@ -118,6 +110,19 @@ module _ (rises more : Rises) (read_so : rises.folder → more.folder) (loss_so 
   kept_more hashes width told (Snapshot date) store now said says = opens_by hashes width told (Snapshot date) store now said says
   kept_more hashes width told (Stored table date) store now said says = opens_by hashes width told (Stored table date) store now said says
 
+  -- why it is said
+  pub cause_of_more : (text : List ℕ) (status : Status) → IsCauseOf rises text status → IsCauseOf more text status
+  cause_of_more text statuses.Done cause = cause
+  cause_of_more text statuses.Refused cause = cause
+  cause_of_more text statuses.Usage cause = cause
+  cause_of_more text statuses.Mapping cause = cause
+  cause_of_more text statuses.ReadFault (file, inl absent) = (file, inl absent)
+  cause_of_more text statuses.ReadFault (file, inr (unread, rose)) = (file, inr (unread, read_so rose))
+  cause_of_more text statuses.KeeperFault cause = (cause.0, loss_so cause.1)
+  cause_of_more text statuses.WriteFault cause = cause
+  cause_of_more text statuses.Memory cause = cause
+  cause_of_more text statuses.Damaged cause = cause
+
   -- why a command stops
   pub stop_cause_more : (s : Stop) → IsStopCause rises s → IsStopCause more s
   stop_cause_more stop.KeeperFault cause = loss_so cause
@@ -129,30 +134,3 @@ module _ (rises more : Rises) (read_so : rises.folder → more.folder) (loss_so 
   stop_cause_more stop.NoMapping cause = tt
   stop_cause_more stop.Differs cause = tt
   stop_cause_more (stop.Damaged damage) cause = tt
-
-  pub comes_more : (hashes : Hashes) (width : ℕ) (told : Option (List NamedFile)) (command : KeptCommand) (store : Store) (now : Option Store) (result : Result Reply Stop)
-      → Comes (KeptSays rises hashes width told command store now) result → Comes (KeptSays more hashes width told command store now) result
-  comes_more hashes width told command store now (Ok reply) says = kept_more hashes width told command store now (replies.said reply) says
-  comes_more hashes width told command store now (Err s) says = (kept_more hashes width told command store now (said_of s) says.0, kept_more hashes width told command store now memory_said says.1)
-
--- where no file is read
-pub comes_for_more : (f : Faults) (Read Lost : Type 0) (result : Result Reply Stop) → ComesFor f (record { folder = ⊥; keeper = Lost }) result → ComesFor f (record { folder = Read; keeper = Lost }) result
-comes_for_more f Read Lost (Ok reply) cause = cause
-comes_for_more f Read Lost (Err s) cause = stop_cause_more (record { folder = ⊥; keeper = Lost }) (record { folder = Read; keeper = Lost }) (λ none. absurd none) (λ rose. rose) s cause
-
--- where a call of the keeper may have failed before
-module _ (f : Faults) (rises more : Rises) (read_so : rises.folder → more.folder) (loss_so : rises.keeper → more.keeper) where
-  cause_of_more : (text : List ℕ) (status : Status) → IsCauseOf f rises.keeper text status → IsCauseOf f more.keeper text status
-  cause_of_more text statuses.Done cause = cause
-  cause_of_more text statuses.Refused cause = cause
-  cause_of_more text statuses.Usage cause = cause
-  cause_of_more text statuses.Mapping cause = cause
-  cause_of_more text statuses.ReadFault cause = cause
-  cause_of_more text statuses.KeeperFault cause = (cause.0, loss_so cause.1)
-  cause_of_more text statuses.WriteFault cause = cause
-  cause_of_more text statuses.Memory cause = cause
-  cause_of_more text statuses.Damaged cause = cause
-
-  pub comes_for_so : (result : Result Reply Stop) → ComesFor f rises result → ComesFor f more result
-  comes_for_so (Ok reply) cause = cause_of_more (replies.said reply).err (replies.said reply).status cause
-  comes_for_so (Err s) cause = stop_cause_more rises more read_so loss_so s cause

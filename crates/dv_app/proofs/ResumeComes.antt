@@ -1,11 +1,11 @@
--- What comes of the completion of the open window, over the store that the keeper told.
-use Rattle.std.specs.Prelude.{◌≡◌, ℕ, List, Option, Some}
-use Rattle.std.proofs.Common.{subst, sym, ◌∙◌}
-use Rattle.dv_text.specs.Keys.{Hashes}
+-- What comes of the completion of the open window.
+use Rattle.std.specs.Prelude.{◌≡◌, ℕ, List, Option, Some, Err}
+use Rattle.std.proofs.Common.{inl, inr, refl, subst, sym, ◌∙◌}
 use Rattle.dv_catalog.specs.Entries.{Mapping}
 use Rattle.dv_mart.specs.declared.query_rules.QueryRule.TheVariants.{NothingOpen}
 use Rattle.dv_outside.specs.declared.folders.NamedFile.{NamedFile}
 use Rattle.dv_outside.specs.declared.statuses.Status.TheVariants as statuses
+use Rattle.dv_records.specs.declared.answers.ResumeAnswer.{ResumeAnswer}
 use Rattle.dv_records.specs.declared.answers.ResumeAnswer.TheVariants as answers
 use Rattle.dv_records.specs.declared.stores.Store.{Store}
 use Rattle.dv_records.specs.Standing.{Stands}
@@ -14,57 +14,85 @@ use Rattle.dv_window.specs.Offices.{CompletesTo, Held, IsIn}
 use Rattle.dv_try.specs.declared.endings.Ending.TheVariants as endings
 use Rattle.dv_try.specs.Tried.{Tried, ended}
 use Rattle.dv_app.specs.declared.stops.Stop.TheVariants as stop
-use Rattle.dv_app.specs.Kept.{KeptSays, OpenedSays, ResumeSays, Rises, StandsAt}
+use Rattle.dv_app.specs.Kept.{OpenedSays, ResumeSays, Rises, StandsAt, risen}
 use Rattle.dv_app.specs.Lines.{resumed_line}
 use Rattle.dv_app.specs.Openings.{IsOpen}
+use Rattle.dv_app.specs.Keyed.{Keyed}
+use Rattle.dv_outside.specs.Seen.{Seen}
 use Rattle.dv_app.specs.Stops.{said_of}
 use Rattle.dv_app.specs.Words.{Resume}
-use Rattle.dv_app.specs.Works.{memory_said}
+use Rattle.dv_app.specs.Works.{Does, Works, memory_said}
 use Rattle.dv_app.proofs.LoadComes.{opened_in}
 use Rattle.dv_app.proofs.ResumeSteps as steps
 use Rattle.dv_app.proofs.ShutStores.{opened_says}
+use Rattle.dv_app.proofs.WorkSteps.{Says, does_memory, ended_undamaged, left_works, names_none, stop_works}
 
-module _ (hashes : Hashes) (width : ℕ) (before : Option Store) (office : Held) (is_open : IsOpen hashes width before office) (store : Store) (told_is : before ≡ Some store)
-    (rises : Rises) (told : Option (List NamedFile)) (held : Held) (mapped : held.vault.mapping ≡ office.vault.mapping) (after : Option Store) where
-  abbrev Says : Tried → Type 0
-  Says = KeptSays rises hashes width told Resume store after
-
+module _ (k : Keyed) (office : Held) (keeper : Seen Store) (is_open : IsOpen k keeper.old office) (folder : Seen (List NamedFile)) (held : Held) (mapped : held.vault.mapping ≡ office.vault.mapping) where
   abbrev mapping : Mapping
   mapping = office.vault.mapping
 
-  abbrev InState : State → Tried → Type 0
-  InState state = ResumeSays rises mapping hashes state (Some store) after
+  abbrev rises : Rises
+  rises = risen folder keeper
 
-  says_by : (said : Tried) → ((state : State) → Stands mapping hashes state store → InState state said) → Says said
-  says_by said by = opened_says rises hashes width store after (OpenedSays rises hashes told Resume store after) mapping (is_open.opened store told_is) said by
+  abbrev InState : Store → State → Tried → Type 0
+  InState store state = ResumeSays rises mapping k.hashes state (Some store) keeper.new
 
-  both_by : (a b : Tried) → ((state : State) → Stands mapping hashes state store → InState state a × InState state b) → Says a × Says b
-  both_by a b both = (says_by a (λ state stands. (both state stands).0), says_by b (λ state stands. (both state stands).1))
+  -- by the answer, in each state that the office and the store are in
+  abbrev Completes : ResumeAnswer → Type 0
+  Completes answer = (state : State) → IsIn k.hashes state office keeper.old → CompletesTo mapping k.hashes state answer held keeper.new
 
-  in_state : (state : State) → Stands mapping hashes state store → IsIn hashes state office before
-  in_state = opened_in hashes width before office is_open store told_is
+  says_by : (said : Tried) → ((store : Store) → keeper.old ≡ Some store → (state : State) → Stands mapping k.hashes state store → InState store state said) → Says Resume k folder keeper said
+  says_by said by = λ store e. opened_says rises k.hashes k.width store keeper.new (OpenedSays rises k.hashes folder.old Resume store keeper.new) mapping (is_open.opened store e) said (by store e)
 
-  pub resumed : (rows : ℕ) → ((state : State) → IsIn hashes state office before → CompletesTo mapping hashes state (answers.Loaded rows) held after)
-      → Says (ended statuses.Done (resumed_line rows)) × Says memory_said
-  resumed rows completes = both_by (ended statuses.Done (resumed_line rows)) memory_said
-      (λ state stands. steps.resumed_says rises mapping hashes state held mapped (Some store) after rows (completes state (in_state state stands)))
+  in_state : (store : Store) → keeper.old ≡ Some store → (state : State) → Stands mapping k.hashes state store → IsIn k.hashes state office keeper.old
+  in_state store e state stands = opened_in k keeper.old office is_open store e state stands
 
-  pub nothing_open : ((state : State) → IsIn hashes state office before → CompletesTo mapping hashes state answers.NothingOpen held after) → after ≡ before
-      → Says (said_of (stop.Ended (endings.BadQuery NothingOpen))) × Says memory_said
-  nothing_open completes kept = both_by (said_of (stop.Ended (endings.BadQuery NothingOpen))) memory_said
-      (λ state stands. steps.nothing_says rises mapping hashes state held mapped (Some store) after (completes state (in_state state stands)) (kept ∙ told_is) (stood state stands))
+  module _ (rows : ℕ) (completes : Completes (answers.Loaded rows)) where
+    both : (store : Store) → keeper.old ≡ Some store → (state : State) → Stands mapping k.hashes state store
+        → InState store state (ended statuses.Done (resumed_line rows)) × InState store state memory_said
+    both store e state stands = steps.resumed_says rises mapping k.hashes state held mapped (Some store) keeper.new rows (completes state (in_state store e state stands))
+
+    pub resumed : Does Resume k folder keeper (ended statuses.Done (resumed_line rows))
+    resumed = record {
+      says = says_by (ended statuses.Done (resumed_line rows)) (λ store e state stands. (both store e state stands).0);
+      cause = tt;
+      leaves = inr (inl (rows, refl));
+      damage = names_none Resume k keeper.old (ended statuses.Done (resumed_line rows)) (λ is. let no : statuses.Done ≡ statuses.Damaged = is in cc);
+    }
+
+    unsaid : Does Resume k folder keeper memory_said
+    unsaid = does_memory Resume k folder keeper (says_by memory_said (λ store e state stands. (both store e state stands).1)) (inr (inr (inr refl)))
+
+    pub resumed_unsaid : Works Resume k folder keeper (Err (stop.Ended endings.Memory))
+    resumed_unsaid = (unsaid, unsaid)
+
+  pub nothing_open : Completes answers.NothingOpen → keeper.new ≡ keeper.old → Works Resume k folder keeper (Err (stop.Ended (endings.BadQuery NothingOpen)))
+  nothing_open completes left = left_works Resume k folder keeper left (stop.Ended (endings.BadQuery NothingOpen)) tt (λ damage is. absurd (ended_undamaged (endings.BadQuery NothingOpen) damage is))
+      (says_by (said_of (stop.Ended (endings.BadQuery NothingOpen))) (λ store e state stands. (both store e state stands).0))
+      (says_by memory_said (λ store e state stands. (both store e state stands).1))
     where
-      stood : (state : State) → Stands mapping hashes state store → StandsAt mapping hashes state after
-      stood state stands = λ s e. subst (Stands mapping hashes state) (same (sym (kept ∙ told_is) ∙ e)) stands
+      stood : (store : Store) → keeper.old ≡ Some store → (state : State) → Stands mapping k.hashes state store → StandsAt mapping k.hashes state keeper.new
+      stood store told_is state stands = λ s e. subst (Stands mapping k.hashes state) (same (sym (left ∙ told_is) ∙ e)) stands
         where
           same : {s : Store} → Some store ≡ Some s → store ≡ s
           same e = cc
 
-  pub resume_failed : ((state : State) → IsIn hashes state office before → CompletesTo mapping hashes state answers.KeeperFault held after) → rises.keeper
-      → Says (said_of stop.KeeperFault) × Says memory_said
-  resume_failed completes rose = both_by (said_of stop.KeeperFault) memory_said
-      (λ state stands. steps.fault_says rises mapping hashes state held mapped (Some store) after (completes state (in_state state stands)) rose)
+      both : (store : Store) → keeper.old ≡ Some store → (state : State) → Stands mapping k.hashes state store
+          → InState store state (said_of (stop.Ended (endings.BadQuery NothingOpen))) × InState store state memory_said
+      both store e state stands = steps.nothing_says rises mapping k.hashes state held mapped (Some store) keeper.new (completes state (in_state store e state stands)) (left ∙ e) (stood store e state stands)
 
-  pub resume_short : ((state : State) → IsIn hashes state office before → CompletesTo mapping hashes state answers.Memory held after) → Says memory_said × Says memory_said
-  resume_short completes = both_by memory_said memory_said (λ state stands.
-      let says = steps.memory_says rises mapping hashes state held mapped (Some store) after (completes state (in_state state stands)) in (says, says))
+  pub resume_failed : Completes answers.KeeperFault → rises.keeper → Works Resume k folder keeper (Err stop.KeeperFault)
+  resume_failed completes rose = stop_works Resume k folder keeper stop.KeeperFault rose (λ damage is. absurd (let no : stop.KeeperFault ≡ stop.Damaged damage = is in cc))
+      (says_by (said_of stop.KeeperFault) (λ store e state stands. (both store e state stands).0)) (inr (inr (inl refl)))
+      (says_by memory_said (λ store e state stands. (both store e state stands).1)) (inr (inr (inr refl)))
+    where
+      both : (store : Store) → keeper.old ≡ Some store → (state : State) → Stands mapping k.hashes state store → InState store state (said_of stop.KeeperFault) × InState store state memory_said
+      both store e state stands = steps.fault_says rises mapping k.hashes state held mapped (Some store) keeper.new (completes state (in_state store e state stands)) rose
+
+  pub resume_short : Completes answers.Memory → Works Resume k folder keeper (Err (stop.Ended endings.Memory))
+  resume_short completes = (short, short)
+    where
+      short : Does Resume k folder keeper memory_said
+      short = does_memory Resume k folder keeper
+          (says_by memory_said (λ store e state stands. steps.memory_says rises mapping k.hashes state held mapped (Some store) keeper.new (completes state (in_state store e state stands))))
+          (inr (inr (inr refl)))

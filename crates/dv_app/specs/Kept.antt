@@ -2,6 +2,7 @@
 use Rattle.std.specs.List.{list_any}
 use Rattle.std.specs.Prelude.{◌≡◌, ◌⊎◌, ℕ, ◌==◌, List, [], Option, Some, None, Result, Ok, Err, if◌then◌else◌, option_map, option_to_list, slice_get}
 use Rattle.dv_text.specs.declared.rows.Window.{Window}
+use Rattle.dv_text.specs.Causes.{Rose}
 use Rattle.dv_text.specs.Keys.{Hashes}
 use Rattle.dv_text.specs.Stamps.{stamp_of}
 use Rattle.dv_text.specs.Told.{Told}
@@ -45,6 +46,7 @@ use Rattle.dv_try.specs.Lines.{mapping_file, memory_line}
 use Rattle.dv_try.specs.Says.{IsReadFor}
 use Rattle.dv_try.specs.Tried.{Absent, Arrival, Broken, Brought, Tried, arrival, ended, is_refused, mapping_bytes, outcome_text, refusal_text, status_for, window_line}
 use Rattle.dv_app.specs.Lines.{damaged_line, differs_line, keeper_line, kept_line, none_line, repeated_line, resumed_line, snapshot_line, stored_line}
+use Rattle.dv_outside.specs.Seen.{Seen}
 use Rattle.dv_app.specs.Words.{KeptCommand, StoredTable, Init, Load, Resume, Mart, Table, Windows, Snapshot, Stored, Pit, Bridge}
 
 -- ---- the answers, in a state of the warehouse
@@ -208,6 +210,13 @@ pub record Rises : Type 1 where
   pub folder : Type 0
   pub keeper : Type 0
 
+-- by the counts of both, and where no file is read
+abbrev pub risen : Seen (List NamedFile) → Seen Store → Rises
+risen folder keeper = record { folder = Rose folder.before folder.now; keeper = Rose keeper.before keeper.now }
+
+abbrev pub unread : Seen Store → Rises
+unread keeper = record { folder = ⊥; keeper = Rose keeper.before keeper.now }
+
 -- a file could not be read, the keeper failed, or memory ran out; IsRead says which files are read, and Left and Broke what is left of the store
 abbrev pub EndsAtFault : Rises → (List ℕ → Type 0) → Type 0 → Type 0 → Tried → Type 0
 EndsAtFault rises IsRead Left Broke said =
@@ -220,10 +229,19 @@ ReadsNone file = ⊥
 
 -- ---- the commands, in a state
 
-abbrev pub LoadSays : Rises → Mapping → Hashes → List NamedFile → List ℕ → State → Option Store → Option Store → Tried → Type 0
-LoadSays rises mapping hashes files name state before after said =
-    Answers mapping hashes (load_answer mapping hashes name state (arrival files name)) before after said
-    ⊎ EndsAtFault rises (IsReadFor files name) (after ≡ before) (BreaksTo mapping hashes (LoadBreaks mapping hashes state (arrival files name)) after) said
+-- this is what a manifest brings, by the folder's files where it tells them
+abbrev pub IsBrought : Option (List NamedFile) → List ℕ → Arrival → Type 0
+IsBrought told name came = Told told (λ files. came ≡ arrival files name)
+
+-- this file is read for it, by the folder's files where it tells them
+abbrev pub IsReadOf : Option (List NamedFile) → List ℕ → List ℕ → Type 0
+IsReadOf told name file = Told told (λ files. IsReadFor files name file)
+
+-- the load of what the manifest of a name brought
+abbrev pub LoadSays : Rises → Mapping → Hashes → Option (List NamedFile) → List ℕ → Arrival → State → Option Store → Option Store → Tried → Type 0
+LoadSays rises mapping hashes told name came state before after said =
+    Answers mapping hashes (load_answer mapping hashes name state came) before after said
+    ⊎ EndsAtFault rises (IsReadOf told name) (after ≡ before) (BreaksTo mapping hashes (LoadBreaks mapping hashes state came) after) said
 
 abbrev pub ResumeSays : Rises → Mapping → Hashes → State → Option Store → Option Store → Tried → Type 0
 ResumeSays rises mapping hashes state before after said =
@@ -314,11 +332,13 @@ InitSays rises files store after said =
 abbrev pub InEach : Mapping → Hashes → Store → (State → Type 0) → Type 0
 InEach mapping hashes store P = (state : State) → Stands mapping hashes state store → P state
 
--- by the stored mapping: in each state of the store, or by what the store has
+-- by the stored mapping: in each state of the store, or by what the store has. A load is that of what the manifest brings;
+-- where the folder tells nothing, of something that a manifest may bring
 abbrev pub OpenedSays : Rises → Hashes → Option (List NamedFile) → KeptCommand → Store → Option Store → Mapping → Tried → Type 0
 OpenedSays rises hashes told Init store after mapping said = ⊥
 OpenedSays rises hashes told (Load name) store after mapping said =
-    InEach mapping hashes store (λ state. Told told (λ files. LoadSays rises mapping hashes files name state (Some store) after said))
+    (came : Arrival) × IsBrought told name came
+    × InEach mapping hashes store (λ state. LoadSays rises mapping hashes told name came state (Some store) after said)
 OpenedSays rises hashes told Resume store after mapping said = InEach mapping hashes store (λ state. ResumeSays rises mapping hashes state (Some store) after said)
 OpenedSays rises hashes told (Mart what date) store after mapping said =
     InEach mapping hashes store (λ state. TextSays rises (mart_says mapping hashes state what date) (Some store) after said)

@@ -1,4 +1,7 @@
+pub mod Changes
+pub mod Damaged
 pub mod Kept
+pub mod Keyed
 pub mod Lines
 pub mod Openings
 pub mod Queries

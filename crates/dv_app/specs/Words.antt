@@ -1,6 +1,7 @@
 -- What the words of the command line ask for.
+use Rattle.std.specs.Global.{Global}
 use Rattle.std.specs.List.{list_any}
-use Rattle.std.specs.Prelude.{ℕ, ◌==◌, ◌+◌, Bool, false, List, [], ◌∷◌, ◌++◌, Option, Some, None, codes, drop, position, take, if◌then◌else◌}
+use Rattle.std.specs.Prelude.{ℕ, ◌==◌, ◌+◌, Bool, false, List, [], ◌∷◌, ◌++◌, Option, Some, None, String, codes, drop, map, position, string_bytes, take, if◌then◌else◌}
 use Rattle.std.specs.Str.{bytes_eq}
 use Rattle.dv_app.specs.declared.words.KeptCommand.{KeptCommand as Given}
 use Rattle.dv_app.specs.declared.words.KeptCommand.TheVariants as given
@@ -99,6 +100,9 @@ command_if word (Some behind) = command word behind
 abbrev pub asked : List (List ℕ) → Command
 asked [] = NoCommand
 asked (word ∷ words) = command_if word (positionals words)
+
+abbrev pub asked_of : List (String Global) → Command
+asked_of words = asked (map string_bytes words)
 
 -- the same of words that were parted
 abbrev pub command_in : Option Parts → Command

@@ -1,14 +1,10 @@
 // The commands on what is kept.
 ghost use Rattle.std.specs.Prelude.{◌≡◌, ◌≤◌};
-ghost use Rattle.dv_text.specs.Causes.{Rose};
-ghost use Rattle.dv_text.specs.Keys.{hashes_of};
-ghost use Rattle.dv_text.specs.Told.{Told};
-ghost use Rattle.dv_outside.specs.declared.statuses.Status.TheVariants as statuses;
-ghost use Rattle.dv_try.specs.Causes.{Faults};
-ghost use Rattle.dv_app.specs.Kept.{IsStanding, KeptSays};
-ghost use Rattle.dv_app.specs.Replies.{IsSaidFor, said};
+ghost use Rattle.dv_app.specs.Replies.{said};
+ghost use Rattle.dv_app.specs.Keyed.{keyed};
+ghost use Rattle.dv_outside.specs.Seen.{seen};
 ghost use Rattle.dv_app.specs.Words.{kept_of};
-ghost use Rattle.dv_app.specs.Works.{Comes, ComesFor, ComesSound};
+ghost use Rattle.dv_app.specs.Works.{Does, Works};
 
 use crate::inits::init;
 use crate::loads::load;
@@ -33,10 +29,7 @@ pub(crate) fn work<F: Folder, K: Keeper, H: KeyDigest, G: Gate>(
     digest: &H,
     gate: &G,
 ) -> Result<Reply, Stop>
-    ensures comes { Told (K.store keeper.old) (λ s. Comes (KeptSays (record { folder = Rose (F.faults folder.old) (F.faults folder.new); keeper = Rose (K.faults keeper.old) (K.faults keeper.new) })
-        (hashes_of H.digest_of H.size) H.size (F.files folder.old) (kept_of command.now) s (K.store keeper.new)) result) }
-    ensures cause { (f : Faults) → f.folder_before ≡ F.faults folder.old → f.folder ≡ F.faults folder.new → ComesFor f (record { folder = Rose (F.faults folder.old) (F.faults folder.new); keeper = Rose (K.faults keeper.old) (K.faults keeper.new) }) result }
-    ensures sound { ComesSound (hashes_of H.digest_of H.size) (K.store keeper.old) result }
+    ensures works { Works (kept_of command.now) (keyed H.digest_of H.size) (seen F.files F.faults folder.old folder.new) (seen K.store K.faults keeper.old keeper.new) result }
     ensures kept { F.files folder.new ≡ F.files folder.old }
     ensures later_in { F.faults folder.old ≤ F.faults folder.new }
     ensures later { K.faults keeper.old ≤ K.faults keeper.new }
@@ -62,10 +55,7 @@ pub(crate) fn reply_to<F: Folder, K: Keeper, H: KeyDigest, G: Gate>(
     digest: &H,
     gate: &G,
 ) -> Reply
-    ensures says { Told (K.store keeper.old) (λ s. KeptSays (record { folder = Rose (F.faults folder.old) (F.faults folder.new); keeper = Rose (K.faults keeper.old) (K.faults keeper.new) })
-        (hashes_of H.digest_of H.size) H.size (F.files folder.old) (kept_of command.now) s (K.store keeper.new) (said result)) }
-    ensures cause { (f : Faults) → f.folder_before ≡ F.faults folder.old → f.folder ≡ F.faults folder.new → IsSaidFor f (Rose (K.faults keeper.old) (K.faults keeper.new)) (said result) }
-    ensures sound { (said result).status ≡ statuses.Damaged → IsStanding (hashes_of H.digest_of H.size) (K.store keeper.old) → ⊥ }
+    ensures does { Does (kept_of command.now) (keyed H.digest_of H.size) (seen F.files F.faults folder.old folder.new) (seen K.store K.faults keeper.old keeper.new) (said result) }
     ensures kept { F.files folder.new ≡ F.files folder.old }
     ensures later_in { F.faults folder.old ≤ F.faults folder.new }
     ensures later { K.faults keeper.old ≤ K.faults keeper.new }

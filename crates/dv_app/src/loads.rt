@@ -1,20 +1,18 @@
 // The command `load`: the window of a manifest is given to the office over what is kept.
-ghost use Rattle.std.specs.Prelude.{◌≡◌, ◌≤◌, ℕ, IfErr, IfOk, List, false};
-ghost use Rattle.dv_text.specs.Causes.{Rose};
+ghost use Rattle.std.specs.Prelude.{◌≡◌, ◌≤◌, IfErr, IfOk, false};
 ghost use Rattle.dv_text.specs.Keys.{hashes_of};
 ghost use Rattle.dv_text.specs.Told.{Told};
-ghost use Rattle.dv_records.specs.States.{State};
-ghost use Rattle.dv_window.specs.Offices.{AgreesUnlessStale, IsIn};
+ghost use Rattle.dv_window.specs.Offices.{AgreesUnlessStale};
 ghost use Rattle.dv_try.specs.Loadings.{outcome_of};
-ghost use Rattle.dv_try.specs.Readings.{arrival_of};
-ghost use Rattle.dv_try.specs.Tried.{Brought, is_refused, status_for};
-ghost use Rattle.dv_app.specs.Kept.{Answers, BreaksTo, KeptSays, LoadBreaks, load_answer};
-ghost use Rattle.dv_app.specs.Openings.{IsOpen};
-ghost use Rattle.dv_app.specs.Stops.{IsStopCause};
-ghost use Rattle.dv_app.specs.Takings.{IsBreak, taken_said};
+ghost use Rattle.dv_try.specs.Readings.{Brings, arrival_of};
+ghost use Rattle.dv_try.specs.Tried.{Brought, arrival, is_refused, status_for};
+ghost use Rattle.dv_app.specs.Replies.{said};
+ghost use Rattle.dv_app.specs.Keyed.{keyed};
+ghost use Rattle.dv_outside.specs.Seen.{seen};
+ghost use Rattle.dv_app.specs.Takings as spec;
+ghost use Rattle.dv_app.specs.Takings.{BrokeOff, IsUnbrought, Took, taken_said};
 ghost use Rattle.dv_app.specs.Words as words;
-ghost use Rattle.dv_try.specs.Causes.{Faults};
-ghost use Rattle.dv_app.specs.Works.{Comes, ComesFor, ComesSound};
+ghost use Rattle.dv_app.specs.Works.{Works};
 
 use crate::openings::open_office;
 use crate::replies::Reply;
@@ -22,10 +20,37 @@ use crate::stops::Stop;
 use dv_catalog::WindowIn;
 use dv_outside::{Folder, Gate, Status};
 use dv_records::{Keeper, LoadAnswer};
-use dv_text::{KeyDigest, Text};
+use dv_text::{KeyDigest, Memory, Text};
 use dv_try::{Arrived, Ending, Taken, bring, is_refusal, window_line};
 use dv_window::{Office, Order};
 use std::alloc::Global;
+
+// Why a load stops whose manifest brings nothing. A manifest is no mapping and no query, so where no
+// file is named it is for want of memory.
+fn unbrought(ending: Ending) -> Stop
+    ensures { result ≡ spec.unbrought ending }
+{
+    match ending {
+        Ending::Absent(file) => Stop::Ended(Ending::Absent(file)),
+        Ending::Unread(file) => Stop::Ended(Ending::Unread(file)),
+        Ending::BadMapping(_) | Ending::BadQuery(_) | Ending::Memory => {
+            Stop::Ended(Ending::Memory)
+        }
+    }
+}
+
+// What a manifest brings.
+fn arrive<F: Folder>(alloc: Global, folder: &mut F, name: &Text) -> Result<Arrived, Stop>
+    ensures brings { IfOk result (λ came. Told (F.files folder.old) (λ files. Brings (arrival files name.now) came)) }
+    ensures unbrought { IfErr result (IsUnbrought (seen F.files F.faults folder.old folder.new) name.now) }
+    ensures kept { F.files folder.new ≡ F.files folder.old }
+    ensures later { F.faults folder.old ≤ F.faults folder.new }
+{
+    match bring(alloc, folder, name) {
+        Ok(arrived) => Ok(arrived),
+        Err(ending) => Err(unbrought(ending)),
+    }
+}
 
 // Gives a window to the office.
 fn load_window<K: Keeper, H: KeyDigest, G: Gate>(
@@ -37,12 +62,8 @@ fn load_window<K: Keeper, H: KeyDigest, G: Gate>(
 ) -> Result<Taken, Stop>
     requires agrees { AgreesUnlessStale office.old (K.store keeper.old) }
     requires fresh { office.old.stale ≡ false }
-    ensures ok { IfOk result (λ taken. (name : List ℕ) (state : State) → IsIn (hashes_of H.digest_of H.size) state office.old (K.store keeper.old)
-        → Answers office.old.vault.mapping (hashes_of H.digest_of H.size) (load_answer office.old.vault.mapping (hashes_of H.digest_of H.size) name state (Brought given.now)) (K.store keeper.old) (K.store keeper.new) (taken_said name taken)) }
-    ensures broke { IfErr result (λ s. (state : State) → IsIn (hashes_of H.digest_of H.size) state office.old (K.store keeper.old)
-        → BreaksTo office.old.vault.mapping (hashes_of H.digest_of H.size) (LoadBreaks office.old.vault.mapping (hashes_of H.digest_of H.size) state (Brought given.now)) (K.store keeper.new)) }
-    ensures breaks { IfErr result IsBreak }
-    ensures cause { IfErr result (λ s. IsStopCause (record { folder = ⊥; keeper = Rose (K.faults keeper.old) (K.faults keeper.new) }) s) }
+    ensures took { IfOk result (Took (hashes_of H.digest_of H.size) office.old (Brought given.now) (K.store keeper.old) (K.store keeper.new)) }
+    ensures broke { IfErr result (BrokeOff (hashes_of H.digest_of H.size) office.old (Brought given.now) (seen K.store K.faults keeper.old keeper.new)) }
     ensures later { K.faults keeper.old ≤ K.faults keeper.new }
 {
     let answer = office.load(keeper, given, 1, Order::Declared, digest, gate);
@@ -66,12 +87,8 @@ fn load_arrived<K: Keeper, H: KeyDigest, G: Gate>(
 ) -> Result<Taken, Stop>
     requires agrees { AgreesUnlessStale office.old (K.store keeper.old) }
     requires fresh { office.old.stale ≡ false }
-    ensures ok { IfOk result (λ taken. (name : List ℕ) (state : State) → IsIn (hashes_of H.digest_of H.size) state office.old (K.store keeper.old)
-        → Answers office.old.vault.mapping (hashes_of H.digest_of H.size) (load_answer office.old.vault.mapping (hashes_of H.digest_of H.size) name state (arrival_of arrived)) (K.store keeper.old) (K.store keeper.new) (taken_said name taken)) }
-    ensures broke { IfErr result (λ s. (state : State) → IsIn (hashes_of H.digest_of H.size) state office.old (K.store keeper.old)
-        → BreaksTo office.old.vault.mapping (hashes_of H.digest_of H.size) (LoadBreaks office.old.vault.mapping (hashes_of H.digest_of H.size) state (arrival_of arrived)) (K.store keeper.new)) }
-    ensures breaks { IfErr result IsBreak }
-    ensures cause { IfErr result (λ s. IsStopCause (record { folder = ⊥; keeper = Rose (K.faults keeper.old) (K.faults keeper.new) }) s) }
+    ensures took { IfOk result (Took (hashes_of H.digest_of H.size) office.old (arrival_of arrived) (K.store keeper.old) (K.store keeper.new)) }
+    ensures broke { IfErr result (BrokeOff (hashes_of H.digest_of H.size) office.old (arrival_of arrived) (seen K.store K.faults keeper.old keeper.new)) }
     ensures later { K.faults keeper.old ≤ K.faults keeper.new }
 {
     match arrived {
@@ -91,31 +108,14 @@ fn status_of_taken(taken: &Taken) -> Status
     }
 }
 
-// Brings a manifest, and gives its window to the office.
-fn load_into<F: Folder, K: Keeper, H: KeyDigest, G: Gate>(
-    alloc: Global,
-    office: &mut Office,
-    name: &Text,
-    folder: &mut F,
-    keeper: &mut K,
-    digest: &H,
-    gate: &G,
-) -> Result<Reply, Stop>
-    requires { IsOpen (hashes_of H.digest_of H.size) H.size (K.store keeper.old) office.old }
-    ensures comes { Told (K.store keeper.old) (λ s. Comes (KeptSays (record { folder = Rose (F.faults folder.old) (F.faults folder.new); keeper = Rose (K.faults keeper.old) (K.faults keeper.new) })
-        (hashes_of H.digest_of H.size) H.size (F.files folder.old) (words.Load name.now) s (K.store keeper.new)) result) }
-    ensures cause { (f : Faults) → f.folder_before ≡ F.faults folder.old → f.folder ≡ F.faults folder.new → ComesFor f (record { folder = Rose (F.faults folder.old) (F.faults folder.new); keeper = Rose (K.faults keeper.old) (K.faults keeper.new) }) result }
-    ensures sound { ComesSound (hashes_of H.digest_of H.size) (K.store keeper.old) result }
-    ensures kept { F.files folder.new ≡ F.files folder.old }
-    ensures later_in { F.faults folder.old ≤ F.faults folder.new }
-    ensures later { K.faults keeper.old ≤ K.faults keeper.new }
+// The reply of a command that gave one window.
+fn reply_of_taken(alloc: Global, name: &Text, taken: &Taken) -> Result<Reply, Memory>
+    ensures { IfOk result (λ reply. said reply ≡ taken_said name.now taken.now) }
 {
-    let arrived = bring(alloc, folder, name)?;
-    let taken = load_arrived(office, keeper, arrived, digest, gate)?;
-    let line = window_line(alloc, name, &taken)?;
+    let line = window_line(alloc, name, taken)?;
     Ok(Reply::Line {
         line,
-        status: status_of_taken(&taken),
+        status: status_of_taken(taken),
     })
 }
 
@@ -128,14 +128,13 @@ pub(crate) fn load<F: Folder, K: Keeper, H: KeyDigest, G: Gate>(
     digest: &H,
     gate: &G,
 ) -> Result<Reply, Stop>
-    ensures comes { Told (K.store keeper.old) (λ s. Comes (KeptSays (record { folder = Rose (F.faults folder.old) (F.faults folder.new); keeper = Rose (K.faults keeper.old) (K.faults keeper.new) })
-        (hashes_of H.digest_of H.size) H.size (F.files folder.old) (words.Load name.now) s (K.store keeper.new)) result) }
-    ensures cause { (f : Faults) → f.folder_before ≡ F.faults folder.old → f.folder ≡ F.faults folder.new → ComesFor f (record { folder = Rose (F.faults folder.old) (F.faults folder.new); keeper = Rose (K.faults keeper.old) (K.faults keeper.new) }) result }
-    ensures sound { ComesSound (hashes_of H.digest_of H.size) (K.store keeper.old) result }
+    ensures works { Works (words.Load name.now) (keyed H.digest_of H.size) (seen F.files F.faults folder.old folder.new) (seen K.store K.faults keeper.old keeper.new) result }
     ensures kept { F.files folder.new ≡ F.files folder.old }
     ensures later_in { F.faults folder.old ≤ F.faults folder.new }
     ensures later { K.faults keeper.old ≤ K.faults keeper.new }
 {
     let mut office = open_office(alloc, keeper, digest)?;
-    load_into(alloc, &mut office, name, folder, keeper, digest, gate)
+    let arrived = arrive(alloc, folder, name)?;
+    let taken = load_arrived(&mut office, keeper, arrived, digest, gate)?;
+    Ok(reply_of_taken(alloc, name, &taken)?)
 }

@@ -1,14 +1,8 @@
 // The opening of what is kept.
-ghost use Rattle.std.specs.Prelude.{◌≡◌, ◌≤◌, ◌⊎◌, ℕ, IfErr, IfOk, List, length};
-ghost use Rattle.dv_text.specs.Causes.{Rose};
-ghost use Rattle.dv_text.specs.Keys.{hashes_of};
-ghost use Rattle.dv_text.specs.Told.{Told};
-ghost use Rattle.dv_records.specs.declared.answers.Damage.{Damage};
-ghost use Rattle.dv_app.specs.Kept.{IsShut, IsStanding};
-ghost use Rattle.dv_app.specs.Openings.{IsOpen};
-ghost use Rattle.dv_app.specs.Stops.{IsStopCause, said_of};
-ghost use Rattle.dv_app.specs.Takings.{IsBreak};
-ghost use Rattle.dv_app.specs.declared.stops.Stop.TheVariants as stop;
+ghost use Rattle.std.specs.Prelude.{◌≡◌, ◌≤◌, ℕ, IfErr, IfOk, List, length};
+ghost use Rattle.dv_app.specs.Openings.{IsOpen, IsUnopened};
+ghost use Rattle.dv_app.specs.Keyed.{keyed};
+ghost use Rattle.dv_outside.specs.Seen.{seen};
 
 use crate::stops::Stop;
 use dv_records::Keeper;
@@ -27,10 +21,8 @@ pub(crate) fn open_office<K: Keeper, H: KeyDigest>(
     keeper: &mut K,
     digest: &H,
 ) -> Result<Office, Stop>
-    ensures ok { IfOk result (IsOpen (hashes_of H.digest_of H.size) H.size (K.store keeper.old)) }
-    ensures shut { IfErr result (λ s. Told (K.store keeper.old) (λ store. IsShut (hashes_of H.digest_of H.size) H.size store (said_of s) ⊎ IsBreak s)) }
-    ensures sound { IfErr result (λ s. (damage : Damage) → s ≡ stop.Damaged damage → IsStanding (hashes_of H.digest_of H.size) (K.store keeper.old) → ⊥) }
-    ensures cause { IfErr result (λ s. IsStopCause (record { folder = ⊥; keeper = Rose (K.faults keeper.old) (K.faults keeper.new) }) s) }
+    ensures ok { IfOk result (IsOpen (keyed H.digest_of H.size) (K.store keeper.old)) }
+    ensures shut { IfErr result (IsUnopened (keyed H.digest_of H.size) (seen K.store K.faults keeper.old keeper.new)) }
     ensures store { K.store keeper.new ≡ K.store keeper.old }
     ensures later { K.faults keeper.old ≤ K.faults keeper.new }
 {

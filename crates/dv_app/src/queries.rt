@@ -1,23 +1,17 @@
 // The commands `mart`, `table` and `windows`: texts of what is kept, which they leave as it is.
-ghost use Rattle.std.specs.Prelude.{◌≡◌, ◌≤◌, ℕ, Contains, IfErr, IfOk, List, Option, Some};
-ghost use Rattle.dv_text.specs.Causes.{Rose};
-ghost use Rattle.dv_text.specs.Keys.{Hashes, hashes_of};
-ghost use Rattle.dv_text.specs.Told.{Told};
+ghost use Rattle.std.specs.Prelude.{◌≡◌, ◌≤◌, ℕ, Contains, IfErr, IfOk, Some};
 ghost use Rattle.std.specs.Option.{option_map};
 ghost use Rattle.dv_catalog.specs.Tables.{tables};
 ghost use Rattle.dv_records.specs.States.{head_of};
 ghost use Rattle.dv_window.specs.Offices.{staged};
-ghost use Rattle.dv_outside.specs.declared.folders.NamedFile.{NamedFile};
 ghost use Rattle.dv_mart.specs.OfferedMarts.{IsOffered};
 ghost use Rattle.dv_mart.specs.Whats.{offered_mart, table_named};
 ghost use Rattle.dv_try.specs.Endings.{IsReadCause};
-ghost use Rattle.dv_records.specs.declared.stores.Store.{Store};
-ghost use Rattle.dv_app.specs.Kept.{KeptSays};
-ghost use Rattle.dv_app.specs.Openings.{IsOpen};
 ghost use Rattle.dv_app.specs.Queries.{MartEnds, TableEnds};
+ghost use Rattle.dv_app.specs.Keyed.{keyed};
+ghost use Rattle.dv_outside.specs.Seen.{seen};
 ghost use Rattle.dv_app.specs.Words as words;
-ghost use Rattle.dv_try.specs.Causes.{Faults};
-ghost use Rattle.dv_app.specs.Works.{Comes, ComesFor, ComesSound};
+ghost use Rattle.dv_app.specs.Works.{WorksAlone, WorksIn};
 
 use crate::openings::open_office;
 use crate::replies::Reply;
@@ -68,10 +62,7 @@ fn check_table(alloc: Global, catalog: &Catalog, name: &Text) -> Result<TableId,
 
 // The text of a mart of the office's sealed windows.
 fn mart_of(alloc: Global, office: &Office, what: &Text, date: &Text) -> Result<Reply, Stop>
-    ensures comes { (hashes : Hashes) (width : ℕ) (kept : Option Store) → IsOpen hashes width kept office.now → (told : Option (List NamedFile)) (lost : ℕ) (now : ℕ) → Told kept (λ s. Comes (KeptSays (record { folder = ⊥; keeper = Rose lost now })
-        hashes width told (words.Mart what.now date.now) s kept) result) }
-    ensures cause { (f : Faults) (lost : ℕ) (now : ℕ) → ComesFor f (record { folder = ⊥; keeper = Rose lost now }) result }
-    ensures sound { (hashes : Hashes) (kept : Option Store) → ComesSound hashes kept result }
+    ensures { WorksIn (words.Mart what.now date.now) office.now result }
 {
     let what = check_mart(alloc, office.catalog(), what)?;
     let date = check_date(date)?;
@@ -87,10 +78,7 @@ pub(crate) fn mart<K: Keeper, H: KeyDigest>(
     keeper: &mut K,
     digest: &H,
 ) -> Result<Reply, Stop>
-    ensures comes { (told : Option (List NamedFile)) → Told (K.store keeper.old) (λ s. Comes (KeptSays (record { folder = ⊥; keeper = Rose (K.faults keeper.old) (K.faults keeper.new) })
-        (hashes_of H.digest_of H.size) H.size told (words.Mart what.now date.now) s (K.store keeper.new)) result) }
-    ensures cause { (f : Faults) → ComesFor f (record { folder = ⊥; keeper = Rose (K.faults keeper.old) (K.faults keeper.new) }) result }
-    ensures sound { ComesSound (hashes_of H.digest_of H.size) (K.store keeper.old) result }
+    ensures works { WorksAlone (words.Mart what.now date.now) (keyed H.digest_of H.size) (seen K.store K.faults keeper.old keeper.new) result }
     ensures store { K.store keeper.new ≡ K.store keeper.old }
     ensures later { K.faults keeper.old ≤ K.faults keeper.new }
 {
@@ -100,10 +88,7 @@ pub(crate) fn mart<K: Keeper, H: KeyDigest>(
 
 // The text of a raw table with all rows that the office's keeper has.
 fn table_of(alloc: Global, office: &Office, name: &Text) -> Result<Reply, Stop>
-    ensures comes { (hashes : Hashes) (width : ℕ) (kept : Option Store) → IsOpen hashes width kept office.now → (told : Option (List NamedFile)) (lost : ℕ) (now : ℕ) → Told kept (λ s. Comes (KeptSays (record { folder = ⊥; keeper = Rose lost now })
-        hashes width told (words.Table name.now) s kept) result) }
-    ensures cause { (f : Faults) (lost : ℕ) (now : ℕ) → ComesFor f (record { folder = ⊥; keeper = Rose lost now }) result }
-    ensures sound { (hashes : Hashes) (kept : Option Store) → ComesSound hashes kept result }
+    ensures { WorksIn (words.Table name.now) office.now result }
 {
     let table = check_table(alloc, office.catalog(), name)?;
     let text = whole_table_text(alloc, office.vault(), table, office.rows_begun(table))?;
@@ -117,10 +102,7 @@ pub(crate) fn table<K: Keeper, H: KeyDigest>(
     keeper: &mut K,
     digest: &H,
 ) -> Result<Reply, Stop>
-    ensures comes { (told : Option (List NamedFile)) → Told (K.store keeper.old) (λ s. Comes (KeptSays (record { folder = ⊥; keeper = Rose (K.faults keeper.old) (K.faults keeper.new) })
-        (hashes_of H.digest_of H.size) H.size told (words.Table name.now) s (K.store keeper.new)) result) }
-    ensures cause { (f : Faults) → ComesFor f (record { folder = ⊥; keeper = Rose (K.faults keeper.old) (K.faults keeper.new) }) result }
-    ensures sound { ComesSound (hashes_of H.digest_of H.size) (K.store keeper.old) result }
+    ensures works { WorksAlone (words.Table name.now) (keyed H.digest_of H.size) (seen K.store K.faults keeper.old keeper.new) result }
     ensures store { K.store keeper.new ≡ K.store keeper.old }
     ensures later { K.faults keeper.old ≤ K.faults keeper.new }
 {
@@ -140,10 +122,7 @@ fn open_head(alloc: Global, office: &Office) -> Result<Option<WindowHead>, Memor
 
 // The text of the office's windows.
 fn windows_of(alloc: Global, office: &Office) -> Result<Reply, Stop>
-    ensures comes { (hashes : Hashes) (width : ℕ) (kept : Option Store) → IsOpen hashes width kept office.now → (told : Option (List NamedFile)) (lost : ℕ) (now : ℕ) → Told kept (λ s. Comes (KeptSays (record { folder = ⊥; keeper = Rose lost now })
-        hashes width told words.Windows s kept) result) }
-    ensures cause { (f : Faults) (lost : ℕ) (now : ℕ) → ComesFor f (record { folder = ⊥; keeper = Rose lost now }) result }
-    ensures sound { (hashes : Hashes) (kept : Option Store) → ComesSound hashes kept result }
+    ensures { WorksIn words.Windows office.now result }
 {
     let head = open_head(alloc, office)?;
     let text = windows_text(
@@ -161,10 +140,7 @@ pub(crate) fn windows<K: Keeper, H: KeyDigest>(
     keeper: &mut K,
     digest: &H,
 ) -> Result<Reply, Stop>
-    ensures comes { (told : Option (List NamedFile)) → Told (K.store keeper.old) (λ s. Comes (KeptSays (record { folder = ⊥; keeper = Rose (K.faults keeper.old) (K.faults keeper.new) })
-        (hashes_of H.digest_of H.size) H.size told words.Windows s (K.store keeper.new)) result) }
-    ensures cause { (f : Faults) → ComesFor f (record { folder = ⊥; keeper = Rose (K.faults keeper.old) (K.faults keeper.new) }) result }
-    ensures sound { ComesSound (hashes_of H.digest_of H.size) (K.store keeper.old) result }
+    ensures works { WorksAlone words.Windows (keyed H.digest_of H.size) (seen K.store K.faults keeper.old keeper.new) result }
     ensures store { K.store keeper.new ≡ K.store keeper.old }
     ensures later { K.faults keeper.old ≤ K.faults keeper.new }
 {

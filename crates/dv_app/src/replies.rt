@@ -1,6 +1,7 @@
 // What a command on what is kept replies, and how that is written.
-ghost use Rattle.std.specs.Prelude.{◌≡◌, ◌≤◌, ℕ};
+ghost use Rattle.std.specs.Prelude.{◌≤◌};
 ghost use Rattle.dv_app.specs.Replies.{EndsAs, said};
+ghost use Rattle.dv_outside.specs.Seen.{seen};
 
 use crate::lines::MEMORY;
 use dv_outside::{Sink, Status, end};
@@ -16,9 +17,7 @@ pub(crate) enum Reply {
 
 /// Writes what a command replies, and answers the status.
 pub(crate) fn say<O: Sink, E: Sink>(reply: &Reply, out: &mut O, err: &mut E) -> Status
-    ensures says { (folder_before folder : ℕ) → EndsAs (said reply.now)
-        (record { folder_before = folder_before; folder = folder; out_before = O.faults out.old; out = O.faults out.new; err_before = E.faults err.old; err = E.faults err.new })
-        (record { out_old = O.contents out.old; out = O.contents out.new; err_old = E.contents err.old; err = E.contents err.new }) result }
+    ensures says { EndsAs (said reply.now) (seen O.contents O.faults out.old out.new) (seen E.contents E.faults err.old err.new) result }
     ensures later { (O.faults out.old ≤ O.faults out.new) × (E.faults err.old ≤ E.faults err.new) }
 {
     match reply {

@@ -1,15 +1,11 @@
 // The command `resume`: the open window of what is kept is completed.
-ghost use Rattle.std.specs.Prelude.{◌≡◌, ◌≤◌, IfOk, List, Option, ℕ};
-ghost use Rattle.dv_text.specs.Causes.{Rose};
-ghost use Rattle.dv_text.specs.Keys.{hashes_of};
-ghost use Rattle.dv_text.specs.Told.{Told};
-ghost use Rattle.dv_outside.specs.declared.folders.NamedFile.{NamedFile};
-ghost use Rattle.dv_app.specs.Kept.{KeptSays};
+ghost use Rattle.std.specs.Prelude.{◌≡◌, ◌≤◌, IfOk};
 ghost use Rattle.dv_app.specs.Lines.{resumed_line as line_of_rows};
 ghost use Rattle.dv_app.specs.Openings.{IsOpen};
+ghost use Rattle.dv_app.specs.Keyed.{keyed};
+ghost use Rattle.dv_outside.specs.Seen.{seen};
 ghost use Rattle.dv_app.specs.Words as words;
-ghost use Rattle.dv_try.specs.Causes.{Faults};
-ghost use Rattle.dv_app.specs.Works.{Comes, ComesFor, ComesSound};
+ghost use Rattle.dv_app.specs.Works.{WorksAlone};
 
 use crate::lines::RESUME_LOADED;
 use crate::openings::open_office;
@@ -38,11 +34,8 @@ fn resume_in<K: Keeper, H: KeyDigest>(
     keeper: &mut K,
     digest: &H,
 ) -> Result<Reply, Stop>
-    requires { IsOpen (hashes_of H.digest_of H.size) H.size (K.store keeper.old) office.old }
-    ensures comes { (told : Option (List NamedFile)) → Told (K.store keeper.old) (λ s. Comes (KeptSays (record { folder = ⊥; keeper = Rose (K.faults keeper.old) (K.faults keeper.new) })
-        (hashes_of H.digest_of H.size) H.size told words.Resume s (K.store keeper.new)) result) }
-    ensures cause { (f : Faults) → ComesFor f (record { folder = ⊥; keeper = Rose (K.faults keeper.old) (K.faults keeper.new) }) result }
-    ensures sound { ComesSound (hashes_of H.digest_of H.size) (K.store keeper.old) result }
+    requires { IsOpen (keyed H.digest_of H.size) (K.store keeper.old) office.old }
+    ensures works { WorksAlone words.Resume (keyed H.digest_of H.size) (seen K.store K.faults keeper.old keeper.new) result }
     ensures later { K.faults keeper.old ≤ K.faults keeper.new }
 {
     let answer = office.resume(keeper, digest);
@@ -64,10 +57,7 @@ pub(crate) fn resume<K: Keeper, H: KeyDigest>(
     keeper: &mut K,
     digest: &H,
 ) -> Result<Reply, Stop>
-    ensures comes { (told : Option (List NamedFile)) → Told (K.store keeper.old) (λ s. Comes (KeptSays (record { folder = ⊥; keeper = Rose (K.faults keeper.old) (K.faults keeper.new) })
-        (hashes_of H.digest_of H.size) H.size told words.Resume s (K.store keeper.new)) result) }
-    ensures cause { (f : Faults) → ComesFor f (record { folder = ⊥; keeper = Rose (K.faults keeper.old) (K.faults keeper.new) }) result }
-    ensures sound { ComesSound (hashes_of H.digest_of H.size) (K.store keeper.old) result }
+    ensures works { WorksAlone words.Resume (keyed H.digest_of H.size) (seen K.store K.faults keeper.old keeper.new) result }
     ensures later { K.faults keeper.old ≤ K.faults keeper.new }
 {
     let mut office = open_office(alloc, keeper, digest)?;

@@ -1,17 +1,13 @@
 // The command `snapshot`: a snapshot of the sealed windows of what is kept is stored beside them.
-ghost use Rattle.std.specs.Prelude.{◌≡◌, ◌≤◌, IfOk, List, Option, false, ℕ};
-ghost use Rattle.dv_text.specs.Causes.{Rose};
-ghost use Rattle.dv_text.specs.Keys.{Hashes, hashes_of};
-ghost use Rattle.dv_text.specs.Told.{Told};
-ghost use Rattle.dv_outside.specs.declared.folders.NamedFile.{NamedFile};
-ghost use Rattle.dv_records.specs.declared.stores.Store.{Store};
+ghost use Rattle.std.specs.Prelude.{◌≡◌, ◌≤◌, IfOk, false};
 ghost use Rattle.dv_window.specs.Offices.{AgreesUnlessStale};
-ghost use Rattle.dv_try.specs.Causes.{Faults};
-ghost use Rattle.dv_app.specs.Kept.{KeptSays, snapshot_said};
+ghost use Rattle.dv_app.specs.Kept.{snapshot_said};
 ghost use Rattle.dv_app.specs.Lines.{snapshot_line as line_of_rows};
 ghost use Rattle.dv_app.specs.Openings.{IsOpen};
+ghost use Rattle.dv_app.specs.Keyed.{Keyed, keyed};
+ghost use Rattle.dv_outside.specs.Seen.{seen};
 ghost use Rattle.dv_app.specs.Words as words;
-ghost use Rattle.dv_app.specs.Works.{Comes, ComesFor, ComesSound, Tells};
+ghost use Rattle.dv_app.specs.Works.{Tells, WorksAlone};
 
 use crate::lines::{SNAPSHOT_REPEATED, SNAPSHOT_STORED};
 use crate::openings::open_office;
@@ -43,9 +39,7 @@ fn refused(rule: QueryRule) -> Stop
 
 // What is said of the answer to a snapshot.
 fn answered(alloc: Global, catalog: &Catalog, answer: SnapAnswer) -> Result<Reply, Stop>
-    ensures says { Tells (snapshot_said catalog.now answer) result }
-    ensures cause { (f : Faults) (lost : ℕ) (now : ℕ) → (answer ≡ SnapAnswer.KeeperFault → Rose lost now) → ComesFor f (record { folder = ⊥; keeper = Rose lost now }) result }
-    ensures sound { (hashes : Hashes) (kept : Option Store) → ComesSound hashes kept result }
+    ensures { Tells (snapshot_said catalog.now answer) result }
 {
     match answer {
         SnapAnswer::Stored { rows } => Ok(Reply::Line {
@@ -75,10 +69,7 @@ fn snapshot_in<K: Keeper>(
 ) -> Result<Reply, Stop>
     requires fresh { office.old.stale ≡ false }
     requires agrees { AgreesUnlessStale office.old (K.store keeper.old) }
-    ensures comes { (hashes : Hashes) (width : ℕ) → IsOpen hashes width (K.store keeper.old) office.old → (told : Option (List NamedFile)) → Told (K.store keeper.old) (λ s. Comes (KeptSays (record { folder = ⊥; keeper = Rose (K.faults keeper.old) (K.faults keeper.new) })
-        hashes width told (words.Snapshot date.now) s (K.store keeper.new)) result) }
-    ensures cause { (f : Faults) → ComesFor f (record { folder = ⊥; keeper = Rose (K.faults keeper.old) (K.faults keeper.new) }) result }
-    ensures sound { (hashes : Hashes) (kept : Option Store) → ComesSound hashes kept result }
+    ensures works { (k : Keyed) → IsOpen k (K.store keeper.old) office.old → WorksAlone (words.Snapshot date.now) k (seen K.store K.faults keeper.old keeper.new) result }
     ensures later { K.faults keeper.old ≤ K.faults keeper.new }
 {
     let date = check_date(date)?;
@@ -93,10 +84,7 @@ pub(crate) fn snapshot<K: Keeper, H: KeyDigest>(
     keeper: &mut K,
     digest: &H,
 ) -> Result<Reply, Stop>
-    ensures comes { (told : Option (List NamedFile)) → Told (K.store keeper.old) (λ s. Comes (KeptSays (record { folder = ⊥; keeper = Rose (K.faults keeper.old) (K.faults keeper.new) })
-        (hashes_of H.digest_of H.size) H.size told (words.Snapshot date.now) s (K.store keeper.new)) result) }
-    ensures cause { (f : Faults) → ComesFor f (record { folder = ⊥; keeper = Rose (K.faults keeper.old) (K.faults keeper.new) }) result }
-    ensures sound { ComesSound (hashes_of H.digest_of H.size) (K.store keeper.old) result }
+    ensures works { WorksAlone (words.Snapshot date.now) (keyed H.digest_of H.size) (seen K.store K.faults keeper.old keeper.new) result }
     ensures later { K.faults keeper.old ≤ K.faults keeper.new }
 {
     let mut office = open_office(alloc, keeper, digest)?;

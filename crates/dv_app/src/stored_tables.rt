@@ -1,19 +1,16 @@
 // The commands `pit` and `bridge`: the text of a table of a stored snapshot.
-ghost use Rattle.std.specs.Prelude.{◌≡◌, ◌≤◌, IfErr, IfOk, List, Option, Some, false, ℕ};
-ghost use Rattle.dv_text.specs.Causes.{Rose};
-ghost use Rattle.dv_text.specs.Keys.{Hashes, hashes_of};
-ghost use Rattle.dv_text.specs.Told.{Told};
-ghost use Rattle.dv_outside.specs.declared.folders.NamedFile.{NamedFile};
+ghost use Rattle.std.specs.Prelude.{◌≡◌, ◌≤◌, ℕ, IfErr, IfOk, Some, false};
 ghost use Rattle.dv_snapshots.specs.StoredTexts.{HasTable};
-ghost use Rattle.dv_try.specs.Causes.{Faults};
 ghost use Rattle.dv_try.specs.Endings.{IsReadCause, QueryEnds};
-ghost use Rattle.dv_app.specs.Kept.{KeptSays, stored_id};
+ghost use Rattle.dv_app.specs.Kept.{stored_id};
 ghost use Rattle.dv_app.specs.Openings.{IsOpen};
 ghost use Rattle.dv_app.specs.Queries.{StoredEnds};
+ghost use Rattle.dv_app.specs.Keyed.{Keyed, keyed};
+ghost use Rattle.dv_outside.specs.Seen.{seen};
 ghost use Rattle.dv_app.specs.Stops.{stop_of_stored};
 ghost use Rattle.dv_app.specs.Words as words;
 ghost use Rattle.dv_app.specs.Words.{stored_of};
-ghost use Rattle.dv_app.specs.Works.{Comes, ComesFor, ComesSound};
+ghost use Rattle.dv_app.specs.Works.{WorksAlone};
 
 use crate::openings::open_office;
 use crate::replies::Reply;
@@ -73,16 +70,13 @@ fn stop_of(fault: StoredFault, date: Stamp) -> Stop
 // The text of a table in a snapshot of which the office has the head.
 fn stored_in<K: Keeper>(
     alloc: Global,
-    office: &Office,
+    office: &mut Office,
     keeper: &mut K,
     table: &StoredTable<'_>,
     date: &Text,
 ) -> Result<Reply, Stop>
-    requires fresh { office.now.stale ≡ false }
-    ensures comes { (hashes : Hashes) (width : ℕ) → IsOpen hashes width (K.store keeper.old) office.now → (told : Option (List NamedFile)) → Told (K.store keeper.old) (λ s. Comes (KeptSays (record { folder = ⊥; keeper = Rose (K.faults keeper.old) (K.faults keeper.new) })
-        hashes width told (words.Stored (stored_of table.now) date.now) s (K.store keeper.new)) result) }
-    ensures cause { (f : Faults) → ComesFor f (record { folder = ⊥; keeper = Rose (K.faults keeper.old) (K.faults keeper.new) }) result }
-    ensures sound { (hashes : Hashes) (width : ℕ) → IsOpen hashes width (K.store keeper.old) office.now → ComesSound hashes (K.store keeper.old) result }
+    requires fresh { office.old.stale ≡ false }
+    ensures works { (k : Keyed) → IsOpen k (K.store keeper.old) office.old → WorksAlone (words.Stored (stored_of table.now) date.now) k (seen K.store K.faults keeper.old keeper.new) result }
     ensures store { K.store keeper.new ≡ K.store keeper.old }
     ensures later { K.faults keeper.old ≤ K.faults keeper.new }
 {
@@ -102,13 +96,10 @@ pub(crate) fn stored<K: Keeper, H: KeyDigest>(
     keeper: &mut K,
     digest: &H,
 ) -> Result<Reply, Stop>
-    ensures comes { (told : Option (List NamedFile)) → Told (K.store keeper.old) (λ s. Comes (KeptSays (record { folder = ⊥; keeper = Rose (K.faults keeper.old) (K.faults keeper.new) })
-        (hashes_of H.digest_of H.size) H.size told (words.Stored (stored_of table.now) date.now) s (K.store keeper.new)) result) }
-    ensures cause { (f : Faults) → ComesFor f (record { folder = ⊥; keeper = Rose (K.faults keeper.old) (K.faults keeper.new) }) result }
-    ensures sound { ComesSound (hashes_of H.digest_of H.size) (K.store keeper.old) result }
+    ensures works { WorksAlone (words.Stored (stored_of table.now) date.now) (keyed H.digest_of H.size) (seen K.store K.faults keeper.old keeper.new) result }
     ensures store { K.store keeper.new ≡ K.store keeper.old }
     ensures later { K.faults keeper.old ≤ K.faults keeper.new }
 {
-    let office = open_office(alloc, keeper, digest)?;
-    stored_in(alloc, &office, keeper, table, date)
+    let mut office = open_office(alloc, keeper, digest)?;
+    stored_in(alloc, &mut office, keeper, table, date)
 }

@@ -1,9 +1,12 @@
-ghost use Rattle.std.specs.Prelude.{◌≡◌, ◌≤◌, map, string_bytes};
+ghost use Rattle.std.specs.Prelude.{◌≡◌, ◌≤◌};
 ghost use Rattle.dv_outside.specs.declared.statuses.Status.TheVariants as statuses;
 ghost use Rattle.dv_text.specs.Keys.{hashes_of};
+ghost use Rattle.dv_app.specs.Changes.{LeavesStore};
 ghost use Rattle.dv_app.specs.Kept.{IsStanding};
-ghost use Rattle.dv_app.specs.Run.{IsApart, IsRunCause, NoFault, RunCompletes, RunSays};
-ghost use Rattle.dv_app.specs.Words.{asked};
+ghost use Rattle.dv_app.specs.Run.{ChangesAsSaid, DamageIsNamed, IsApart, IsRunCause, RunCompletes, RunSays};
+ghost use Rattle.dv_app.specs.Keyed.{keyed};
+ghost use Rattle.dv_outside.specs.Seen.{seen};
+ghost use Rattle.dv_app.specs.Words.{asked_of};
 
 use crate::kept::reply_to;
 use crate::lines::{MEMORY, USAGE};
@@ -33,28 +36,25 @@ pub fn run<F: Folder, K: Keeper, O: Sink, E: Sink, H: KeyDigest, G: Gate>(
     gate: &G,
 ) -> Status
     // What is written, what the keeper has then, and the status, by what the words ask for.
-    ensures says { RunSays (map string_bytes words.now) (hashes_of H.digest_of H.size) H.size (F.files folder.old)
-        (record { folder_before = F.faults folder.old; folder = F.faults folder.new; out_before = O.faults out.old; out = O.faults out.new; err_before = E.faults err.old; err = E.faults err.new })
-        (record { before = K.store keeper.old; after = K.store keeper.new; faults_before = K.faults keeper.old; faults = K.faults keeper.new })
-        (record { out_old = O.contents out.old; out = O.contents out.new; err_old = E.contents err.old; err = E.contents err.new }) result }
+    ensures says { RunSays words.now (keyed H.digest_of H.size) (seen F.files F.faults folder.old folder.new) (seen K.store K.faults keeper.old keeper.new) (seen O.contents O.faults out.old out.new) (seen E.contents E.faults err.old err.new) result }
 
     // With no fault and memory enough, it is what the definitions say.
-    ensures complete { NoFault (F.faults folder.old) (F.faults folder.new) → NoFault (O.faults out.old) (O.faults out.new) → NoFault (E.faults err.old) (E.faults err.new)
-        → NoFault (K.faults keeper.old) (K.faults keeper.new) → (result ≡ statuses.Memory → ⊥) → RunCompletes (map string_bytes words.now) (hashes_of H.digest_of H.size) H.size (F.files folder.old)
-        (record { before = K.store keeper.old; after = K.store keeper.new; faults_before = K.faults keeper.old; faults = K.faults keeper.new })
-        (record { out_old = O.contents out.old; out = O.contents out.new; err_old = E.contents err.old; err = E.contents err.new }) result }
+    ensures complete { RunCompletes words.now (keyed H.digest_of H.size) (seen F.files F.faults folder.old folder.new) (seen K.store K.faults keeper.old keeper.new) (seen O.contents O.faults out.old out.new) (seen E.contents E.faults err.old err.new) result }
 
     // Each status has its cause, and its line, whatever the objects tell of their contents.
-    ensures causes { IsRunCause (map string_bytes words.now)
-        (record { folder_before = F.faults folder.old; folder = F.faults folder.new; out_before = O.faults out.old; out = O.faults out.new; err_before = E.faults err.old; err = E.faults err.new })
-        (record { before = K.store keeper.old; after = K.store keeper.new; faults_before = K.faults keeper.old; faults = K.faults keeper.new })
-        (record { out_old = O.contents out.old; out = O.contents out.new; err_old = E.contents err.old; err = E.contents err.new }) result }
+    ensures causes { IsRunCause words.now (seen F.files F.faults folder.old folder.new) (seen K.store K.faults keeper.old keeper.new) (seen O.contents O.faults out.old out.new) (seen E.contents E.faults err.old err.new) result }
 
-    // A store that stands for a state is never called damaged.
+    // Whatever the keeper's store stands for: a text and each refusal leave it, and it changes only
+    // where that is said.
+    ensures leaves { LeavesStore (asked_of words.now) result → K.store keeper.new ≡ K.store keeper.old }
+    ensures changes { ChangesAsSaid (asked_of words.now) (seen K.store K.faults keeper.old keeper.new) (seen O.contents O.faults out.old out.new) (seen E.contents E.faults err.old err.new) result }
+
+    // The damage that is named is one that the store has; one that stands for a state has none.
+    ensures damaged { result ≡ statuses.Damaged → DamageIsNamed (asked_of words.now) (keyed H.digest_of H.size) (K.store keeper.old) (seen E.contents E.faults err.old err.new) }
     ensures sound { result ≡ statuses.Damaged → IsStanding (hashes_of H.digest_of H.size) (K.store keeper.old) → ⊥ }
 
     // A command that keeps nothing leaves the keeper; the folder's files are as they were; no count falls.
-    ensures untouched { IsApart (asked (map string_bytes words.now)) → keeper.new ≡ keeper.old }
+    ensures untouched { IsApart (asked_of words.now) → keeper.new ≡ keeper.old }
     ensures kept { F.files folder.new ≡ F.files folder.old }
     ensures later_in { F.faults folder.old ≤ F.faults folder.new }
     ensures later_keeper { K.faults keeper.old ≤ K.faults keeper.new }

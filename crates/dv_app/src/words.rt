@@ -141,7 +141,7 @@ pub(crate) struct Parts {
 /// The first word, and the words behind it without the first `--`; none where there is no first word, or one before
 /// the first `--` begins with `-`.
 pub(crate) fn parts_of(alloc: Global, words: &[String]) -> Result<Option<Parts>, Memory>
-    ensures { IfOk result (λ parts. spec.asked (map string_bytes words.now) ≡ spec.command_in parts) }
+    ensures { IfOk result (λ parts. spec.asked_of words.now ≡ spec.command_in parts) }
 {
     match words {
         [] => Ok(None),

@@ -1,36 +1,59 @@
-use Rattle.dv_try.proofs.Vocabulary.{err_from_is_err_and, hashes_of, subst, sym, ◌∙◌}
-use Rattle.dv_text.specs.Causes.{Rose}
-use Rattle.dv_app.specs.Openings.{IsOpen}
+use Rattle.dv_try.proofs.Vocabulary.{arrival_of, err_from_is_err_and, hashes_of, subst, sym}
+use Rattle.dv_text.specs.Told.{Told}
+use Rattle.dv_window.specs.Offices.{Agrees}
+use Rattle.dv_app.specs.Keyed.{keyed}
+use Rattle.dv_outside.specs.Seen.{seen}
 use Rattle.dv_app.specs.Words.{Load}
-use Rattle.dv_app.proofs.MoreRises.{comes_for_so, comes_more, stop_cause_more}
-use Rattle.dv_try.proofs.EndSteps.{rose_later}
-use Rattle.dv_app.proofs.ShutStores.{kept_shut}
+use Rattle.dv_app.proofs.LoadComes.{broke_since, load_broken, load_said, load_unbrought, load_unsaid, took_since}
+use Rattle.dv_app.proofs.ShutStores.{shut_works}
 use Rattle.dv_app.proofs.loads.load.Goals as goal
 
-pub returns-in_err-office-clause-comes : goal.returns-in_err-office-clause-comes
-returns-in_err-office-clause-comes g c =
+pub returns-in_err-office-clause-works : goal.returns-in_err-office-clause-works
+returns-in_err-office-clause-works g c =
     let p = err_from_is_err_and c.from_residual.result c.from_residual.ensures.1 in
-    rw (p.1, p.2) (λ s told.
-    kept_shut (record { folder = Rose (g.F.Folder.faults c.args.folder.now) (g.F.Folder.faults c.args.folder.now); keeper = Rose (g.K.Keeper.faults c.args.keeper.now) (g.K.Keeper.faults c.open_office.new.keeper) })
-    (hashes_of g.H.KeyDigest.digest_of g.H.KeyDigest.size) g.H.KeyDigest.size (g.F.Folder.files c.args.folder.now) s (g.K.Keeper.store c.open_office.new.keeper) (c.in_err-office.ensures.store ∙ told) c.in_err-office.field-0.0
-    (c.in_err-office.ensures.shut s told) (stop_cause_more _ _ (λ no. absurd no) (λ rose. rose) c.in_err-office.field-0.0 c.in_err-office.ensures.cause) (Load c.args.name.now) tt)
+    rw (p.1, p.2) (shut_works (keyed g.H.KeyDigest.digest_of g.H.KeyDigest.size) (seen g.F.Folder.files g.F.Folder.faults c.args.folder.now c.args.folder.now) (seen g.K.Keeper.store g.K.Keeper.faults c.args.keeper.now c.open_office.new.keeper)
+    c.in_err-office.ensures.store c.in_err-office.field-0.0 c.in_err-office.ensures.shut (Load c.args.name.now) tt)
 
-pub returns-in_err-office-clause-cause : goal.returns-in_err-office-clause-cause
-returns-in_err-office-clause-cause g c =
-    let p = err_from_is_err_and c.from_residual.result c.from_residual.ensures.1 in
-    rw (p.1, p.2) (λ f was is. stop_cause_more _ _ (λ no. absurd no) (λ rose. rose) c.in_err-office.field-0.0 c.in_err-office.ensures.cause)
+pub returns-in_err-arrived-clause-works : goal.returns-in_err-arrived-clause-works
+returns-in_err-arrived-clause-works g c =
+    let p = err_from_is_err_and c.from_residual-in_err-arrived.result c.from_residual-in_err-arrived.ensures.1 in
+    rw (p.1, p.2) (load_unbrought (keyed g.H.KeyDigest.digest_of g.H.KeyDigest.size) c.in_ok-office.office (seen g.F.Folder.files g.F.Folder.faults c.args.folder.now c.arrive.new.folder) (seen g.K.Keeper.store g.K.Keeper.faults c.args.keeper.now c.open_office.new.keeper)
+    c.in_ok-office.ensures.ok c.args.name.now c.in_ok-office.ensures.store c.in_err-arrived.field-0.0 c.in_err-arrived.ensures.unbrought)
 
-pub load_into-requires : goal.load_into-requires
-load_into-requires g c = (
-  c.type_bounds.sync-H,
-  (c.type_bounds.sync-G, subst (λ st. IsOpen (hashes_of g.H.KeyDigest.digest_of g.H.KeyDigest.size) g.H.KeyDigest.size st c.in_ok-office.office) (sym c.in_ok-office.ensures.store) c.in_ok-office.ensures.ok),
-)
+pub load_arrived-requires-clause-agrees : goal.load_arrived-requires-clause-agrees
+load_arrived-requires-clause-agrees g c = λ lifetimes outlive fresh. subst (λ told. Told told (Agrees c.in_ok-office.office)) (sym c.in_ok-office.ensures.store) c.in_ok-office.ensures.ok.agrees
 
-pub returns-clause-comes : goal.returns-clause-comes
-returns-clause-comes g c = λ s told.
-    comes_more (record { folder = Rose (g.F.Folder.faults c.args.folder.now) (g.F.Folder.faults c.load_into.new.folder); keeper = Rose (g.K.Keeper.faults c.open_office.new.keeper) (g.K.Keeper.faults c.load_into.new.keeper) }) (record { folder = Rose (g.F.Folder.faults c.args.folder.now) (g.F.Folder.faults c.load_into.new.folder); keeper = Rose (g.K.Keeper.faults c.args.keeper.now) (g.K.Keeper.faults c.load_into.new.keeper) }) (λ rose. rose) (rose_later (g.K.Keeper.faults c.args.keeper.now) (g.K.Keeper.faults c.open_office.new.keeper) (g.K.Keeper.faults c.load_into.new.keeper) c.in_ok-office.ensures.later)
-    (hashes_of g.H.KeyDigest.digest_of g.H.KeyDigest.size) g.H.KeyDigest.size (g.F.Folder.files c.args.folder.now) (Load c.args.name.now) s (g.K.Keeper.store c.load_into.new.keeper) c.load_into.result (c.load_into.ensures.comes s (c.in_ok-office.ensures.store ∙ told))
+pub load_arrived-requires-clause-fresh : goal.load_arrived-requires-clause-fresh
+load_arrived-requires-clause-fresh g c = λ lifetimes outlive. c.in_ok-office.ensures.ok.fresh
 
-pub returns-clause-cause : goal.returns-clause-cause
-returns-clause-cause g c = λ f was is.
-    comes_for_so f (record { folder = Rose (g.F.Folder.faults c.args.folder.now) (g.F.Folder.faults c.load_into.new.folder); keeper = Rose (g.K.Keeper.faults c.open_office.new.keeper) (g.K.Keeper.faults c.load_into.new.keeper) }) (record { folder = Rose (g.F.Folder.faults c.args.folder.now) (g.F.Folder.faults c.load_into.new.folder); keeper = Rose (g.K.Keeper.faults c.args.keeper.now) (g.K.Keeper.faults c.load_into.new.keeper) }) (λ rose. rose) (rose_later (g.K.Keeper.faults c.args.keeper.now) (g.K.Keeper.faults c.open_office.new.keeper) (g.K.Keeper.faults c.load_into.new.keeper) c.in_ok-office.ensures.later) c.load_into.result (c.load_into.ensures.cause f was is)
+pub returns-in_err-taken-clause-works : goal.returns-in_err-taken-clause-works
+returns-in_err-taken-clause-works g c =
+    let p = err_from_is_err_and c.from_residual-in_err-taken.result c.from_residual-in_err-taken.ensures.1 in
+    rw (p.1, p.2) (load_broken (keyed g.H.KeyDigest.digest_of g.H.KeyDigest.size) c.in_ok-office.office
+    (seen g.F.Folder.files g.F.Folder.faults c.args.folder.now c.arrive.new.folder) (seen g.K.Keeper.store g.K.Keeper.faults c.args.keeper.now c.load_arrived.new.keeper)
+    c.in_ok-office.ensures.ok c.args.name.now c.in_ok-arrived.arrived c.in_ok-arrived.ensures.brings c.in_err-taken.field-0.0
+    (broke_since (hashes_of g.H.KeyDigest.digest_of g.H.KeyDigest.size) c.in_ok-office.office (arrival_of c.in_ok-arrived.arrived)
+    (seen g.K.Keeper.store g.K.Keeper.faults c.open_office.new.keeper c.load_arrived.new.keeper)
+    (g.K.Keeper.store c.args.keeper.now) (g.K.Keeper.faults c.args.keeper.now) c.in_ok-office.ensures.store c.in_ok-office.ensures.later
+    c.in_err-taken.field-0.0 c.in_err-taken.ensures.broke))
+
+pub returns-in_err-reply_of_taken-clause-works : goal.returns-in_err-reply_of_taken-clause-works
+returns-in_err-reply_of_taken-clause-works g c =
+    let p = err_from_is_err_and c.from_residual-in_err-reply_of_taken.result c.from_residual-in_err-reply_of_taken.ensures.1 in
+    rw (p.1, p.2) (load_unsaid (keyed g.H.KeyDigest.digest_of g.H.KeyDigest.size) c.in_ok-office.office
+    (seen g.F.Folder.files g.F.Folder.faults c.args.folder.now c.arrive.new.folder) (seen g.K.Keeper.store g.K.Keeper.faults c.args.keeper.now c.load_arrived.new.keeper)
+    c.in_ok-office.ensures.ok c.args.name.now c.in_ok-arrived.arrived c.in_ok-arrived.ensures.brings c.in_ok-taken.taken
+    (took_since (hashes_of g.H.KeyDigest.digest_of g.H.KeyDigest.size) c.in_ok-office.office (arrival_of c.in_ok-arrived.arrived)
+    (seen g.K.Keeper.store g.K.Keeper.faults c.open_office.new.keeper c.load_arrived.new.keeper)
+    (g.K.Keeper.store c.args.keeper.now) (g.K.Keeper.faults c.args.keeper.now) c.in_ok-office.ensures.store c.in_ok-office.ensures.later
+    c.in_ok-taken.taken c.in_ok-taken.ensures.took))
+
+pub returns-clause-works : goal.returns-clause-works
+returns-clause-works g c = rw c.in_ok-reply_of_taken.ensures
+    (load_said (keyed g.H.KeyDigest.digest_of g.H.KeyDigest.size) c.in_ok-office.office
+    (seen g.F.Folder.files g.F.Folder.faults c.args.folder.now c.arrive.new.folder) (seen g.K.Keeper.store g.K.Keeper.faults c.args.keeper.now c.load_arrived.new.keeper)
+    c.in_ok-office.ensures.ok c.args.name.now c.in_ok-arrived.arrived c.in_ok-arrived.ensures.brings c.in_ok-taken.taken
+    (took_since (hashes_of g.H.KeyDigest.digest_of g.H.KeyDigest.size) c.in_ok-office.office (arrival_of c.in_ok-arrived.arrived)
+    (seen g.K.Keeper.store g.K.Keeper.faults c.open_office.new.keeper c.load_arrived.new.keeper)
+    (g.K.Keeper.store c.args.keeper.now) (g.K.Keeper.faults c.args.keeper.now) c.in_ok-office.ensures.store c.in_ok-office.ensures.later
+    c.in_ok-taken.taken c.in_ok-taken.ensures.took))

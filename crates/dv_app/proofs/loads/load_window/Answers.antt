@@ -3,51 +3,71 @@ use Rattle.dv_app.proofs.LoadSteps.{fault_broke, load_answered, memory_broke, re
 use Rattle.dv_window.specs.Offices.{LeavesStore}
 use Rattle.dv_app.proofs.loads.load_window.Goals as goal
 
-pub returns-in-Loaded-clause-ok : goal.returns-in-Loaded-clause-ok
-returns-in-Loaded-clause-ok g c = λ name state is_in.
+pub returns-in-Loaded-clause-took : goal.returns-in-Loaded-clause-took
+returns-in-Loaded-clause-took g c =
     let hashes = hashes_of g.H.KeyDigest.digest_of g.H.KeyDigest.size in
-    let was = c.args.office.now in
-    let held = c.load-answer.new.self in
-    let now = g.K.Keeper.store c.load-answer.new.keeper in
-    load_answered was.vault.mapping hashes name state c.args.given.now held c.load-answer.ensures.mapping (g.K.Keeper.store c.args.keeper.now) now c.in-Loaded.rows
-    (subst (λ answer. StepsTo was.vault.mapping hashes state c.args.given.now answer held now) c.in-Loaded.is (c.load-answer.ensures.step state is_in))
-
-pub returns-in-Repeated-clause-ok : goal.returns-in-Repeated-clause-ok
-returns-in-Repeated-clause-ok g c = λ name state is_in.
-    let hashes = hashes_of g.H.KeyDigest.digest_of g.H.KeyDigest.size in
-    let was = c.args.office.now in
+    let mapping = c.args.office.now.vault.mapping in
     let held = c.load-answer.new.self in
     let before = g.K.Keeper.store c.args.keeper.now in
     let now = g.K.Keeper.store c.load-answer.new.keeper in
-    repeat_answered was.vault.mapping hashes name state c.args.given.now held c.load-answer.ensures.mapping before now
-    (subst (λ answer. StepsTo was.vault.mapping hashes state c.args.given.now answer held now) c.in-Repeated.is (c.load-answer.ensures.step state is_in))
-    (subst (λ answer. LeavesStore answer before now) c.in-Repeated.is c.load-answer.ensures.store)
+    record {
+      answers = λ name state is_in. load_answered mapping hashes name state c.args.given.now held c.load-answer.ensures.mapping before now c.in-Loaded.rows
+          (subst (λ answer. StepsTo mapping hashes state c.args.given.now answer held now) c.in-Loaded.is (c.load-answer.ensures.step state is_in));
+      leaves = tt;
+    }
 
-pub returns-in-Refused-clause-ok : goal.returns-in-Refused-clause-ok
-returns-in-Refused-clause-ok g c = λ name state is_in.
+pub returns-in-Repeated-clause-took : goal.returns-in-Repeated-clause-took
+returns-in-Repeated-clause-took g c =
     let hashes = hashes_of g.H.KeyDigest.digest_of g.H.KeyDigest.size in
-    let was = c.args.office.now in
+    let mapping = c.args.office.now.vault.mapping in
     let held = c.load-answer.new.self in
     let before = g.K.Keeper.store c.args.keeper.now in
     let now = g.K.Keeper.store c.load-answer.new.keeper in
-    refusal_answered was.vault.mapping hashes name state c.args.given.now held c.load-answer.ensures.mapping before now c.in-Refused.rule
-    (subst (λ answer. StepsTo was.vault.mapping hashes state c.args.given.now answer held now) c.in-Refused.is (c.load-answer.ensures.step state is_in))
-    (subst (λ answer. LeavesStore answer before now) c.in-Refused.is c.load-answer.ensures.store)
+    record {
+      answers = λ name state is_in. repeat_answered mapping hashes name state c.args.given.now held c.load-answer.ensures.mapping before now
+          (subst (λ answer. StepsTo mapping hashes state c.args.given.now answer held now) c.in-Repeated.is (c.load-answer.ensures.step state is_in))
+          (subst (λ answer. LeavesStore answer before now) c.in-Repeated.is c.load-answer.ensures.store);
+      leaves = subst (λ answer. LeavesStore answer before now) c.in-Repeated.is c.load-answer.ensures.store;
+    }
+
+pub returns-in-Refused-clause-took : goal.returns-in-Refused-clause-took
+returns-in-Refused-clause-took g c =
+    let hashes = hashes_of g.H.KeyDigest.digest_of g.H.KeyDigest.size in
+    let mapping = c.args.office.now.vault.mapping in
+    let held = c.load-answer.new.self in
+    let before = g.K.Keeper.store c.args.keeper.now in
+    let now = g.K.Keeper.store c.load-answer.new.keeper in
+    record {
+      answers = λ name state is_in. refusal_answered mapping hashes name state c.args.given.now held c.load-answer.ensures.mapping before now c.in-Refused.rule
+          (subst (λ answer. StepsTo mapping hashes state c.args.given.now answer held now) c.in-Refused.is (c.load-answer.ensures.step state is_in))
+          (subst (λ answer. LeavesStore answer before now) c.in-Refused.is c.load-answer.ensures.store);
+      leaves = subst (λ answer. LeavesStore answer before now) c.in-Refused.is c.load-answer.ensures.store;
+    }
 
 pub returns-in-KeeperFault-clause-broke : goal.returns-in-KeeperFault-clause-broke
-returns-in-KeeperFault-clause-broke g c = λ state is_in.
+returns-in-KeeperFault-clause-broke g c =
     let hashes = hashes_of g.H.KeyDigest.digest_of g.H.KeyDigest.size in
-    let was = c.args.office.now in
+    let mapping = c.args.office.now.vault.mapping in
     let held = c.load-answer.new.self in
+    let before = g.K.Keeper.store c.args.keeper.now in
     let now = g.K.Keeper.store c.load-answer.new.keeper in
-    fault_broke was.vault.mapping hashes [] state c.args.given.now held c.load-answer.ensures.mapping None now
-    (subst (λ answer. StepsTo was.vault.mapping hashes state c.args.given.now answer held now) c.in-KeeperFault.is (c.load-answer.ensures.step state is_in))
+    record {
+      left = λ state is_in. fault_broke mapping hashes [] state c.args.given.now held c.load-answer.ensures.mapping None now
+          (subst (λ answer. StepsTo mapping hashes state c.args.given.now answer held now) c.in-KeeperFault.is (c.load-answer.ensures.step state is_in));
+      is_break = tt;
+      cause = c.load-answer.ensures.cause c.in-KeeperFault.is;
+    }
 
 pub returns-in-Memory-clause-broke : goal.returns-in-Memory-clause-broke
-returns-in-Memory-clause-broke g c = λ state is_in.
+returns-in-Memory-clause-broke g c =
     let hashes = hashes_of g.H.KeyDigest.digest_of g.H.KeyDigest.size in
-    let was = c.args.office.now in
+    let mapping = c.args.office.now.vault.mapping in
     let held = c.load-answer.new.self in
+    let before = g.K.Keeper.store c.args.keeper.now in
     let now = g.K.Keeper.store c.load-answer.new.keeper in
-    memory_broke was.vault.mapping hashes [] state c.args.given.now held c.load-answer.ensures.mapping None now
-    (subst (λ answer. StepsTo was.vault.mapping hashes state c.args.given.now answer held now) c.in-Memory.is (c.load-answer.ensures.step state is_in))
+    record {
+      left = λ state is_in. memory_broke mapping hashes [] state c.args.given.now held c.load-answer.ensures.mapping None now
+          (subst (λ answer. StepsTo mapping hashes state c.args.given.now answer held now) c.in-Memory.is (c.load-answer.ensures.step state is_in));
+      is_break = tt;
+      cause = tt;
+    }

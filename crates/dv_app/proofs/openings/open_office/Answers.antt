@@ -1,18 +1,16 @@
-use Rattle.dv_try.proofs.Vocabulary.{err_from_is_err_and, hashes_of, ◌∙◌}
+use Rattle.dv_try.proofs.Vocabulary.{err_from_is_err_and, ◌∙◌}
 use Rattle.dv_bridge.proofs.ZeroKeys.{zero_keys}
 use Rattle.dv_form.proofs.Widths.{of_width}
-use Rattle.dv_app.proofs.ShutStores.{start_shut, start_sound}
+use Rattle.dv_app.specs.Keyed.{keyed}
+use Rattle.dv_outside.specs.Seen.{seen}
+use Rattle.dv_app.proofs.ShutStores.{unstarted}
 use Rattle.dv_app.proofs.openings.open_office.Goals as goal
 
 pub returns-in_err-start-clause-shut : goal.returns-in_err-start-clause-shut
 returns-in_err-start-clause-shut g c =
     let p = err_from_is_err_and c.from_residual.result c.from_residual.ensures.1 in
-    rw (p.1, p.2) (start_shut (hashes_of g.H.KeyDigest.digest_of g.H.KeyDigest.size) g.H.KeyDigest.size (g.K.Keeper.store c.args.keeper.now) _ c.in_err-start.ensures.none c.in_err-start.ensures.damaged)
-
-pub returns-in_err-start-clause-sound : goal.returns-in_err-start-clause-sound
-returns-in_err-start-clause-sound g c =
-    let p = err_from_is_err_and c.from_residual.result c.from_residual.ensures.1 in
-    rw (p.1, p.2) (start_sound (hashes_of g.H.KeyDigest.digest_of g.H.KeyDigest.size) g.H.KeyDigest.size (g.K.Keeper.store c.args.keeper.now) _ c.in_err-start.ensures.undamaged)
+    rw (p.1, p.2) (unstarted (keyed g.H.KeyDigest.digest_of g.H.KeyDigest.size) (seen g.K.Keeper.store g.K.Keeper.faults c.args.keeper.now c.start.new.keeper) _
+    c.in_err-start.ensures.none c.in_err-start.ensures.damaged c.in_err-start.ensures.undamaged c.in_err-start.ensures.cause)
 
 pub returns-clause-ok : goal.returns-clause-ok
 returns-clause-ok g c = record {

@@ -6,24 +6,22 @@ use Rattle.dv_mart.specs.MartTexts.{HasKind, rows_behind}
 use Rattle.dv_texts.specs.TableTexts.{table_text}
 use Rattle.dv_mart.specs.Whats.{table_named}
 use Rattle.dv_records.specs.Stores.{rows_in}
-use Rattle.dv_text.specs.Causes.{Rose}
 use Rattle.dv_vault.specs.Vaults.{RawVault}
 use Rattle.dv_app.specs.Queries.{TableEnds}
 use Rattle.dv_app.proofs.TextComes.{has_there, same_behind, table_memory, table_texted, table_unknown}
 use Rattle.dv_app.proofs.queries.table_of.Goals as goal
 
-pub returns-in_err-table-clause-comes : goal.returns-in_err-table-clause-comes
-returns-in_err-table-clause-comes c =
+pub returns-in_err-table : goal.returns-in_err-table
+returns-in_err-table c =
     let p = err_from_is_err_and c.from_residual.result c.from_residual.ensures.1 in
-    rw (p.1, p.2) (λ hashes width kept is_open told lost now s told_is.
-    table_unknown hashes width kept c.args.office.now is_open (record { folder = ⊥; keeper = Rose lost now }) told s told_is c.args.name.now c.in_err-table.field-0.0
+    rw (p.1, p.2) (λ k keeper is_open left folder.
+    table_unknown k c.args.office.now keeper is_open left folder c.args.name.now c.in_err-table.field-0.0
     (subst (λ m. TableEnds m c.args.name.now c.in_err-table.field-0.0) c.catalog.ensures.value c.in_err-table.ensures.ends))
 
-pub returns-in_err-text-clause-comes : goal.returns-in_err-text-clause-comes
-returns-in_err-text-clause-comes c =
+pub returns-in_err-text : goal.returns-in_err-text
+returns-in_err-text c =
     let p = err_from_is_err_and c.from_residual-in_err-text.result c.from_residual-in_err-text.ensures.1 in
-    rw (p.1, p.2) (λ hashes width kept is_open told lost now s told_is.
-    table_memory hashes width kept c.args.office.now is_open (record { folder = ⊥; keeper = Rose lost now }) told s told_is c.args.name.now)
+    rw (p.1, p.2) (λ k keeper is_open left folder. table_memory k c.args.office.now keeper is_open left folder c.args.name.now)
 
 pub whole_table_text-requires-clause-among : goal.whole_table_text-requires-clause-among
 whole_table_text-requires-clause-among c = subst (λ m. Contains (tables m) c.in_ok-table.table) (c.catalog.ensures.value ∙ ap (λ (v : RawVault). v.mapping) (sym c.vault.ensures)) c.in_ok-table.ensures.there
@@ -31,13 +29,13 @@ whole_table_text-requires-clause-among c = subst (λ m. Contains (tables m) c.in
 pub whole_table_text-requires-clause-kind : goal.whole_table_text-requires-clause-kind
 whole_table_text-requires-clause-kind c = c.rows_begun.ensures.kind
 
-pub returns-clause-comes : goal.returns-clause-comes
-returns-clause-comes c = λ hashes width kept is_open told lost now s told_is.
+pub returns : goal.returns
+returns c = λ k keeper is_open left folder.
     let office = c.args.office.now in
     let table = c.in_ok-table.table in
     let more = option_map (λ rows. rows.now) c.rows_begun.result in
     let there : Contains (tables office.vault.mapping) table = subst (λ m. Contains (tables m) table) c.catalog.ensures.value c.in_ok-table.ensures.there in
-    table_texted hashes width kept office is_open (record { folder = ⊥; keeper = Rose lost now }) told s told_is c.args.name.now table
+    table_texted k office keeper is_open left folder c.args.name.now table
     (ap (λ m. table_named m c.args.name.now) (sym c.catalog.ensures.value) ∙ c.in_ok-table.ensures.ok)
     (has_there table office.vault office.begun c.rows_begun.ensures.among there) c.in_ok-text.text
     (c.in_ok-text.ensures (subst (λ (v : RawVault). HasKind v.tables table) (sym c.vault.ensures) c.rows_begun.ensures.held)

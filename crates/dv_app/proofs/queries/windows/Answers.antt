@@ -1,28 +1,17 @@
-use Rattle.dv_try.proofs.Vocabulary.{err_from_is_err_and, hashes_of, ◌∙◌}
-use Rattle.dv_text.specs.Causes.{Rose}
+use Rattle.dv_try.proofs.Vocabulary.{err_from_is_err_and}
+use Rattle.dv_app.specs.Keyed.{keyed}
+use Rattle.dv_outside.specs.Seen.{seen}
 use Rattle.dv_app.specs.Words.{Windows}
-use Rattle.dv_app.proofs.ShutStores.{kept_shut}
+use Rattle.dv_app.proofs.ShutStores.{shut_works}
 use Rattle.dv_app.proofs.queries.windows.Goals as goal
 
-pub returns-in_err-office-clause-comes : goal.returns-in_err-office-clause-comes
-returns-in_err-office-clause-comes g c =
+pub returns-in_err-office-clause-works : goal.returns-in_err-office-clause-works
+returns-in_err-office-clause-works g c =
     let p = err_from_is_err_and c.from_residual.result c.from_residual.ensures.1 in
-    rw (p.1, p.2) (λ told s e.
-    kept_shut (record { folder = ⊥; keeper = Rose (g.K.Keeper.faults c.args.keeper.now) (g.K.Keeper.faults c.open_office.new.keeper) })
-    (hashes_of g.H.KeyDigest.digest_of g.H.KeyDigest.size) g.H.KeyDigest.size told s (g.K.Keeper.store c.open_office.new.keeper) (c.in_err-office.ensures.store ∙ e) c.in_err-office.field-0.0
-    (c.in_err-office.ensures.shut s e) c.in_err-office.ensures.cause (Windows) tt)
+    rw (p.1, p.2) (λ folder.
+    shut_works (keyed g.H.KeyDigest.digest_of g.H.KeyDigest.size) folder (seen g.K.Keeper.store g.K.Keeper.faults c.args.keeper.now c.open_office.new.keeper) c.in_err-office.ensures.store c.in_err-office.field-0.0 c.in_err-office.ensures.shut
+    Windows tt)
 
-pub returns-in_err-office-clause-cause : goal.returns-in_err-office-clause-cause
-returns-in_err-office-clause-cause g c =
-    let p = err_from_is_err_and c.from_residual.result c.from_residual.ensures.1 in
-    rw (p.1, p.2) (λ f. c.in_err-office.ensures.cause)
-
-pub returns-clause-comes : goal.returns-clause-comes
-returns-clause-comes g c = λ told s e. rw c.in_ok-office.ensures.store
-    (c.windows_of.ensures.comes (hashes_of g.H.KeyDigest.digest_of g.H.KeyDigest.size) g.H.KeyDigest.size (g.K.Keeper.store c.args.keeper.now) c.in_ok-office.ensures.ok told _ _ s e)
-
-pub returns-clause-cause : goal.returns-clause-cause
-returns-clause-cause g c = λ f. c.windows_of.ensures.cause f (g.K.Keeper.faults c.args.keeper.now) (g.K.Keeper.faults c.open_office.new.keeper)
-
-pub returns-clause-sound : goal.returns-clause-sound
-returns-clause-sound g c = c.windows_of.ensures.sound (hashes_of g.H.KeyDigest.digest_of g.H.KeyDigest.size) (g.K.Keeper.store c.args.keeper.now)
+pub returns-clause-works : goal.returns-clause-works
+returns-clause-works g c =
+    c.windows_of.ensures (keyed g.H.KeyDigest.digest_of g.H.KeyDigest.size) (seen g.K.Keeper.store g.K.Keeper.faults c.args.keeper.now c.open_office.new.keeper) c.in_ok-office.ensures.ok c.in_ok-office.ensures.store

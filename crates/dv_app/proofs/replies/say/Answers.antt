@@ -3,4 +3,4 @@ use Rattle.dv_app.proofs.ReplySteps.{line_ends}
 use Rattle.dv_app.proofs.replies.say.Goals as goal
 
 pub returns-in-Memory-clause-says : goal.returns-in-Memory-clause-says
-returns-in-Memory-clause-says g c = λ before now. rw c.in-Memory.is (line_ends _ _ _ _ _ refl c.end-in-Memory.ensures.says)
+returns-in-Memory-clause-says g c = rw c.in-Memory.is (line_ends _ _ _ _ _ refl c.end-in-Memory.ensures.says)
