@@ -5,6 +5,7 @@ use Rattle.dv_text.specs.Causes.{Rose}
 use Rattle.dv_text.specs.Keys.{Hashes}
 use Rattle.dv_text.specs.Told.{Told}
 use Rattle.dv_outside.specs.Ends.{Ends}
+use Rattle.dv_outside.specs.Seen.{NoFault, Seen}
 use Rattle.dv_outside.specs.declared.statuses.Status.{Status}
 use Rattle.dv_outside.specs.declared.statuses.Status.TheVariants as statuses
 use Rattle.dv_records.specs.declared.answers.Damage.{Damage}
@@ -15,7 +16,7 @@ use Rattle.dv_start.specs.Damages.{IsFirstDamage, IsInForm}
 use Rattle.dv_start.specs.declared.faults.StartFault.{StartFault}
 use Rattle.dv_start.specs.declared.faults.StartFault.TheVariants as faults
 use Rattle.dv_window.specs.Offices.{Agrees, StandsFor}
-use Rattle.dv_desk.specs.Doors.{EndsOr, IsFaultOf, Started, Sunk}
+use Rattle.dv_desk.specs.Doors.{EndsOr, IsFaultOf, IsServeCause, IsServedOut, Started}
 use Rattle.dv_desk.specs.Lines.{line_of_fault, memory_line, status_of_fault}
 use Rattle.dv_desk.specs.Turns.{Moment}
 
@@ -42,7 +43,7 @@ started_by hashes width store began is fresh wide agrees in_form stands = record
 
 -- ---- a store that is called damaged
 
-module _ (err : Sunk) (result : Status) where
+module _ (err : Seen (List ℕ)) (result : Status) where
   -- a status that isn't that of a damage doesn't become it
   undamaged : (status : Status) (line : List ℕ) → (status ≡ statuses.Damaged → ⊥) → Ends status line err.old err.new err.before err.now result → result ≡ statuses.Damaged → ⊥
   undamaged status line other (inl said) is = other (sym said.status_is ∙ is)
@@ -73,3 +74,18 @@ module _ (err : Sunk) (result : Status) where
     where
       other : statuses.Memory ≡ statuses.Damaged → ⊥
       other e = cc
+
+-- ---- completeness
+
+-- a status that is no fault's, nor that of want of memory, is that of a desk that served all or could not be started
+pub served_out : (before now : ℕ) (kept : Seen Store) (err : Seen (List ℕ)) (result : Status) → IsServeCause before now kept err result → NoFault before now → NoFault kept.before kept.now → NoFault err.before err.now
+    → (result ≡ statuses.Memory → ⊥) → IsServedOut result
+served_out before now kept err statuses.Done cause doors keeper sink other = tt
+served_out before now kept err statuses.Refused none doors keeper sink other = none
+served_out before now kept err statuses.Usage none doors keeper sink other = none
+served_out before now kept err statuses.Mapping cause doors keeper sink other = tt
+served_out before now kept err statuses.ReadFault rose doors keeper sink other = doors rose
+served_out before now kept err statuses.KeeperFault rose doors keeper sink other = keeper rose
+served_out before now kept err statuses.WriteFault rose doors keeper sink other = sink rose
+served_out before now kept err statuses.Memory cause doors keeper sink other = other refl
+served_out before now kept err statuses.Damaged cause doors keeper sink other = tt

@@ -6,16 +6,15 @@ use Rattle.dv_text.specs.Keys.{Hashes}
 use Rattle.dv_outside.specs.Lines.{GivesNext, Lines, with_back}
 use Rattle.dv_outside.specs.declared.folders.Failed.{Failed}
 use Rattle.dv_desk.specs.declared.served.Served.{Served}
-use Rattle.dv_desk.specs.Doors.{DoorsEnd, Passes, PassesTold, ServesAll, ServesEach, Tells, most_lines}
-use Rattle.dv_desk.specs.Serving.{Serves}
+use Rattle.dv_desk.specs.Doors.{DoorsEnd, Passes, PassesTold, ServesAll, ServesEach, ServesLine, Tells, most_lines}
 use Rattle.dv_desk.specs.Turns.{Moment}
 
 module _ {L : Type 0} (hashes : Hashes) (width : ℕ) (tells : Tells L) where
   -- one more connection is served behind others
   pub each_more : (before mid now : Moment) (how : Served) (line back : L) (lines backs : List L) → ServesEach hashes width tells lines backs before mid
-      → Serves hashes width (tells.left line) (tells.contents line) (tells.contents back) mid now how → ServesEach hashes width tells (lines ++ line ∷ []) (backs ++ back ∷ []) before now
+      → ServesLine hashes width tells line back mid now how → ServesEach hashes width tells (lines ++ line ∷ []) (backs ++ back ∷ []) before now
   each_more before mid now how line back [] [] is serves =
-      (now, how, subst (λ m. Serves hashes width (tells.left line) (tells.contents line) (tells.contents back) m now how) is serves, refl)
+      (now, how, subst (λ m. ServesLine hashes width tells line back m now how) is serves, refl)
   each_more before mid now how line back (first ∷ lines) (came ∷ backs) (next, ended, served, each) serves = (next, ended, served, each_more next mid now how line back lines backs each serves)
   each_more before mid now how line back [] (came ∷ backs) none serves = absurd none
   each_more before mid now how line back (first ∷ lines) [] none serves = absurd none
@@ -72,7 +71,7 @@ module _ {L : Type 0} (hashes : Hashes) (width : ℕ) (tells : Tells L) (old : O
 
   module _ (mid : Option (Lines L)) (now : Moment) (count : ℕ) (so_far : SoFar hashes width tells old mid before now count) where
     pub served_more : (line back : L) (taken new : Option (Lines L)) (next : Moment) (how : Served) → GivesNext mid taken (Some line) → new ≡ with_back taken back
-        → Serves hashes width (tells.left line) (tells.contents line) (tells.contents back) now next how → SoFar hashes width tells old new before next (count + 1)
+        → ServesLine hashes width tells line back now next how → SoFar hashes width tells old new before next (count + 1)
     served_more line back taken new next how gives is serves = record {
       lines = so_far.lines ++ line ∷ [];
       backs = so_far.backs ++ back ∷ [];

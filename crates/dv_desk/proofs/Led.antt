@@ -36,7 +36,8 @@ pub record Reached (hashes : Hashes) (before after : Moment) : Type 0 where
 each_leads : {L : Type 0} (hashes : Hashes) (width : ℕ) (tells : Tells L) (lines backs : List L) (before after : Moment) → ServesEach hashes width tells lines backs before after
     → (state : State) → IsIn hashes state before.held before.store → HasWidth width before → IsSome before.store → Reached hashes before after
 each_leads hashes width tells [] [] before after same state is_in wide some = subst (Reached hashes before) (sym same) (record { state = state; is_in = is_in; mapping = refl; told = some })
-each_leads hashes width tells (line ∷ lines) (back ∷ backs) before after (next, how, serves, each) state is_in wide some =
+each_leads hashes width tells (line ∷ lines) (back ∷ backs) before after (next, how, line_served, each) state is_in wide some =
+    let serves = line_served.serves in
     let talked = serves.in_states state is_in wide some in
     let keeps = talks_keep hashes width serves.exchanges before next serves.talks in
     let others = each_leads hashes width tells lines backs next after each talked.state' talked.left (keeps.wide wide) (keeps.told some) in

@@ -16,12 +16,14 @@ use Rattle.dv_mart.specs.Whats.{hub_place, offered_mart, table_named}
 use Rattle.dv_mart.specs.declared.query_rules.QueryRule.{QueryRule}
 use Rattle.dv_mart.specs.declared.whats.What.{What}
 use Rattle.dv_records.specs.declared.snapshots.SnapHead.{SnapHead}
+use Rattle.dv_records.specs.declared.snapshots.SnapId.{SnapId}
 use Rattle.dv_records.specs.declared.stores.Rows.{Rows as TableRows}
 use Rattle.dv_records.specs.declared.stores.Store.{Store}
 use Rattle.dv_records.specs.Snapshots.{pit, snapshot}
 use Rattle.dv_records.specs.States.{State}
 use Rattle.dv_records.specs.Stores.{rows_in}
 use Rattle.dv_snapshots.specs.declared.stored.StoredFault.{StoredFault}
+use Rattle.dv_snapshots.specs.declared.stored.StoredFault.TheVariants as stored
 use Rattle.dv_snapshots.specs.StoredRows.{head_at}
 use Rattle.dv_start.specs.declared.restored.Begun.{Begun}
 use Rattle.dv_start.specs.Completions.{rows_there}
@@ -34,9 +36,9 @@ use Rattle.dv_window.specs.Offices.{Agrees, Held, IsIn, StandsFor, rows_behind a
 use Rattle.dv_desk.specs.declared.answers.Answer.{Answer}
 use Rattle.dv_desk.specs.declared.answers.Answer.TheVariants as answers
 use Rattle.dv_desk.specs.Bodies.{heads_body}
-use Rattle.dv_desk.specs.Queries.{begun_load, heads_answer, mart_answer, mart_at, mart_for, mart_on, pit_answer, pit_at, pit_for, stored_pit, table_answer, table_for, text_or}
-use Rattle.dv_desk.specs.Reads.{AreSized, IsQuiet, IsReadCause, bad_date}
-use Rattle.dv_desk.specs.Turns.{IsDue}
+use Rattle.dv_desk.specs.Queries.{IsPitFor, begun_load, heads_answer, mart_answer, mart_at, mart_for, mart_on, pit_answer, pit_at, pit_for, stored_pit, table_answer, table_for, text_or}
+use Rattle.dv_desk.specs.Reads.{AreSized, IsPitAt, IsQuiet, IsReadCause, bad_date}
+use Rattle.dv_desk.specs.Turns.{IsDue, ReadOffice}
 
 -- ---- answers
 
@@ -54,9 +56,20 @@ none_of (Some x) not = absurd (not x refl)
 pub undated_quiet : {E : Type 0} (date : List ℕ) (r : Result Answer E) → IfOk r (λ answer. answer ≡ bad_date date) → IfOk r IsQuiet
 undated_quiet date r is = so_answered (λ answer. answer ≡ bad_date date) IsQuiet (λ answer same. subst IsQuiet (sym same) tt) r is
 
-pub undated_cause : {E : Type 0} (held : Held) (store : Option Store) (before now : ℕ) (date : List ℕ) (r : Result Answer E) → IfOk r (λ answer. answer ≡ bad_date date) → IfOk r (IsReadCause held store before now)
-undated_cause held store before now date r is =
-    so_answered (λ answer. answer ≡ bad_date date) (IsReadCause held store before now) (λ answer same. subst (IsReadCause held store before now) (sym same) tt) r is
+pub undated_cause : {E : Type 0} (IsFor : SnapId → ℕ → Type 0) (held : Held) (store : Option Store) (before now : ℕ) (date : List ℕ) (r : Result Answer E) → IfOk r (λ answer. answer ≡ bad_date date) → IfOk r (IsReadCause IsFor held store before now)
+undated_cause IsFor held store before now date r is =
+    so_answered (λ answer. answer ≡ bad_date date) (IsReadCause IsFor held store before now) (λ answer same. subst (IsReadCause IsFor held store before now) (sym same) tt) r is
+
+pub undated_office : {E : Type 0} (held : Held) (date : List ℕ) (r : Result Answer E) → IfOk r (λ answer. answer ≡ bad_date date) → IfOk r (λ answer. ReadOffice answer held held)
+undated_office held date r is = so_answered (λ answer. answer ≡ bad_date date) (λ answer. ReadOffice answer held held) (λ answer same. subst (λ a. ReadOffice a held held) (sym same) refl) r is
+
+-- the table of a hub at a date is the one that is asked for where the hub has the name and the date is that of the text
+pub pit_cause : (mapping : Mapping) (name date : List ℕ) (hub at : ℕ) → hub_place mapping name ≡ Some hub → stamp_of date ≡ Some at → (held : Held) (store : Option Store) (before now : ℕ) (answer : Answer)
+    → IsReadCause (IsPitAt hub at) held store before now answer → IsReadCause (IsPitFor mapping name date) held store before now answer
+pit_cause mapping name date hub at named dated held store before now answers.Keeper rose = rose
+pit_cause mapping name date hub at named dated held store before now (answers.Damaged damage) (id, when, (id_is, when_is), is) = (id, when, (hub, named, dated ∙ ap Some (sym when_is), id_is), is)
+pit_cause mapping name date hub at named dated held store before now (answers.NotAllowed methods) none = none
+pit_cause mapping name date hub at named dated held store before now answer cause = tt
 
 -- ---- the windows
 
@@ -185,3 +198,8 @@ module _ (hashes : Hashes) (state : State) (held : Held) (s : Store) (is_in : Is
 -- a text is no fault
 pub no_fault : (text : List ℕ) (fault : StoredFault) → IsErrOf (Ok text) fault → ⊥
 no_fault text fault e = cc
+
+-- that no snapshot is stored is no failed call
+pub no_failed_call : (result : Result (List ℕ) StoredFault) → result ≡ Err stored.NoSnapshot → IsErrOf result stored.KeeperFault → ⊥
+no_failed_call (Ok text) absent failed = cc
+no_failed_call (Err fault) absent failed = cc

@@ -1,8 +1,9 @@
 -- How a request that was answered is a turn.
-use Rattle.std.specs.Prelude.{◌≡◌, ◌⊎◌, ℕ, ◌≤◌, Bool, true, false, List, Option, Some, IsSome, length, replicate, if◌then◌else◌}
+use Rattle.std.specs.Prelude.{◌≡◌, ◌⊎◌, ℕ, ◌≤◌, Bool, true, false, List, Option, Some, IsSome, Result, Ok, Err, length, replicate, if◌then◌else◌}
 use Rattle.std.specs.List.{list_all}
 use Rattle.std.proofs.lemmas.List.{length-replicate}
-use Rattle.std.proofs.Common.{Bor, arith, inl, inr, refl, subst, sym, ◌∙◌}
+use Rattle.std.proofs.Common.{Bor, ap, arith, inl, inr, refl, subst, sym, ◌∙◌}
+use Rattle.std.proofs.lemmas.Bool.{false≢true}
 use Rattle.dv_text.specs.Causes.{Rose}
 use Rattle.dv_text.specs.declared.rows.Key.{Key}
 use Rattle.dv_text.specs.Keys.{Hashes, hashes_of, is_missing, refs_text}
@@ -14,11 +15,13 @@ use Rattle.dv_bridge.specs.ZeroKeys.{HasZeroKeys}
 use Rattle.dv_records.specs.declared.answers.Damage.{Damage}
 use Rattle.dv_records.specs.declared.answers.LoadAnswer.{LoadAnswer}
 use Rattle.dv_records.specs.declared.answers.LoadAnswer.TheVariants as load
+use Rattle.dv_records.specs.declared.snapshots.SnapId.{SnapId}
 use Rattle.dv_records.specs.declared.stores.Store.{Store}
 use Rattle.dv_records.specs.States.{State}
+use Rattle.dv_snapshots.specs.StoredTexts.{IsStoredDamage}
 use Rattle.dv_start.specs.declared.faults.StartFault.{StartFault}
 use Rattle.dv_start.specs.declared.faults.StartFault.TheVariants as faults
-use Rattle.dv_window.specs.Offices.{Held, IsDamageFor, IsIn, IsLeftIn, LeavesStore, StepsTo}
+use Rattle.dv_window.specs.Offices.{AgreesUnlessStale, Held, IsDamageFor, IsIn, IsLeftIn, LeavesOffice, LeavesStore, StaleAfter, StepsTo, made_stale}
 use Rattle.dv_desk.specs.declared.answers.Answer.{Answer}
 use Rattle.dv_desk.specs.declared.answers.Answer.TheVariants as answers
 use Rattle.dv_desk.specs.declared.routes.Allowed.{Allowed}
@@ -30,7 +33,7 @@ use Rattle.dv_desk.specs.Answers.{unrefreshed}
 use Rattle.dv_desk.specs.Posted.{posted}
 use Rattle.dv_desk.specs.Reads.{AreSized, IsQuiet, IsReadCause}
 use Rattle.dv_desk.specs.Routes.{Asked, asked_as, Load, Heads, MartAt, TableOf, PitAt, NotFound, NotAllowed}
-use Rattle.dv_desk.specs.Turns.{HasWidth, IsAllowed, IsAskedFor, IsCauseOf, IsDamageIn, IsDue, IsRead, IsSound, IsThere, Leads, Moment, PostSays, ReadSays, Says, Turn, answer_of, due}
+use Rattle.dv_desk.specs.Turns.{HasWidth, IsAllowed, IsAskedFor, IsCauseOf, IsDamageIn, IsDue, IsRead, IsSound, IsStoredFor, IsThere, Leads, Leaves, LoadOffice, Moment, OfficeThen, PostSays, ReadOffice, ReadSays, Says, StaleBy, StoreBy, StoreThen, Turn, answer_of, due}
 
 -- ---- small facts
 
@@ -41,11 +44,35 @@ left_in hashes state held before after same is_in = record {
   store_stands = λ s told. is_in.store_stands s (sym same ∙ told);
 }
 
+-- and so is the store where the office was made stale
+stale_left : (hashes : Hashes) (state : State) (held : Held) (before after : Option Store) → after ≡ before → IsIn hashes state held before → IsLeftIn hashes state (made_stale held) after
+stale_left hashes state held before after same is_in = record {
+  stands = λ fresh. absurd (false≢true (sym fresh));
+  store_stands = λ s told. is_in.store_stands s (sym same ∙ told);
+}
+
+-- what holds of an office and of the same one that is stale holds of what reading leaves
+pub after_reading : (P : Held → Type 0) (held held' : Held) (answer : Answer) → ReadOffice answer held held' → P held → P (made_stale held) → P held'
+after_reading P held held' answers.Keeper is same stale = subst P (sym is) stale
+after_reading P held held' answer is same stale = subst P (sym is) same
+
 still_told : (before after : Option Store) → after ≡ before → IsSome before → IsSome after
 still_told before after same some = subst IsSome (sym same) some
 
 rose_before : (first before now : ℕ) → first ≤ before → Rose before now → Rose first now
 rose_before first before now less rose = omega (arith, less, rose)
+
+no_success : (result : Result (Unit {0}) StartFault) (fault : StartFault) (done : Unit {0}) → result ≡ Err fault → result ≡ Ok done → ⊥
+no_success (Ok other) fault done failed is = cc
+no_success (Err other) fault done failed is = cc
+
+-- an office that could not be refreshed was stale
+pub was_stale : (held : Held) (result : Result (Unit {0}) StartFault) (fault : StartFault) → result ≡ Err fault → (held.stale ≡ false → result ≡ Ok tt) → held.stale ≡ true
+was_stale held result fault failed still = by held.stale refl
+  where
+    by : (stale : Bool) → held.stale ≡ stale → held.stale ≡ true
+    by true is = is
+    by false is = absurd (no_success result fault tt failed (still is))
 
 -- keys by a digest function of one width have this width
 key_width : (digest : List ℕ → List ℕ) (width : ℕ) → ((text : List ℕ) → length (digest text) ≡ width) → (missing : Bool) (refs : List Key) → length (if missing then replicate width 0 else digest (refs_text refs)) ≡ width
@@ -58,11 +85,16 @@ sized_keys digest width sized = λ refs. key_width digest width sized (list_all 
 -- ---- what is only read
 
 -- an answer that needs no cause has one
-pub quiet_cause : (held : Held) (store : Option Store) (before now : ℕ) (answer : Answer) → IsQuiet answer → IsReadCause held store before now answer
-quiet_cause held store before now answers.Keeper none = absurd none
-quiet_cause held store before now (answers.Damaged damage) none = absurd none
-quiet_cause held store before now (answers.NotAllowed methods) none = none
-quiet_cause held store before now answer quiet = tt
+pub quiet_cause : (IsFor : SnapId → ℕ → Type 0) (held : Held) (store : Option Store) (before now : ℕ) (answer : Answer) → IsQuiet answer → IsReadCause IsFor held store before now answer
+quiet_cause IsFor held store before now answers.Keeper none = absurd none
+quiet_cause IsFor held store before now (answers.Damaged damage) none = absurd none
+quiet_cause IsFor held store before now (answers.NotAllowed methods) none = none
+quiet_cause IsFor held store before now answer quiet = tt
+
+-- and what needs none leaves the office
+pub quiet_office : (held : Held) (answer : Answer) → IsQuiet answer → ReadOffice answer held held
+quiet_office held answers.Keeper none = absurd none
+quiet_office held answer quiet = refl
 
 -- what is asked for of a route is only read where it is no window that is to be loaded
 pub there_read : (asked : Found) → IsThere (asked_as asked) → ((body : Bor (List ℕ)) → asked ≡ found.Load body → ⊥) → IsRead (asked_as asked)
@@ -92,37 +124,67 @@ asked_read (TableOf name) answer is allowed = allowed
 asked_read (PitAt hub date) answer is allowed = allowed
 asked_read asked answer none allowed = absurd none
 
-module _ (hashes : Hashes) (width : ℕ) (held : Held) (before after : Option Store) (faults_before faults : ℕ) where
-  read_allowed : (answer : Answer) → IsReadCause held before faults_before faults answer → IsAllowed answer
-  read_allowed (answers.NotAllowed methods) none = absurd none
-  read_allowed answer cause = tt
+read_there : (asked : Asked) → IsRead asked → IsThere asked
+read_there NotFound none = none
+read_there (NotAllowed methods) none = none
+read_there asked is = tt
 
-  read_cause : (answer : Answer) → IsReadCause held before faults_before faults answer
-      → IsCauseOf hashes width (record { held = held; store = before; faults = faults_before }) (record { held = held; store = after; faults = faults }) answer
-  read_cause answers.Keeper rose = rose
-  read_cause (answers.Damaged damage) (id, date, is) = λ s told. inr (id, date, is s told)
-  read_cause answer cause = tt
+read_store : (asked : Asked) (answer : Answer) (before after : Option Store) → IsRead asked → after ≡ before → StoreThen asked answer before after
+read_store (Load body) answer before after none same = absurd none
+read_store asked answer before after is same = same
+
+read_office : (asked : Asked) (answer : Answer) (held held' : Held) → IsRead asked → ReadOffice answer held held' → OfficeThen asked answer held held'
+read_office (Load body) answer held held' none left = absurd none
+read_office asked answer held held' is left = left
+
+read_stale : (answer : Answer) (held held' : Held) → held.stale ≡ false → ReadOffice answer held held' → StaleBy answer held.stale held'.stale
+read_stale answers.Keeper held held' fresh is = ap (λ h. h.stale) is
+read_stale (answers.Damaged damage) held held' fresh is = λ stale. sym (ap (λ (h : Held). h.stale) is) ∙ stale
+read_stale answers.Memory held held' fresh is = λ stale. sym (ap (λ (h : Held). h.stale) is) ∙ stale
+read_stale answer held held' fresh is = ap (λ (h : Held). h.stale) is ∙ fresh
+
+module _ (hashes : Hashes) (width : ℕ) (held held' : Held) (before after : Option Store) (faults_before faults : ℕ) where
+  read_allowed : (IsFor : SnapId → ℕ → Type 0) (answer : Answer) → IsReadCause IsFor held before faults_before faults answer → IsAllowed answer
+  read_allowed IsFor (answers.NotAllowed methods) none = absurd none
+  read_allowed IsFor answer cause = tt
+
+  read_cause : (asked : Asked) (answer : Answer) → ReadOffice answer held held' → IsReadCause (IsStoredFor held.vault.mapping asked) held before faults_before faults answer
+      → IsCauseOf hashes width asked (record { held = held; store = before; faults = faults_before }) (record { held = held'; store = after; faults = faults }) answer
+  read_cause asked answers.Keeper office rose = rose
+  read_cause asked (answers.Damaged damage) office (id, at, is_for, is) = λ s told. inr (id, at, is_for, subst (λ (h : Held). IsStoredDamage h id at s.snapshots damage) (sym office) (is s told))
+  read_cause asked answer office cause = tt
 
   pub read_turn : (asked : Asked) (answer : Answer) → IsRead asked → held.stale ≡ false → HasZeroKeys hashes → AreSized hashes width → after ≡ before → faults_before ≤ faults
       → ((state : State) (s : Store) → before ≡ Some s → IsIn hashes state held (Some s) → HasZeroKeys hashes → AreSized hashes held.width → IsDue (due held.vault.mapping hashes state asked s) answer)
-      → IsReadCause held before faults_before faults answer
-      → Turn hashes width asked answer (record { held = held; store = before; faults = faults_before }) (record { held = held; store = after; faults = faults })
-  read_turn asked answer is fresh zero sized same later says cause = record {
+      → IsReadCause (IsStoredFor held.vault.mapping asked) held before faults_before faults answer
+      → ReadOffice answer held held'
+      → Turn hashes width asked answer (record { held = held; store = before; faults = faults_before }) (record { held = held'; store = after; faults = faults })
+  read_turn asked answer is fresh zero sized same later says cause office = record {
     leads = λ state is_in wide. record {
       state' = state;
       says = says_read held.vault.mapping hashes state before after answer state asked is (
         (λ s told. says state s told (subst (IsIn hashes state held) told is_in) zero (λ refs. sized refs ∙ sym (wide fresh))),
         (refl, same),
       );
-      left = left_in hashes state held before after same is_in;
+      left = after_reading (λ h. IsLeftIn hashes state h after) held held' answer office (left_in hashes state held before after same is_in) (stale_left hashes state held before after same is_in);
     };
-    cause = read_cause answer cause;
-    asked_for = asked_read asked answer is (read_allowed answer cause);
-    same_mapping = refl;
-    wide = λ w. w;
+    cause = read_cause asked answer office cause;
+    asked_for = asked_read asked answer is (read_allowed (IsStoredFor held.vault.mapping asked) answer cause);
+    leaves = record {
+      stale = λ there. read_stale answer held held' fresh office;
+      nowhere = λ nowhere. absurd (nowhere (read_there asked is));
+      store = read_store asked answer before after is same;
+      office = λ f. read_office asked answer held held' is office;
+    };
+    same_mapping = after_reading (λ h. h.vault.mapping ≡ held.vault.mapping) held held' answer office refl refl;
+    wide = λ w. after_reading (λ h. h.stale ≡ false → h.width ≡ width) held held' answer office w (λ f. absurd (false≢true (sym f)));
     told = still_told before after same;
     later = later;
   }
+
+  -- an office that isn't stale agrees with the store when it was read
+  pub read_agrees : (answer : Answer) → after ≡ before → ReadOffice answer held held' → AgreesUnlessStale held before → AgreesUnlessStale held' after
+  read_agrees answer same office agrees = after_reading (λ h. AgreesUnlessStale h after) held held' answer office (subst (AgreesUnlessStale held) (sym same) agrees) (λ f. absurd (false≢true (sym f)))
 
 -- ---- the want of memory, and a keeper that failed
 
@@ -165,13 +227,44 @@ asked_there (TableOf name) answer is allowed = allowed
 asked_there (PitAt hub date) answer is allowed = allowed
 asked_there asked answer none allowed = absurd none
 
+still_store_by : (answer : Answer) (before after : Option Store) → after ≡ before → StoreBy answer before after
+still_store_by (answers.Loaded rows) before after same = tt
+still_store_by answers.Keeper before after same = tt
+still_store_by answers.Memory before after same = tt
+still_store_by answer before after same = same
+
+still_store : (asked : Asked) (answer : Answer) (before after : Option Store) → after ≡ before → StoreThen asked answer before after
+still_store (Load body) answer before after same = still_store_by answer before after same
+still_store asked answer before after same = same
+
+still_load : (answer : Answer) (held : Held) → LoadOffice answer held held
+still_load (answers.Loaded rows) held = tt
+still_load answers.Keeper held = tt
+still_load answers.Memory held = tt
+still_load answer held = refl
+
+still_office : (asked : Asked) (answer : Answer) (held : Held) → ReadOffice answer held held → OfficeThen asked answer held held
+still_office (Load body) answer held left = still_load answer held
+still_office asked answer held left = left
+
+-- an answer that leaves the office and the store
+pub still_leaves : (asked : Asked) (answer : Answer) (held : Held) (before after : Option Store) (count now : ℕ) → IsThere asked → after ≡ before → StaleBy answer held.stale held.stale
+    → (held.stale ≡ false → ReadOffice answer held held) → Leaves asked answer (record { held = held; store = before; faults = count }) (record { held = held; store = after; faults = now })
+still_leaves asked answer held before after count now is same stale left = record {
+  stale = λ there. stale;
+  nowhere = λ nowhere. absurd (nowhere is);
+  store = still_store asked answer before after same;
+  office = λ fresh. still_office asked answer held (left fresh);
+}
+
 -- the answer says what it says in each state, and nothing has changed but the keeper's count
 pub still_turn : (hashes : Hashes) (width : ℕ) (asked : Asked) (answer : Answer) (held : Held) (before after : Option Store) (count now : ℕ) → after ≡ before → count ≤ now
     → ((state : State) → IsIn hashes state held before → Says held.vault.mapping hashes state before before asked answer state)
-    → IsCauseOf hashes width (record { held = held; store = before; faults = count }) (record { held = held; store = after; faults = now }) answer
+    → IsCauseOf hashes width asked (record { held = held; store = before; faults = count }) (record { held = held; store = after; faults = now }) answer
     → IsAskedFor asked answer
+    → Leaves asked answer (record { held = held; store = before; faults = count }) (record { held = held; store = after; faults = now })
     → Turn hashes width asked answer (record { held = held; store = before; faults = count }) (record { held = held; store = after; faults = now })
-still_turn hashes width asked answer held before after count now same later says cause asked_for = record {
+still_turn hashes width asked answer held before after count now same later says cause asked_for leaves = record {
   leads = λ state is_in wide. record {
     state' = state;
     says = subst (λ store. Says held.vault.mapping hashes state before store asked answer state) (sym same) (says state is_in);
@@ -179,6 +272,7 @@ still_turn hashes width asked answer held before after count now same later says
   };
   cause = cause;
   asked_for = asked_for;
+  leaves = leaves;
   same_mapping = refl;
   wide = λ w. w;
   told = still_told before after same;
@@ -190,6 +284,7 @@ pub memory_turn : (hashes : Hashes) (width : ℕ) (asked : Asked) (held : Held) 
     → Turn hashes width asked answers.Memory (record { held = held; store = before; faults = count }) (record { held = held; store = after; faults = now })
 memory_turn hashes width asked held before after count now is same later = still_turn hashes width asked answers.Memory held before after count now same later
     (λ state is_in. says_broken held.vault.mapping hashes state before answers.Memory (inr refl) asked is) tt (asked_there asked answers.Memory is tt)
+    (still_leaves asked answers.Memory held before after count now is same (λ stale. stale) (λ fresh. refl))
 
 -- ---- an office that could not be refreshed
 
@@ -200,12 +295,18 @@ module _ (hashes : Hashes) (width : ℕ) (held : Held) (before after : Option St
   abbrev is_now : Moment
   is_now = record { held = held; store = after; faults = now }
 
-  unrefreshed_cause : (f : StartFault) → (f ≡ faults.NoMapping → ⊥) → (f ≡ faults.KeeperFault → Rose count now)
-      → ((damage : Damage) → f ≡ faults.Damaged damage → Told before (λ s. IsDamageFor held.vault.mapping hashes width s damage)) → IsCauseOf hashes width was is_now (unrefreshed f)
-  unrefreshed_cause faults.NoMapping mapped rose damaged = absurd (mapped refl)
-  unrefreshed_cause (faults.Damaged damage) mapped rose damaged = λ s told. inl (damaged damage refl s told)
-  unrefreshed_cause faults.KeeperFault mapped rose damaged = rose refl
-  unrefreshed_cause faults.Memory mapped rose damaged = tt
+  unrefreshed_cause : (asked : Asked) (f : StartFault) → held.stale ≡ true → (f ≡ faults.NoMapping → ⊥) → (f ≡ faults.KeeperFault → Rose count now)
+      → ((damage : Damage) → f ≡ faults.Damaged damage → Told before (λ s. IsDamageFor held.vault.mapping hashes width s damage)) → IsCauseOf hashes width asked was is_now (unrefreshed f)
+  unrefreshed_cause asked faults.NoMapping stale mapped rose damaged = absurd (mapped refl)
+  unrefreshed_cause asked (faults.Damaged damage) stale mapped rose damaged = λ s told. inl (stale, damaged damage refl s told)
+  unrefreshed_cause asked faults.KeeperFault stale mapped rose damaged = rose refl
+  unrefreshed_cause asked faults.Memory stale mapped rose damaged = tt
+
+  unrefreshed_stale : (f : StartFault) → held.stale ≡ true → StaleBy (unrefreshed f) held.stale held.stale
+  unrefreshed_stale faults.NoMapping stale = stale
+  unrefreshed_stale (faults.Damaged damage) stale = λ is. is
+  unrefreshed_stale faults.KeeperFault stale = stale
+  unrefreshed_stale faults.Memory stale = λ is. is
 
   unrefreshed_allowed : (f : StartFault) → IsAllowed (unrefreshed f)
   unrefreshed_allowed faults.NoMapping = tt
@@ -219,14 +320,15 @@ module _ (hashes : Hashes) (width : ℕ) (held : Held) (before after : Option St
   unrefreshed_says state faults.KeeperFault sound asked is = says_broken held.vault.mapping hashes state before answers.Keeper (inl refl) asked is
   unrefreshed_says state faults.Memory sound asked is = says_broken held.vault.mapping hashes state before answers.Memory (inr refl) asked is
 
-  pub unrefreshed_turn : (asked : Asked) → IsThere asked → after ≡ before → count ≤ now
+  pub unrefreshed_turn : (asked : Asked) → IsThere asked → held.stale ≡ true → after ≡ before → count ≤ now
       → (fault ≡ faults.NoMapping → ⊥) → (fault ≡ faults.KeeperFault → Rose count now)
       → ((damage : Damage) → fault ≡ faults.Damaged damage → Told before (λ s. IsDamageFor held.vault.mapping hashes width s damage))
       → ((damage : Damage) → fault ≡ faults.Damaged damage → (state : State) → IsIn hashes state held before → ⊥)
       → Turn hashes width asked (unrefreshed fault) was is_now
-  unrefreshed_turn asked is same later mapped rose damaged undamaged = still_turn hashes width asked (unrefreshed fault) held before after count now same later
+  unrefreshed_turn asked is stale same later mapped rose damaged undamaged = still_turn hashes width asked (unrefreshed fault) held before after count now same later
       (λ state is_in. unrefreshed_says state fault (λ damage broken. undamaged damage broken state is_in) asked is)
-      (unrefreshed_cause fault mapped rose damaged) (asked_there asked (unrefreshed fault) is (unrefreshed_allowed fault))
+      (unrefreshed_cause asked fault stale mapped rose damaged) (asked_there asked (unrefreshed fault) is (unrefreshed_allowed fault))
+      (still_leaves asked (unrefreshed fault) held before after count now is same (unrefreshed_stale fault stale) (λ fresh. absurd (false≢true (sym fresh ∙ stale))))
 
 -- ---- a window that was given to the office
 
@@ -242,19 +344,45 @@ loaded_allowed (load.Damaged damage) = tt
 loaded_allowed load.KeeperFault = tt
 loaded_allowed load.Memory = tt
 
+loaded_stale : (came : LoadAnswer) (before now : Bool) → StaleAfter came before now → StaleBy (answer_of came) before now
+loaded_stale (load.Loaded rows) before now stale = stale
+loaded_stale load.Repeated before now stale = stale
+loaded_stale (load.Refused rule) before now stale = stale
+loaded_stale (load.Damaged damage) before now stale = λ e. stale.0
+loaded_stale load.KeeperFault before now stale = stale
+loaded_stale load.Memory before now stale = stale
+
+loaded_store : (came : LoadAnswer) (before after : Option Store) → LeavesStore came before after → StoreBy (answer_of came) before after
+loaded_store (load.Loaded rows) before after left = tt
+loaded_store load.Repeated before after left = left
+loaded_store (load.Refused rule) before after left = left
+loaded_store (load.Damaged damage) before after left = left
+loaded_store load.KeeperFault before after left = tt
+loaded_store load.Memory before after left = tt
+
+loaded_office : (came : LoadAnswer) (held held' : Held) → LeavesOffice came held held' → LoadOffice (answer_of came) held held'
+loaded_office (load.Loaded rows) held held' left = tt
+loaded_office load.Repeated held held' left = left
+loaded_office (load.Refused rule) held held' left = left
+loaded_office (load.Damaged damage) held held' left = left
+loaded_office load.KeeperFault held held' left = tt
+loaded_office load.Memory held held' left = tt
+
 module _ (hashes : Hashes) (width : ℕ) (before after : Moment) (came : LoadAnswer) where
-  loaded_cause : (c : LoadAnswer) → (c ≡ load.KeeperFault → Rose before.faults after.faults)
-      → ((damage : Damage) → c ≡ load.Damaged damage → Told before.store (λ s. IsDamageFor before.held.vault.mapping hashes width s damage)) → IsCauseOf hashes width before after (answer_of c)
-  loaded_cause load.KeeperFault rose damaged = rose refl
-  loaded_cause (load.Damaged damage) rose damaged = λ s told. inl (damaged damage refl s told)
-  loaded_cause (load.Loaded rows) rose damaged = tt
-  loaded_cause load.Repeated rose damaged = tt
-  loaded_cause (load.Refused rule) rose damaged = tt
-  loaded_cause load.Memory rose damaged = tt
+  loaded_cause : (asked : Asked) (c : LoadAnswer) → StaleAfter c before.held.stale after.held.stale → (c ≡ load.KeeperFault → Rose before.faults after.faults)
+      → ((damage : Damage) → c ≡ load.Damaged damage → Told before.store (λ s. IsDamageFor before.held.vault.mapping hashes width s damage)) → IsCauseOf hashes width asked before after (answer_of c)
+  loaded_cause asked load.KeeperFault stale rose damaged = rose refl
+  loaded_cause asked (load.Damaged damage) stale rose damaged = λ s told. inl (stale.0, damaged damage refl s told)
+  loaded_cause asked (load.Loaded rows) stale rose damaged = tt
+  loaded_cause asked load.Repeated stale rose damaged = tt
+  loaded_cause asked (load.Refused rule) stale rose damaged = tt
+  loaded_cause asked load.Memory stale rose damaged = tt
 
   pub load_turn : (body : List ℕ) (given : WindowIn) → posted body ≡ Given given → before.held.stale ≡ false
       → ((state : State) → IsIn hashes state before.held before.store → StepsTo before.held.vault.mapping hashes state given came after.held after.store)
       → LeavesStore came before.store after.store
+      → LeavesOffice came before.held after.held
+      → StaleAfter came before.held.stale after.held.stale
       → ((damage : Damage) → came ≡ load.Damaged damage → Told before.store (λ s. IsDamageFor before.held.vault.mapping hashes width s damage))
       → ((damage : Damage) → came ≡ load.Damaged damage → (state : State) → IsIn hashes state before.held before.store → ⊥)
       → (came ≡ load.KeeperFault → Rose before.faults after.faults)
@@ -263,10 +391,16 @@ module _ (hashes : Hashes) (width : ℕ) (before after : Moment) (came : LoadAns
       → (IsSome before.store → IsSome after.store)
       → before.faults ≤ after.faults
       → Turn hashes width (Load body) (answer_of came) before after
-  load_turn body given is fresh step leaves damaged undamaged rose mapped width_is told later = record {
+  load_turn body given is fresh step leaves kept stale damaged undamaged rose mapped width_is told later = record {
     leads = λ state is_in wide. by state is_in (step state is_in);
-    cause = loaded_cause came rose damaged;
+    cause = loaded_cause (Load body) came stale rose damaged;
     asked_for = loaded_allowed came;
+    leaves = record {
+      stale = λ there. loaded_stale came before.held.stale after.held.stale stale;
+      nowhere = λ nowhere. absurd (nowhere tt);
+      store = loaded_store came before.store after.store leaves;
+      office = λ f. loaded_office came before.held after.held kept;
+    };
     same_mapping = mapped;
     wide = λ w fresh_then. width_is ∙ w fresh;
     told = told;
@@ -301,24 +435,37 @@ module _ (hashes : Hashes) (width : ℕ) (asked : Asked) (answer : Answer) (befo
   mid_wide false is same anew wide = λ fresh. same is ∙ wide is
   mid_wide true is same anew wide = λ fresh. anew is fresh
 
-  cause_behind : (a : Answer) → mid.held.vault.mapping ≡ before.held.vault.mapping → mid.store ≡ before.store → before.faults ≤ mid.faults → IsCauseOf hashes width mid after a → IsCauseOf hashes width before after a
-  cause_behind answers.Keeper mapped same later rose = rose_before before.faults mid.faults after.faults later rose
-  cause_behind (answers.Damaged damage) mapped same later is = λ s told. by s (is s (same ∙ told))
+  cause_behind : (a : Answer) → mid.held.stale ≡ false → mid.held.vault.mapping ≡ before.held.vault.mapping → mid.store ≡ before.store → before.faults ≤ mid.faults
+      → IsCauseOf hashes width asked mid after a → IsCauseOf hashes width asked before after a
+  cause_behind answers.Keeper fresh mapped same later rose = rose_before before.faults mid.faults after.faults later rose
+  cause_behind (answers.Damaged damage) fresh mapped same later is = λ s told. by s (is s (same ∙ told))
     where
-      by : (s : Store) → IsDamageIn hashes width mid after s damage → IsDamageIn hashes width before after s damage
-      by s (inl read) = inl (subst (λ m. IsDamageFor m hashes width s damage) mapped read)
-      by s (inr stored) = inr stored
-  cause_behind a mapped same later cause = tt
+      by : (s : Store) → IsDamageIn hashes width asked mid after s damage → IsDamageIn hashes width asked before after s damage
+      by s (inl read) = absurd (false≢true (sym fresh ∙ read.0))
+      by s (inr (id, at, is_for, stored)) = inr (id, at, subst (λ (m : Mapping). IsStoredFor m asked id at) mapped is_for, stored)
+  cause_behind a fresh mapped same later cause = tt
 
-  pub turn_behind : ((state : State) → IsIn hashes state before.held before.store → IsIn hashes state mid.held mid.store)
+  stale_behind : (a : Answer) → mid.held.stale ≡ false → StaleBy a mid.held.stale after.held.stale → StaleBy a before.held.stale after.held.stale
+  stale_behind answers.Keeper fresh stale = stale
+  stale_behind (answers.Damaged damage) fresh stale = λ is. absurd (false≢true (sym fresh ∙ stale is))
+  stale_behind answers.Memory fresh stale = λ is. absurd (false≢true (sym fresh ∙ stale is))
+  stale_behind a fresh stale = stale
+
+  pub turn_behind : IsThere asked → mid.held.stale ≡ false → (before.held.stale ≡ false → mid.held ≡ before.held) → ((state : State) → IsIn hashes state before.held before.store → IsIn hashes state mid.held mid.store)
       → mid.held.vault.mapping ≡ before.held.vault.mapping
       → (before.held.stale ≡ false → mid.held.width ≡ before.held.width) → (before.held.stale ≡ true → mid.held.stale ≡ false → mid.held.width ≡ width)
       → mid.store ≡ before.store → before.faults ≤ mid.faults
       → Turn hashes width asked answer mid after → Turn hashes width asked answer before after
-  turn_behind stands mapped same_width anew same later turn = record {
+  turn_behind there fresh still stands mapped same_width anew same later turn = record {
     leads = λ state is_in wide. by state (turn.leads state (stands state is_in) (mid_wide before.held.stale refl same_width anew wide));
-    cause = cause_behind answer mapped same later turn.cause;
+    cause = cause_behind answer fresh mapped same later turn.cause;
     asked_for = turn.asked_for;
+    leaves = record {
+      stale = λ t. stale_behind answer fresh (turn.leaves.stale t);
+      nowhere = λ nowhere. absurd (nowhere there);
+      store = subst (λ store. StoreThen asked answer store after.store) same turn.leaves.store;
+      office = λ f. subst (λ (h : Held). OfficeThen asked answer h after.held) (still f) (turn.leaves.office fresh);
+    };
     same_mapping = turn.same_mapping ∙ mapped;
     wide = λ w. turn.wide (mid_wide before.held.stale refl same_width anew w);
     told = λ told. turn.told (still_told before.store mid.store same told);
@@ -340,6 +487,7 @@ nowhere_turn hashes width moment = record {
   leads = λ state is_in wide. record { state' = state; says = ((λ s told. inl refl), (refl, refl)); left = left_in hashes state moment.held moment.store moment.store refl is_in };
   cause = tt;
   asked_for = refl;
+  leaves = record { stale = λ none. absurd none; nowhere = λ nowhere. refl; store = refl; office = λ fresh. refl };
   same_mapping = refl;
   wide = λ w. w;
   told = λ told. told;
@@ -351,6 +499,7 @@ not_allowed_turn hashes width methods moment = record {
   leads = λ state is_in wide. record { state' = state; says = ((λ s told. inl refl), (refl, refl)); left = left_in hashes state moment.held moment.store moment.store refl is_in };
   cause = tt;
   asked_for = refl;
+  leaves = record { stale = λ none. absurd none; nowhere = λ nowhere. refl; store = refl; office = λ fresh. refl };
   same_mapping = refl;
   wide = λ w. w;
   told = λ told. told;

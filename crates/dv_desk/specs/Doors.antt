@@ -5,6 +5,7 @@ use Rattle.dv_text.specs.Keys.{Hashes}
 use Rattle.dv_text.specs.Told.{Told}
 use Rattle.dv_outside.specs.Ends.{Ends}
 use Rattle.dv_outside.specs.Lines.{Lines}
+use Rattle.dv_outside.specs.Seen.{Seen}
 use Rattle.dv_outside.specs.declared.folders.Failed.{Failed}
 use Rattle.dv_outside.specs.declared.statuses.Status.{Status}
 use Rattle.dv_outside.specs.declared.statuses.Status.TheVariants as statuses
@@ -18,7 +19,7 @@ use Rattle.dv_start.specs.declared.faults.StartFault.TheVariants as faults
 use Rattle.dv_window.specs.Offices.{Agrees, StandsFor}
 use Rattle.dv_desk.specs.declared.served.Served.{Served}
 use Rattle.dv_desk.specs.Lines.{doors_line, line_of_fault, memory_line, status_of_fault}
-use Rattle.dv_desk.specs.Serving.{Serves}
+use Rattle.dv_desk.specs.Serving.{IsServedCause, Serves}
 use Rattle.dv_desk.specs.Turns.{Moment}
 
 -- ---- the connections
@@ -27,17 +28,23 @@ use Rattle.dv_desk.specs.Turns.{Moment}
 abbrev pub most_lines : ℕ
 most_lines = 4294967295
 
--- what a connection tells: the bytes that are still to be read, and those written so far
+-- what a connection tells: the bytes that are still to be read, and those written so far; and its count of faults
 pub record Tells (L : Type 0) : Type 0 where
   pub left : L → Option (List ℕ)
   pub contents : L → Option (List ℕ)
+  pub faults : L → ℕ
+
+-- a connection was served, and came back so; a fault of it ended its serving only where its own count rose
+pub record ServesLine {L : Type 0} (hashes : Hashes) (width : ℕ) (tells : Tells L) (line back : L) (before after : Moment) (how : Served) : Type 0 where
+  pub serves : Serves hashes width (tells.left line) (tells.left back) (tells.contents line) (tells.contents back) before after how
+  pub cause : IsServedCause (tells.faults line) (tells.faults back) how
+  pub later : tells.faults line ≤ tells.faults back
 
 -- each connection, as it was given, is served and given back as it is then
 abbrev pub ServesEach : {L : Type 0} → Hashes → ℕ → Tells L → List L → List L → Moment → Moment → Type 0
 ServesEach hashes width tells [] [] before after = after ≡ before
 ServesEach hashes width tells (line ∷ lines) (back ∷ backs) before after =
-    (next : Moment) × (how : Served) × Serves hashes width (tells.left line) (tells.contents line) (tells.contents back) before next how
-    × ServesEach hashes width tells lines backs next after
+    (next : Moment) × (how : Served) × ServesLine hashes width tells line back before next how × ServesEach hashes width tells lines backs next after
 ServesEach hashes width tells [] (back ∷ backs) before after = ⊥
 ServesEach hashes width tells (line ∷ lines) [] before after = ⊥
 
@@ -85,27 +92,13 @@ pub record Started (hashes : Hashes) (width : ℕ) (store : Option Store) (began
 
 -- ---- all of it
 
--- what a sink got, and its count of faults
-pub record Sunk : Type 0 where
-  pub old : Option (List ℕ)
-  pub new : Option (List ℕ)
-  pub before : ℕ
-  pub now : ℕ
-
--- the keeper's store and its count of faults
-pub record Kept : Type 0 where
-  pub old : Option Store
-  pub new : Option Store
-  pub before : ℕ
-  pub now : ℕ
-
 -- a line and a status, or those of want of memory where the line could not be made
-abbrev pub EndsOr : Status → List ℕ → Sunk → Status → Type 0
+abbrev pub EndsOr : Status → List ℕ → Seen (List ℕ) → Status → Type 0
 EndsOr status line err result =
     Ends status line err.old err.new err.before err.now result ⊎ Ends statuses.Memory memory_line err.old err.new err.before err.now result
 
 -- no connection was taken
-pub record Unstarted {L : Type 0} (hashes : Hashes) (width : ℕ) (old new : Option (Lines L)) (kept : Kept) (err : Sunk) (result : Status) : Type 0 where
+pub record Unstarted {L : Type 0} (hashes : Hashes) (width : ℕ) (old new : Option (Lines L)) (kept : Seen Store) (err : Seen (List ℕ)) (result : Status) : Type 0 where
   pub fault : StartFault
   pub is_fault : IsFaultOf hashes width kept.old kept.before kept.now fault
   pub doors : new ≡ old
@@ -113,7 +106,7 @@ pub record Unstarted {L : Type 0} (hashes : Hashes) (width : ℕ) (old new : Opt
   pub ends : EndsOr (status_of_fault fault) (line_of_fault fault) err result
 
 -- how it ends where the doors have no connection left or enough were served, and where they failed
-abbrev pub EndsBy : Result (Unit {0}) Failed → Sunk → Status → Type 0
+abbrev pub EndsBy : Result (Unit {0}) Failed → Seen (List ℕ) → Status → Type 0
 EndsBy (Ok done) err result = (result ≡ statuses.Done) × (err.new ≡ err.old)
 EndsBy (Err fault) err result = Ends statuses.ReadFault doors_line err.old err.new err.before err.now result
 
@@ -123,7 +116,7 @@ StandsThen mapping hashes store = (state : State) × (s : Store) × (store ≡ S
 
 -- an office was started, and connections were served with it, which led from each state for which the store stood to a state
 -- for which it stands
-pub record ServedDoors {L : Type 0} (hashes : Hashes) (width : ℕ) (tells : Tells L) (old new : Option (Lines L)) (kept : Kept) (err : Sunk) (result : Status) : Type 0 where
+pub record ServedDoors {L : Type 0} (hashes : Hashes) (width : ℕ) (tells : Tells L) (old new : Option (Lines L)) (kept : Seen Store) (err : Seen (List ℕ)) (result : Status) : Type 0 where
   pub began : Moment
   pub after : Moment
   pub started : Started hashes width kept.old began
@@ -135,14 +128,14 @@ pub record ServedDoors {L : Type 0} (hashes : Hashes) (width : ℕ) (tells : Tel
       → StandsThen began.held.vault.mapping hashes kept.new
   pub ends : EndsBy ended err result
 
-abbrev pub ServeSays : {L : Type 0} → Hashes → ℕ → Tells L → Option (Lines L) → Option (Lines L) → Kept → Sunk → Status → Type 0
+abbrev pub ServeSays : {L : Type 0} → Hashes → ℕ → Tells L → Option (Lines L) → Option (Lines L) → Seen Store → Seen (List ℕ) → Status → Type 0
 ServeSays hashes width tells old new kept err result =
     Unstarted hashes width old new kept err result ⊎ ServedDoors hashes width tells old new kept err result
 
 -- ---- causes
 
 -- a status of a fault comes only where a count rose; the others are no status of it
-abbrev pub IsServeCause : ℕ → ℕ → Kept → Sunk → Status → Type 0
+abbrev pub IsServeCause : ℕ → ℕ → Seen Store → Seen (List ℕ) → Status → Type 0
 IsServeCause before now kept err statuses.Done = Unit {0}
 IsServeCause before now kept err statuses.Refused = ⊥
 IsServeCause before now kept err statuses.Usage = ⊥
@@ -152,3 +145,12 @@ IsServeCause before now kept err statuses.KeeperFault = Rose kept.before kept.no
 IsServeCause before now kept err statuses.WriteFault = Rose err.before err.now
 IsServeCause before now kept err statuses.Memory = Unit {0}
 IsServeCause before now kept err statuses.Damaged = Unit {0}
+
+-- ---- completeness
+
+-- serving ended where no connection is left, or could not begin by what is stored
+abbrev pub IsServedOut : Status → Type 0
+IsServedOut statuses.Done = Unit {0}
+IsServedOut statuses.Mapping = Unit {0}
+IsServedOut statuses.Damaged = Unit {0}
+IsServedOut result = ⊥

@@ -1,7 +1,7 @@
 -- What a request that is only read is answered with, in a state of the warehouse and by its store.
 use Rattle.std.specs.List.{list_any}
 use Rattle.std.specs.Option.{option_map}
-use Rattle.std.specs.Prelude.{ℕ, ◌==◌, List, Option, Some, None, Result, Ok, Err, if◌then◌else◌}
+use Rattle.std.specs.Prelude.{◌≡◌, ℕ, ◌==◌, List, Option, Some, None, Result, Ok, Err, if◌then◌else◌}
 use Rattle.dv_text.specs.declared.rows.Window.{Window}
 use Rattle.dv_text.specs.Keys.{Hashes}
 use Rattle.dv_text.specs.Stamps.{stamp_of}
@@ -12,6 +12,8 @@ use Rattle.dv_mart.specs.Whats.{hub_place, offered_mart, table_named}
 use Rattle.dv_mart.specs.declared.query_rules.QueryRule.{QueryRule}
 use Rattle.dv_mart.specs.declared.query_rules.QueryRule.TheVariants.{BadDate}
 use Rattle.dv_mart.specs.declared.whats.What.{What}
+use Rattle.dv_records.specs.declared.snapshots.SnapId.{SnapId}
+use Rattle.dv_records.specs.declared.snapshots.SnapId.TheVariants.{Pit}
 use Rattle.dv_records.specs.declared.stores.Store.{Store}
 use Rattle.dv_records.specs.Snapshots.{pit}
 use Rattle.dv_records.specs.States.{State}
@@ -84,3 +86,7 @@ pit_for mapping hashes state date (Some hub) = pit_at mapping hashes state hub d
 -- the point-in-time table of the hub with a name, in the snapshot at a date
 abbrev pub pit_answer : Mapping → Hashes → State → List ℕ → List ℕ → Answer
 pit_answer mapping hashes state name date = pit_for mapping hashes state date (hub_place mapping name)
+
+-- the stored table that is asked for: the point-in-time table of the hub with a name, at a date
+abbrev pub IsPitFor : Mapping → List ℕ → List ℕ → SnapId → ℕ → Type 0
+IsPitFor mapping name date id at = (hub : ℕ) × (hub_place mapping name ≡ Some hub) × (stamp_of date ≡ Some at) × (id ≡ Pit hub)

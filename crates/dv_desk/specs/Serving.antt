@@ -4,7 +4,8 @@ use Rattle.std.specs.List.{flat_map, list_any}
 use Rattle.std.specs.Prelude.{◌≡◌, ◌⊎◌, ℕ, ◌+◌, ◌<◌, ◌≤◌, Bool, true, false, List, [], ◌∷◌, ◌++◌, length, Option, Some, IfSome, IsSome, Ok}
 use Rattle.dv_text.specs.Causes.{Rose}
 use Rattle.dv_text.specs.Keys.{Hashes}
-use Rattle.dv_outside.specs.Bytes.{after as with_bytes}
+use Rattle.dv_outside.specs.Bytes.{after as with_bytes, in_front}
+use Rattle.dv_outside.specs.Seen.{NoFault}
 use Rattle.dv_http.specs.Replies.{reply_text}
 use Rattle.dv_records.specs.States.{State}
 use Rattle.dv_window.specs.Offices.{IsIn}
@@ -16,7 +17,7 @@ use Rattle.dv_desk.specs.Answers.{reply_of, wire_answer}
 use Rattle.dv_desk.specs.declared.answers.Answer.{Answer}
 use Rattle.dv_desk.specs.declared.served.Served.{Served}
 use Rattle.dv_desk.specs.declared.served.Served.TheVariants as served
-use Rattle.dv_desk.specs.Turns.{Exchange, HasWidth, Moment, Talked, Talks}
+use Rattle.dv_desk.specs.Turns.{AreSure, Exchange, HasWidth, Moment, Talked, Talks}
 use Rattle.dv_desk.specs.Writing.{IsCutOff}
 
 -- the most requests of a connection
@@ -77,11 +78,17 @@ pub record WroteFront (old new : Option (List ℕ)) (whole : List Exchange) (tex
 abbrev pub WroteAll : Option (List ℕ) → Option (List ℕ) → List Exchange → Type 0
 WroteAll old new exchanges = new ≡ with_bytes old (replies exchanges)
 
+-- none of the requests is the last one, and more may come
+pub record GoOn (exchanges : List Exchange) : Type 0 where
+  pub open_ones : AreOpen exchanges
+  pub fewer : length exchanges < most_requests
+
 -- all replies were written whole but for the last one, of which nothing was
 pub record WroteOthers (old new : Option (List ℕ)) (exchanges : List Exchange) : Type 0 where
   pub others : List Exchange
   pub exchange : Exchange
   pub are : exchanges ≡ others ++ exchange ∷ []
+  pub go_on : GoOn others
   pub wrote : WroteAll old new others
 
 -- the last reply was begun
@@ -89,46 +96,60 @@ pub record BrokeReply (old new : Option (List ℕ)) (exchanges : List Exchange) 
   pub others : List Exchange
   pub exchange : Exchange
   pub are : exchanges ≡ others ++ exchange ∷ []
+  pub go_on : GoOn others
   pub wrote : WroteFront old new others (replied exchange)
 
 -- the reply to what is no request was begun
 pub record BrokeRefusal (rest old new : Option (List ℕ)) (exchanges : List Exchange) : Type 0 where
   pub answer : Answer
   pub unread : IsUnread rest answer
+  pub go_on : GoOn exchanges
   pub wrote : WroteFront old new exchanges (refusal answer)
 
--- how the serving of a connection ended: by the requests that were taken and answered, the rest of its bytes, and what
--- was written
-abbrev pub Ends : List Exchange → Option (List ℕ) → Option (List ℕ) → Option (List ℕ) → Served → Type 0
-Ends exchanges rest old new (served.Ended count) =
-    AreOpen exchanges × (length exchanges < most_requests) × HasEnded rest × (count ≡ length exchanges) × WroteAll old new exchanges
-Ends exchanges rest old new (served.Closed count) = AreClosed exchanges × (count ≡ length exchanges) × WroteAll old new exchanges
-Ends exchanges rest old new (served.Wire count) =
-    AreOpen exchanges × (length exchanges < most_requests)
-    × ((answer : Answer) × IsUnread rest answer × (count ≡ length exchanges + 1) × (new ≡ with_bytes old (replies exchanges ++ refusal answer)))
-Ends exchanges rest old new (served.Cut count) =
-    AreOpen exchanges × (length exchanges < most_requests) × RefusesTold rest errors.Cut × (count ≡ length exchanges) × WroteAll old new exchanges
-Ends exchanges rest old new (served.Enough count) =
-    AreOpen exchanges × (length exchanges ≡ most_requests) × (count ≡ most_requests) × WroteAll old new exchanges
-Ends exchanges rest old new served.ReadFault =
-    AreOpen exchanges × (length exchanges < most_requests) × ((left : Option (List ℕ)) × Waited rest left) × WroteAll old new exchanges
-Ends exchanges rest old new served.WriteFault = BrokeReply old new exchanges ⊎ BrokeRefusal rest old new exchanges
-Ends exchanges rest old new served.Memory = WroteAll old new exchanges ⊎ WroteOthers old new exchanges
+-- what is left of a connection is what stands behind a front of these bytes
+abbrev pub IsLeftOf : Option (List ℕ) → Option (List ℕ) → Type 0
+IsLeftOf rest left = (got : List ℕ) × (rest ≡ in_front got left)
+
+-- how the serving of a connection ended: by the requests that were taken and answered, the rest of its bytes, what is left
+-- to be read of them, and what was written
+abbrev pub Ends : List Exchange → Option (List ℕ) → Option (List ℕ) → Option (List ℕ) → Option (List ℕ) → Served → Type 0
+Ends exchanges rest left old new (served.Ended count) =
+    GoOn exchanges × HasEnded rest × (count ≡ length exchanges) × WroteAll old new exchanges
+Ends exchanges rest left old new (served.Closed count) =
+    AreClosed exchanges × IsLeftOf rest left × (count ≡ length exchanges) × WroteAll old new exchanges
+Ends exchanges rest left old new (served.Wire count) =
+    GoOn exchanges × ((answer : Answer) × IsUnread rest answer × (count ≡ length exchanges + 1) × (new ≡ with_bytes old (replies exchanges ++ refusal answer)))
+Ends exchanges rest left old new (served.Cut count) =
+    GoOn exchanges × RefusesTold rest errors.Cut × (count ≡ length exchanges) × WroteAll old new exchanges
+Ends exchanges rest left old new (served.Enough count) =
+    AreOpen exchanges × (length exchanges ≡ most_requests) × IsLeftOf rest left × (count ≡ most_requests) × WroteAll old new exchanges
+Ends exchanges rest left old new served.ReadFault = GoOn exchanges × Waited rest left × WroteAll old new exchanges
+Ends exchanges rest left old new served.WriteFault = BrokeReply old new exchanges ⊎ BrokeRefusal rest old new exchanges
+Ends exchanges rest left old new served.Memory = (GoOn exchanges × WroteAll old new exchanges) ⊎ WroteOthers old new exchanges
 
 -- a connection was served: requests were taken from the front of its bytes and answered, which led from one moment to
--- another, and through a list of states where the keeper tells its store; and it ended so
-pub record Serves (hashes : Hashes) (width : ℕ) (input old new : Option (List ℕ)) (before after : Moment) (how : Served) : Type 0 where
+-- another, and through a list of states where the keeper tells its store; and it ended so, with these bytes left to be read.
+-- Where the keeper's count of faults did not rise, no request was answered that it failed.
+pub record Serves (hashes : Hashes) (width : ℕ) (input left old new : Option (List ℕ)) (before after : Moment) (how : Served) : Type 0 where
   pub exchanges : List Exchange
   pub rest : Option (List ℕ)
   pub stand : StandIn input exchanges rest
   pub talks : Talks hashes width exchanges before after
   pub in_states : (state : State) → IsIn hashes state before.held before.store → HasWidth width before → IsSome before.store
       → Talked before.held.vault.mapping hashes exchanges state before after
+  pub sure : NoFault before.faults after.faults → AreSure exchanges
   pub few : length exchanges ≤ most_requests
-  pub ends : Ends exchanges rest old new how
+  pub ends : Ends exchanges rest left old new how
 
 -- a fault of the connection comes only where its count rose
 abbrev pub IsServedCause : ℕ → ℕ → Served → Type 0
 IsServedCause before now served.ReadFault = Rose before now
 IsServedCause before now served.WriteFault = Rose before now
 IsServedCause before now how = Unit {0}
+
+-- all that was taken was answered, and each reply was written whole
+abbrev pub IsServedWhole : Served → Type 0
+IsServedWhole served.ReadFault = ⊥
+IsServedWhole served.WriteFault = ⊥
+IsServedWhole served.Memory = ⊥
+IsServedWhole how = Unit {0}

@@ -16,7 +16,7 @@ use Rattle.dv_desk.specs.declared.serving.Came.TheVariants as came
 use Rattle.dv_desk.specs.declared.served.Served.{Served}
 use Rattle.dv_desk.specs.declared.served.Served.TheVariants as served
 use Rattle.dv_desk.specs.Routes.{asked}
-use Rattle.dv_desk.specs.Serving.{IsUnread, RefusesTold, refusal, replied}
+use Rattle.dv_desk.specs.Serving.{IsLeftOf, IsUnread, RefusesTold, refusal, replied}
 use Rattle.dv_desk.specs.Turns.{Exchange, Moment, Turn}
 use Rattle.dv_desk.specs.Writing.{GotPart}
 
@@ -50,17 +50,19 @@ abbrev pub Unsaid : Hashes → ℕ → Option (List ℕ) → Option (List ℕ) �
 Unsaid hashes width all others old new before after =
     (exchange : Exchange) × Answered hashes width all others before after exchange × (new ≡ old)
 
-abbrev pub Comes : Hashes → ℕ → Option (List ℕ) → Option (List ℕ) → Option (List ℕ) → Option (List ℕ) → Moment → Moment → Came → Type 0
-Comes hashes width all others old new before after came.Replied = Replies hashes width false all others old new before after
-Comes hashes width all others old new before after came.Closed = Replies hashes width true all others old new before after
-Comes hashes width all others old new before after came.Wire =
+-- what came of one request: by the bytes that were to be read, those that then were, what is left of them behind the buffer,
+-- and what was written
+abbrev pub Comes : Hashes → ℕ → Option (List ℕ) → Option (List ℕ) → Option (List ℕ) → Option (List ℕ) → Option (List ℕ) → Moment → Moment → Came → Type 0
+Comes hashes width all others left old new before after came.Replied = Replies hashes width false all others old new before after
+Comes hashes width all others left old new before after came.Closed = Replies hashes width true all others old new before after × IsLeftOf others left
+Comes hashes width all others left old new before after came.Wire =
     (answer : Answer) × IsUnread all answer × (new ≡ with_bytes old (refusal answer)) × (after ≡ before)
-Comes hashes width all others old new before after came.Ended = HasEnded all × Nothing old new before after
-Comes hashes width all others old new before after came.Cut = RefusesTold all errors.Cut × Nothing old new before after
-Comes hashes width all others old new before after came.ReadFault = ((left : Option (List ℕ)) × Waited all left) × Nothing old new before after
-Comes hashes width all others old new before after came.WriteFault =
+Comes hashes width all others left old new before after came.Ended = HasEnded all × Nothing old new before after
+Comes hashes width all others left old new before after came.Cut = RefusesTold all errors.Cut × Nothing old new before after
+Comes hashes width all others left old new before after came.ReadFault = Waited all left × Nothing old new before after
+Comes hashes width all others left old new before after came.WriteFault =
     BreaksReply hashes width all others old new before after ⊎ BreaksRefusal all old new before after
-Comes hashes width all others old new before after came.Memory =
+Comes hashes width all others left old new before after came.Memory =
     Nothing old new before after ⊎ Unsaid hashes width all others old new before after
 
 -- ---- the writing of a reply

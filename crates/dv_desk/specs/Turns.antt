@@ -1,5 +1,5 @@
 -- A request and its answer: what it does to the warehouse, and why it is given.
-use Rattle.std.specs.Prelude.{◌≡◌, ◌⊎◌, ℕ, ◌≤◌, false, List, [], ◌∷◌, Option, Some, IsSome}
+use Rattle.std.specs.Prelude.{◌≡◌, ◌⊎◌, ℕ, ◌≤◌, Bool, true, false, List, [], ◌∷◌, Option, Some, IsSome}
 use Rattle.dv_text.specs.Causes.{Rose}
 use Rattle.dv_text.specs.Keys.{Hashes}
 use Rattle.dv_text.specs.Told.{Told}
@@ -16,13 +16,13 @@ use Rattle.dv_records.specs.Standing.{Stands}
 use Rattle.dv_records.specs.States.{State}
 use Rattle.dv_records.specs.Steps.{LoadStep}
 use Rattle.dv_snapshots.specs.StoredTexts.{IsStoredDamage}
-use Rattle.dv_window.specs.Offices.{Held, IsDamageFor, IsIn, IsLeftIn, LeavesStore}
+use Rattle.dv_window.specs.Offices.{Held, IsDamageFor, IsIn, IsLeftIn, LeavesStore, made_stale}
 use Rattle.dv_desk.specs.declared.answers.Answer.{Answer}
 use Rattle.dv_desk.specs.declared.answers.Answer.TheVariants as answers
 use Rattle.dv_desk.specs.declared.posted.Posted.{Posted}
 use Rattle.dv_desk.specs.declared.posted.Posted.TheVariants.{NotJson, Faulty, Given}
 use Rattle.dv_desk.specs.Posted.{posted}
-use Rattle.dv_desk.specs.Queries.{heads_answer, mart_answer, pit_answer, table_answer}
+use Rattle.dv_desk.specs.Queries.{IsPitFor, heads_answer, mart_answer, pit_answer, table_answer}
 use Rattle.dv_desk.specs.Routes.{Asked, Load, Heads, MartAt, TableOf, PitAt, NotFound, NotAllowed, asked}
 
 -- what stands between two requests: what the office holds, the keeper's store where it is told, and the keeper's count of
@@ -31,6 +31,10 @@ pub record Moment : Type 0 where
   pub held : Held
   pub store : Option Store
   pub faults : ℕ
+
+-- the same, by what tells a keeper's store and what counts its faults
+abbrev pub moment : {K : Type 0} → (K → Option Store) → (K → ℕ) → Held → K → Moment
+moment tells faults office keeper = record { held = office; store = tells keeper; faults = faults keeper }
 
 -- ---- what a request does, in a state
 
@@ -105,17 +109,22 @@ Says mapping hashes state before after asked answer state' = ReadSays mapping ha
 
 -- ---- why an answer is given, whatever the keeper tells
 
--- a row of the store breaks a rule of form: one that a stale office reads again, or one of a stored snapshot
-abbrev pub IsDamageIn : Hashes → ℕ → Moment → Moment → Store → Damage → Type 0
-IsDamageIn hashes width before after store damage =
-    IsDamageFor before.held.vault.mapping hashes width store damage
-    ⊎ ((id : SnapId) × (date : ℕ) × IsStoredDamage after.held id date store.snapshots damage)
+-- the table of a stored snapshot that is asked for
+abbrev pub IsStoredFor : Mapping → Asked → SnapId → ℕ → Type 0
+IsStoredFor mapping (PitAt hub date) id at = IsPitFor mapping hub date id at
+IsStoredFor mapping asked id at = ⊥
 
-abbrev pub IsCauseOf : Hashes → ℕ → Moment → Moment → Answer → Type 0
-IsCauseOf hashes width before after answers.Keeper = Rose before.faults after.faults
-IsCauseOf hashes width before after (answers.Damaged damage) =
-    Told before.store (λ store. IsDamageIn hashes width before after store damage)
-IsCauseOf hashes width before after answer = Unit {0}
+-- a row of the store breaks a rule of form: one that a stale office reads again, or one of the stored table that is asked for
+abbrev pub IsDamageIn : Hashes → ℕ → Asked → Moment → Moment → Store → Damage → Type 0
+IsDamageIn hashes width asked before after store damage =
+    ((before.held.stale ≡ true) × IsDamageFor before.held.vault.mapping hashes width store damage)
+    ⊎ ((id : SnapId) × (at : ℕ) × IsStoredFor before.held.vault.mapping asked id at × IsStoredDamage after.held id at store.snapshots damage)
+
+abbrev pub IsCauseOf : Hashes → ℕ → Asked → Moment → Moment → Answer → Type 0
+IsCauseOf hashes width asked before after answers.Keeper = Rose before.faults after.faults
+IsCauseOf hashes width asked before after (answers.Damaged damage) =
+    Told before.store (λ store. IsDamageIn hashes width asked before after store damage)
+IsCauseOf hashes width asked before after answer = Unit {0}
 
 -- it isn't that the route has no such method
 abbrev pub IsAllowed : Answer → Type 0
@@ -127,6 +136,50 @@ abbrev pub IsAskedFor : Asked → Answer → Type 0
 IsAskedFor NotFound answer = answer ≡ answers.NotFound
 IsAskedFor (NotAllowed methods) answer = answer ≡ answers.NotAllowed methods
 IsAskedFor asked answer = IsAllowed answer
+
+-- ---- what is left, whatever the keeper tells
+
+-- whether the office is stale behind an answer: where the keeper failed it is, and else only where it was and memory ran out
+-- or a damage was found
+abbrev pub StaleBy : Answer → Bool → Bool → Type 0
+StaleBy answers.Keeper was is = is ≡ true
+StaleBy (answers.Damaged damage) was is = is ≡ true → was ≡ true
+StaleBy answers.Memory was is = is ≡ true → was ≡ true
+StaleBy answer was is = is ≡ false
+
+-- only a window that was loaded or broke off changes the store
+abbrev pub StoreBy : Answer → Option Store → Option Store → Type 0
+StoreBy (answers.Loaded rows) before after = Unit {0}
+StoreBy answers.Keeper before after = Unit {0}
+StoreBy answers.Memory before after = Unit {0}
+StoreBy answer before after = after ≡ before
+
+abbrev pub StoreThen : Asked → Answer → Option Store → Option Store → Type 0
+StoreThen (Load body) answer before after = StoreBy answer before after
+StoreThen asked answer before after = after ≡ before
+
+-- and the same holds of an office that isn't stale
+abbrev pub LoadOffice : Answer → Held → Held → Type 0
+LoadOffice (answers.Loaded rows) held held' = Unit {0}
+LoadOffice answers.Keeper held held' = Unit {0}
+LoadOffice answers.Memory held held' = Unit {0}
+LoadOffice answer held held' = held' ≡ held
+
+-- what is only read leaves it as it was, or stale where the keeper failed
+abbrev pub ReadOffice : Answer → Held → Held → Type 0
+ReadOffice answers.Keeper held held' = held' ≡ made_stale held
+ReadOffice answer held held' = held' ≡ held
+
+abbrev pub OfficeThen : Asked → Answer → Held → Held → Type 0
+OfficeThen (Load body) answer held held' = LoadOffice answer held held'
+OfficeThen asked answer held held' = ReadOffice answer held held'
+
+-- what a request leaves of the office and of the keeper's store; what is no route, or has not this method, leaves all
+pub record Leaves (asked : Asked) (answer : Answer) (before after : Moment) : Type 0 where
+  pub stale : IsThere asked → StaleBy answer before.held.stale after.held.stale
+  pub nowhere : (IsThere asked → ⊥) → after ≡ before
+  pub store : StoreThen asked answer before.store after.store
+  pub office : before.held.stale ≡ false → OfficeThen asked answer before.held after.held
 
 -- ---- a turn
 
@@ -143,8 +196,9 @@ pub record Leads (hashes : Hashes) (state : State) (before after : Moment) (aske
 -- what is asked for is answered: what that does in each state that the office and its keeper stand for, and why
 pub record Turn (hashes : Hashes) (width : ℕ) (asked : Asked) (answer : Answer) (before after : Moment) : Type 0 where
   pub leads : (state : State) → IsIn hashes state before.held before.store → HasWidth width before → Leads hashes state before after asked answer
-  pub cause : IsCauseOf hashes width before after answer
+  pub cause : IsCauseOf hashes width asked before after answer
   pub asked_for : IsAskedFor asked answer
+  pub leaves : Leaves asked answer before after
   pub same_mapping : after.held.vault.mapping ≡ before.held.vault.mapping
   pub wide : HasWidth width before → HasWidth width after
   pub told : IsSome before.store → IsSome after.store
@@ -154,6 +208,15 @@ pub record Turn (hashes : Hashes) (width : ℕ) (asked : Asked) (answer : Answer
 pub record Exchange : Type 0 where
   pub request : Request
   pub answer : Answer
+
+-- the keeper failed in none of them
+abbrev pub IsSure : Answer → Type 0
+IsSure answers.Keeper = ⊥
+IsSure answer = Unit {0}
+
+abbrev pub AreSure : List Exchange → Type 0
+AreSure [] = Unit {0}
+AreSure (exchange ∷ exchanges) = IsSure exchange.answer × AreSure exchanges
 
 -- requests are answered one after another
 abbrev pub Talks : Hashes → ℕ → List Exchange → Moment → Moment → Type 0

@@ -2,13 +2,15 @@
 ghost use Rattle.std.specs.Prelude.{◌≡◌, ◌≤◌, Some};
 ghost use Rattle.dv_text.specs.Causes.{HasCause};
 ghost use Rattle.dv_text.specs.Keys.{hashes_of};
+ghost use Rattle.dv_outside.specs.Seen.{NoFault, seen};
 ghost use Rattle.dv_outside.specs.declared.statuses.Status.TheVariants as statuses;
 ghost use Rattle.dv_catalog.specs.Entries.{Mapping};
 ghost use Rattle.dv_records.specs.Standing.{Stands};
 ghost use Rattle.dv_records.specs.States.{State};
 ghost use Rattle.dv_records.specs.declared.stores.Store.{Store};
 ghost use Rattle.dv_window.specs.Offices.{AgreesUnlessStale};
-ghost use Rattle.dv_desk.specs.Doors.{EndsOr, IsServeCause, ServeSays, ServesAll};
+ghost use Rattle.dv_desk.specs.Doors.{EndsOr, IsServeCause, IsServedOut, ServeSays, ServesAll};
+ghost use Rattle.dv_desk.specs.Turns.{moment};
 ghost use Rattle.dv_desk.specs.Lines.{damaged_line, line_of_fault, status_of_fault};
 
 use crate::bodies::damage_text;
@@ -23,7 +25,7 @@ use std::alloc::Global;
 
 // Ends with the line of a damaged store.
 fn end_damaged<E: Sink>(alloc: Global, err: &mut E, damage: &Damage) -> Status
-    ensures says { EndsOr statuses.Damaged (damaged_line damage.now) (record { old = E.contents err.old; new = E.contents err.new; before = E.faults err.old; now = E.faults err.new }) result }
+    ensures says { EndsOr statuses.Damaged (damaged_line damage.now) (seen E.contents E.faults err.old err.new) result }
     ensures later { E.faults err.old ≤ E.faults err.new }
 {
     match damage_text(alloc, damage) {
@@ -34,7 +36,7 @@ fn end_damaged<E: Sink>(alloc: Global, err: &mut E, damage: &Damage) -> Status
 
 // Ends where no office could be started.
 fn end_unstarted<E: Sink>(alloc: Global, err: &mut E, fault: &StartFault) -> Status
-    ensures says { EndsOr (status_of_fault fault.now) (line_of_fault fault.now) (record { old = E.contents err.old; new = E.contents err.new; before = E.faults err.old; now = E.faults err.new }) result }
+    ensures says { EndsOr (status_of_fault fault.now) (line_of_fault fault.now) (seen E.contents E.faults err.old err.new) result }
     ensures later { E.faults err.old ≤ E.faults err.new }
 {
     match fault {
@@ -57,9 +59,8 @@ fn serve_all<D: Doors, K: Keeper, H: KeyDigest, G: Gate>(
 ) -> Result<(), Failed>
     requires workers { (1 ≤ workers) × (workers ≤ 64) }
     requires agrees { AgreesUnlessStale office.old (K.store keeper.old) }
-    ensures serves { ServesAll (hashes_of H.digest_of H.size) H.size (record { left = D.Line.left; contents = D.Line.contents }) (D.lines doors.old) (D.lines doors.new)
-        (record { held = office.old; store = K.store keeper.old; faults = K.faults keeper.old })
-        (record { held = office.new; store = K.store keeper.new; faults = K.faults keeper.new }) result }
+    ensures serves { ServesAll (hashes_of H.digest_of H.size) H.size (record { left = D.Line.left; contents = D.Line.contents; faults = D.Line.faults }) (D.lines doors.old) (D.lines doors.new)
+        (moment K.store K.faults office.old keeper.old) (moment K.store K.faults office.new keeper.new) result }
     ensures port { D.named doors.new ≡ D.named doors.old }
     ensures cause { HasCause (D.faults doors.old) (D.faults doors.new) result }
 {
@@ -90,12 +91,17 @@ pub fn serve<D: Doors, K: Keeper, E: Sink, H: KeyDigest, G: Gate>(
     gate: &G,
 ) -> Status
     requires workers { (1 ≤ workers) × (workers ≤ 64) }
-    ensures says { ServeSays (hashes_of H.digest_of H.size) H.size (record { left = D.Line.left; contents = D.Line.contents }) (D.lines doors.old) (D.lines doors.new)
-        (record { old = K.store keeper.old; new = K.store keeper.new; before = K.faults keeper.old; now = K.faults keeper.new })
-        (record { old = E.contents err.old; new = E.contents err.new; before = E.faults err.old; now = E.faults err.new }) result }
+    ensures says { ServeSays (hashes_of H.digest_of H.size) H.size (record { left = D.Line.left; contents = D.Line.contents; faults = D.Line.faults }) (D.lines doors.old) (D.lines doors.new)
+        (seen K.store K.faults keeper.old keeper.new)
+        (seen E.contents E.faults err.old err.new) result }
     ensures cause { IsServeCause (D.faults doors.old) (D.faults doors.new)
-        (record { old = K.store keeper.old; new = K.store keeper.new; before = K.faults keeper.old; now = K.faults keeper.new })
-        (record { old = E.contents err.old; new = E.contents err.new; before = E.faults err.old; now = E.faults err.new }) result }
+        (seen K.store K.faults keeper.old keeper.new)
+        (seen E.contents E.faults err.old err.new) result }
+
+    // With no fault of the doors, the keeper and the sink, and memory enough, all connections were served, or no office could be
+    // started by what is stored.
+    ensures complete { NoFault (D.faults doors.old) (D.faults doors.new) → NoFault (K.faults keeper.old) (K.faults keeper.new)
+        → NoFault (E.faults err.old) (E.faults err.new) → (result ≡ statuses.Memory → ⊥) → IsServedOut result }
 
     // A store that stands for a state is never called damaged.
     ensures sound { result ≡ statuses.Damaged → (mapping : Mapping) (state : State) (store : Store) → K.store keeper.old ≡ Some store

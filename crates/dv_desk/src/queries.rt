@@ -1,5 +1,5 @@
 // What is asked for and only read: the office isn't stale.
-ghost use Rattle.std.specs.Prelude.{◌≡◌, ◌<◌, ◌≤◌, Contains, IfOk, IfSome, Some, false, length};
+ghost use Rattle.std.specs.Prelude.{◌≡◌, ◌<◌, ◌≤◌, Contains, IfOk, IfSome, OnErr, Some, false, length};
 ghost use Rattle.dv_text.specs.Keys.{Hashes};
 ghost use Rattle.dv_bridge.specs.ZeroKeys.{HasZeroKeys};
 ghost use Rattle.dv_catalog.specs.Tables.{tables};
@@ -7,10 +7,10 @@ ghost use Rattle.dv_mart.specs.OfferedMarts.{IsOffered};
 ghost use Rattle.dv_mart.specs.Whats.{hub_place, table_named as table_of_name};
 ghost use Rattle.dv_records.specs.States.{State};
 ghost use Rattle.dv_records.specs.declared.stores.Store.{Store};
-ghost use Rattle.dv_window.specs.Offices.{Agrees, IsIn, StandsFor, staged};
+ghost use Rattle.dv_window.specs.Offices.{Agrees, StandsFor, staged};
 ghost use Rattle.dv_desk.specs.Queries as spec;
-ghost use Rattle.dv_desk.specs.Turns.{IsDue};
-ghost use Rattle.dv_desk.specs.Reads.{AreSized, IsQuiet, IsReadCause, bad_date as bad_date_of};
+ghost use Rattle.dv_desk.specs.Turns.{ReadOffice};
+ghost use Rattle.dv_desk.specs.Reads.{DueIn, IsPitAt, IsQuiet, IsReadCause, bad_date as bad_date_of};
 
 use crate::answers::Answer;
 use crate::bodies::heads_body;
@@ -108,16 +108,16 @@ pub(crate) fn table(alloc: Global, office: &Office, name: &[u8]) -> Result<Answe
 // The point-in-time table of a hub in the snapshot at a date.
 fn pit_at<K: Keeper>(
     alloc: Global,
-    office: &Office,
+    office: &mut Office,
     keeper: &mut K,
     hub: u32,
     date: Stamp,
 ) -> Answer
-    requires fresh { office.now.stale ≡ false }
-    requires hub { hub < length office.now.vault.mapping.hubs }
-    ensures due { (hashes : Hashes) (state : State) (s : Store) → K.store keeper.old ≡ Some s → IsIn hashes state office.now (Some s) → AreSized hashes office.now.width
-        → IsDue (spec.stored_pit office.now.vault.mapping hashes state hub date) result }
-    ensures cause { IsReadCause office.now (K.store keeper.old) (K.faults keeper.old) (K.faults keeper.new) result }
+    requires fresh { office.old.stale ≡ false }
+    requires hub { hub < length office.old.vault.mapping.hubs }
+    ensures due { DueIn (λ hashes state. spec.stored_pit office.old.vault.mapping hashes state hub date) office.old (K.store keeper.old) result }
+    ensures cause { IsReadCause (IsPitAt hub date) office.old (K.store keeper.old) (K.faults keeper.old) (K.faults keeper.new) result }
+    ensures office { ReadOffice result office.old office.new }
     ensures store { K.store keeper.new ≡ K.store keeper.old }
     ensures later { K.faults keeper.old ≤ K.faults keeper.new }
 {
@@ -142,15 +142,16 @@ fn hub_named(alloc: Global, catalog: &Catalog, name: &[u8]) -> Result<Option<u32
 /// The point-in-time table of the hub of a name, in the snapshot at a date.
 pub(crate) fn pit<K: Keeper>(
     alloc: Global,
-    office: &Office,
+    office: &mut Office,
     keeper: &mut K,
     name: &[u8],
     date: &[u8],
 ) -> Result<Answer, Memory>
-    requires fresh { office.now.stale ≡ false }
-    ensures due { IfOk result (λ answer. (hashes : Hashes) (state : State) (s : Store) → K.store keeper.old ≡ Some s → IsIn hashes state office.now (Some s) → AreSized hashes office.now.width
-        → IsDue (spec.pit_answer office.now.vault.mapping hashes state name.now date.now) answer) }
-    ensures cause { IfOk result (IsReadCause office.now (K.store keeper.old) (K.faults keeper.old) (K.faults keeper.new)) }
+    requires fresh { office.old.stale ≡ false }
+    ensures due { IfOk result (DueIn (λ hashes state. spec.pit_answer office.old.vault.mapping hashes state name.now date.now) office.old (K.store keeper.old)) }
+    ensures cause { IfOk result (IsReadCause (spec.IsPitFor office.old.vault.mapping name.now date.now) office.old (K.store keeper.old) (K.faults keeper.old) (K.faults keeper.new)) }
+    ensures office { IfOk result (λ answer. ReadOffice answer office.old office.new) }
+    ensures left { OnErr result (office.new ≡ office.old) }
     ensures store { K.store keeper.new ≡ K.store keeper.old }
     ensures later { K.faults keeper.old ≤ K.faults keeper.new }
 {

@@ -3,11 +3,13 @@ ghost use Rattle.std.specs.Prelude.{◌≡◌, ◌≢◌, ◌<◌, ◌≤◌, If
 ghost use Rattle.dv_text.specs.Causes.{Rose};
 ghost use Rattle.dv_text.specs.Keys.{hashes_of};
 ghost use Rattle.dv_outside.specs.Bytes.{in_front};
+ghost use Rattle.dv_outside.specs.Seen.{NoFault};
 ghost use Rattle.dv_http.specs.Buffers.{held};
 ghost use Rattle.dv_http.specs.Replies.{reply_text as text_of_reply};
 ghost use Rattle.dv_window.specs.Offices.{AgreesUnlessStale};
 ghost use Rattle.dv_desk.specs.Answers.{reply_of};
-ghost use Rattle.dv_desk.specs.Serving.{IsServedCause, Serves, most_requests};
+ghost use Rattle.dv_desk.specs.Serving.{IsServedCause, IsServedWhole, Serves, most_requests};
+ghost use Rattle.dv_desk.specs.Turns.{moment};
 ghost use Rattle.dv_desk.specs.Steps.{Comes, IsLinkCause, Refused, RepliedTo, Said, came_of as came_by, end_with as end_of};
 
 use crate::answers::{Answer, wire_answer};
@@ -105,10 +107,10 @@ fn reply_to<L: Link, K: Keeper, H: KeyDigest, G: Gate>(
     digest: &H,
     gate: &G,
 ) -> Came
+    requires workers { (1 ≤ workers) × (workers ≤ 64) }
     requires agrees { AgreesUnlessStale office.old (K.store keeper.old) }
     ensures replied { RepliedTo (hashes_of H.digest_of H.size) H.size request.now (L.contents link.old) (L.contents link.new)
-        (record { held = office.old; store = K.store keeper.old; faults = K.faults keeper.old })
-        (record { held = office.new; store = K.store keeper.new; faults = K.faults keeper.new }) result }
+        (moment K.store K.faults office.old keeper.old) (moment K.store K.faults office.new keeper.new) result }
     ensures agrees { AgreesUnlessStale office.new (K.store keeper.new) }
     ensures kept { L.left link.new ≡ L.left link.old }
     ensures cause { result ≡ Came.WriteFault → Rose (L.faults link.old) (L.faults link.new) }
@@ -129,11 +131,11 @@ fn serve_one<L: Link, K: Keeper, H: KeyDigest, G: Gate>(
     digest: &H,
     gate: &G,
 ) -> Came
+    requires workers { (1 ≤ workers) × (workers ≤ 64) }
     requires agrees { AgreesUnlessStale office.old (K.store keeper.old) }
     ensures comes { Comes (hashes_of H.digest_of H.size) H.size (in_front (held buffer.old) (L.left link.old)) (in_front (held buffer.new) (L.left link.new))
-        (L.contents link.old) (L.contents link.new)
-        (record { held = office.old; store = K.store keeper.old; faults = K.faults keeper.old })
-        (record { held = office.new; store = K.store keeper.new; faults = K.faults keeper.new }) result }
+        (L.left link.new) (L.contents link.old) (L.contents link.new)
+        (moment K.store K.faults office.old keeper.old) (moment K.store K.faults office.new keeper.new) result }
     ensures agrees { AgreesUnlessStale office.new (K.store keeper.new) }
     ensures cause { IsLinkCause (L.faults link.old) (L.faults link.new) result }
     ensures later { L.faults link.old ≤ L.faults link.new }
@@ -189,12 +191,14 @@ pub fn serve_link<L: Link, K: Keeper, H: KeyDigest, G: Gate>(
     requires agrees { AgreesUnlessStale office.old (K.store keeper.old) }
 
     // What was read of the connection and written to it, and what came of the warehouse, by how it ended.
-    ensures serves { Serves (hashes_of H.digest_of H.size) H.size (L.left link.old) (L.contents link.old) (L.contents link.new)
-        (record { held = office.old; store = K.store keeper.old; faults = K.faults keeper.old })
-        (record { held = office.new; store = K.store keeper.new; faults = K.faults keeper.new }) result }
+    ensures serves { Serves (hashes_of H.digest_of H.size) H.size (L.left link.old) (L.left link.new) (L.contents link.old) (L.contents link.new)
+        (moment K.store K.faults office.old keeper.old) (moment K.store K.faults office.new keeper.new) result }
 
     // A fault of the connection comes only where its count of faults rose.
     ensures cause { IsServedCause (L.faults link.old) (L.faults link.new) result }
+
+    // With no fault of the connection and memory enough, all that was taken was answered, and each reply was written whole.
+    ensures complete { NoFault (L.faults link.old) (L.faults link.new) → (result ≡ Served.Memory → ⊥) → IsServedWhole result }
     ensures agrees { AgreesUnlessStale office.new (K.store keeper.new) }
     ensures later { L.faults link.old ≤ L.faults link.new }
 {

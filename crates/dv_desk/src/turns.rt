@@ -1,13 +1,10 @@
 // A request is answered.
-ghost use Rattle.std.specs.Prelude.{◌≡◌, ◌≤◌, IfOk, List, Some, false, length, ℕ};
-ghost use Rattle.dv_text.specs.Keys.{Hashes, hashes_of};
-ghost use Rattle.dv_bridge.specs.ZeroKeys.{HasZeroKeys};
-ghost use Rattle.dv_records.specs.States.{State};
-ghost use Rattle.dv_records.specs.declared.stores.Store.{Store};
-ghost use Rattle.dv_window.specs.Offices.{AgreesUnlessStale, IsIn};
-ghost use Rattle.dv_desk.specs.Reads.{AreSized, IsReadCause};
+ghost use Rattle.std.specs.Prelude.{◌≡◌, ◌≤◌, IfOk, List, OnErr, false, length, ℕ};
+ghost use Rattle.dv_text.specs.Keys.{hashes_of};
+ghost use Rattle.dv_window.specs.Offices.{AgreesUnlessStale};
+ghost use Rattle.dv_desk.specs.Reads.{IsReadCause, ReadDue};
 ghost use Rattle.dv_desk.specs.Routes as routes;
-ghost use Rattle.dv_desk.specs.Turns.{IsDue, IsRead, IsThere, Turn, due};
+ghost use Rattle.dv_desk.specs.Turns.{IsRead, IsStoredFor, IsThere, ReadOffice, Turn, moment};
 
 use crate::answers::{Answer, unrefreshed};
 use crate::posted::{Posted, read_body};
@@ -36,11 +33,11 @@ fn load<K: Keeper, H: KeyDigest, G: Gate>(
     digest: &H,
     gate: &G,
 ) -> Answer
+    requires workers { (1 ≤ workers) × (workers ≤ 64) }
     requires fresh { office.old.stale ≡ false }
     requires agrees { AgreesUnlessStale office.old (K.store keeper.old) }
     ensures turn { Turn (hashes_of H.digest_of H.size) H.size (routes.Load body.now) result
-        (record { held = office.old; store = K.store keeper.old; faults = K.faults keeper.old })
-        (record { held = office.new; store = K.store keeper.new; faults = K.faults keeper.new }) }
+        (moment K.store K.faults office.old keeper.old) (moment K.store K.faults office.new keeper.new) }
     ensures agrees { AgreesUnlessStale office.new (K.store keeper.new) }
 {
     match read_body(alloc, body) {
@@ -57,16 +54,17 @@ fn load<K: Keeper, H: KeyDigest, G: Gate>(
 // What is only read is asked of an office that isn't stale.
 fn read<K: Keeper>(
     alloc: Global,
-    office: &Office,
+    office: &mut Office,
     keeper: &mut K,
     asked: &Asked<'_>,
 ) -> Result<Answer, Memory>
-    requires fresh { office.now.stale ≡ false }
-    requires agrees { AgreesUnlessStale office.now (K.store keeper.old) }
+    requires fresh { office.old.stale ≡ false }
+    requires agrees { AgreesUnlessStale office.old (K.store keeper.old) }
     requires read { IsRead (routes.asked_as asked.now) }
-    ensures due { IfOk result (λ answer. (hashes : Hashes) (state : State) (s : Store) → K.store keeper.old ≡ Some s → IsIn hashes state office.now (Some s) → HasZeroKeys hashes → AreSized hashes office.now.width
-        → IsDue (due office.now.vault.mapping hashes state (routes.asked_as asked.now) s) answer) }
-    ensures cause { IfOk result (IsReadCause office.now (K.store keeper.old) (K.faults keeper.old) (K.faults keeper.new)) }
+    ensures due { IfOk result (ReadDue (routes.asked_as asked.now) office.old (K.store keeper.old)) }
+    ensures cause { IfOk result (IsReadCause (IsStoredFor office.old.vault.mapping (routes.asked_as asked.now)) office.old (K.store keeper.old) (K.faults keeper.old) (K.faults keeper.new)) }
+    ensures office { IfOk result (λ answer. ReadOffice answer office.old office.new) }
+    ensures left { OnErr result (office.new ≡ office.old) }
     ensures store { K.store keeper.new ≡ K.store keeper.old }
     ensures later { K.faults keeper.old ≤ K.faults keeper.new }
 {
@@ -89,12 +87,12 @@ fn answer_fresh<K: Keeper, H: KeyDigest, G: Gate>(
     digest: &H,
     gate: &G,
 ) -> Answer
+    requires workers { (1 ≤ workers) × (workers ≤ 64) }
     requires fresh { office.old.stale ≡ false }
     requires agrees { AgreesUnlessStale office.old (K.store keeper.old) }
     requires there { IsThere (routes.asked_as asked.now) }
     ensures turn { Turn (hashes_of H.digest_of H.size) H.size (routes.asked_as asked.now) result
-        (record { held = office.old; store = K.store keeper.old; faults = K.faults keeper.old })
-        (record { held = office.new; store = K.store keeper.new; faults = K.faults keeper.new }) }
+        (moment K.store K.faults office.old keeper.old) (moment K.store K.faults office.new keeper.new) }
     ensures agrees { AgreesUnlessStale office.new (K.store keeper.new) }
 {
     note_sized(digest);
@@ -117,11 +115,11 @@ fn answer_there<K: Keeper, H: KeyDigest, G: Gate>(
     digest: &H,
     gate: &G,
 ) -> Answer
+    requires workers { (1 ≤ workers) × (workers ≤ 64) }
     requires agrees { AgreesUnlessStale office.old (K.store keeper.old) }
     requires there { IsThere (routes.asked_as asked.now) }
     ensures turn { Turn (hashes_of H.digest_of H.size) H.size (routes.asked_as asked.now) result
-        (record { held = office.old; store = K.store keeper.old; faults = K.faults keeper.old })
-        (record { held = office.new; store = K.store keeper.new; faults = K.faults keeper.new }) }
+        (moment K.store K.faults office.old keeper.old) (moment K.store K.faults office.new keeper.new) }
     ensures agrees { AgreesUnlessStale office.new (K.store keeper.new) }
 {
     match office.refresh(keeper, digest) {
@@ -141,10 +139,10 @@ pub(crate) fn answer_to<K: Keeper, H: KeyDigest, G: Gate>(
     digest: &H,
     gate: &G,
 ) -> Answer
+    requires workers { (1 ≤ workers) × (workers ≤ 64) }
     requires agrees { AgreesUnlessStale office.old (K.store keeper.old) }
     ensures turn { Turn (hashes_of H.digest_of H.size) H.size (routes.asked request.now) result
-        (record { held = office.old; store = K.store keeper.old; faults = K.faults keeper.old })
-        (record { held = office.new; store = K.store keeper.new; faults = K.faults keeper.new }) }
+        (moment K.store K.faults office.old keeper.old) (moment K.store K.faults office.new keeper.new) }
     ensures agrees { AgreesUnlessStale office.new (K.store keeper.new) }
 {
     match asked_by(request) {

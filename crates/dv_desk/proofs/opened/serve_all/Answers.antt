@@ -26,7 +26,8 @@ returns-in_default-clause-serves g c =
 pub loop-preserved : goal.loop-preserved
 loop-preserved g c = record {
   so_far = served_more _ _ _ _ _ _ _ c.loop.counter c.loop.invariant.so_far c.in-Some.line c.serve_link-served.new.link (g.D.Doors.lines c.next.new.self) (g.D.Doors.lines c.done.new.self) _ c.serve_link-served.result
-      (rw c.in-Some.is at c.in_ok-line.ensures.ok) c.done.ensures.lines c.serve_link-served.ensures.serves;
+      (rw c.in-Some.is at c.in_ok-line.ensures.ok) c.done.ensures.lines
+      (record { serves = c.serve_link-served.ensures.serves; cause = c.serve_link-served.ensures.cause; later = c.serve_link-served.ensures.later });
   agrees = c.serve_link-served.ensures.agrees;
   port = c.done.ensures.port ∙ c.next.ensures.port ∙ c.loop.invariant.port;
   later = omega (arith, c.next.ensures.cause.later, c.done.ensures.faults, c.loop.invariant.later);
