@@ -1,9 +1,11 @@
-ghost use Rattle.std.specs.Prelude.{◌≡◌, ◌≤◌, map, string_bytes};
+ghost use Rattle.std.specs.Prelude.{◌≡◌, ◌≤◌};
+ghost use Rattle.dv_outside.specs.Seen.{seen};
 ghost use Rattle.dv_outside.specs.declared.statuses.Status.TheVariants as statuses;
 ghost use Rattle.dv_text.specs.Keys.{hashes_of};
 ghost use Rattle.dv_app.specs.Kept.{IsStanding};
-ghost use Rattle.dv_app.specs.Run.{NoFault};
-ghost use Rattle.dv_program.specs.Programs.{IsAside, IsProgramCause, ProgramCompletes, ProgramSays, asked, asked_as};
+ghost use Rattle.dv_app.specs.Keyed.{keyed};
+ghost use Rattle.dv_program.specs.Programs as spec;
+ghost use Rattle.dv_program.specs.Programs.{IsAside, IsProgramCause, OpensNothing, ProgramCompletes, ProgramSays, ReadsNothing};
 
 use dv_app::run;
 use dv_desk::{ServeWords, serve, serve_words};
@@ -26,7 +28,7 @@ enum Asked {
 }
 
 fn asked_of(words: &[String]) -> Asked
-    ensures { asked_as result ≡ asked (map string_bytes words.now) }
+    ensures { spec.asked_as result ≡ spec.asked_of words.now }
 {
     match words {
         [first, behind @ ..] if first.as_str() == "serve" => match serve_words(behind) {
@@ -52,31 +54,29 @@ pub fn program<F: Folder, D: Doors, K: Keeper, O: Sink, E: Sink, H: KeyDigest, G
     gate: &G,
 ) -> Status
     // What is written, what the doors and the keeper have then, and the status, by what the words ask for.
-    ensures says { ProgramSays (map string_bytes words.now) (asked (map string_bytes words.now)) (hashes_of H.digest_of H.size) H.size
-        (record { left = D.Line.left; contents = D.Line.contents }) (F.files folder.old)
-        (record { folder_before = F.faults folder.old; folder = F.faults folder.new; out_before = O.faults out.old; out = O.faults out.new; err_before = E.faults err.old; err = E.faults err.new })
-        (record { before = K.store keeper.old; after = K.store keeper.new; faults_before = K.faults keeper.old; faults = K.faults keeper.new })
-        (record { out_old = O.contents out.old; out = O.contents out.new; err_old = E.contents err.old; err = E.contents err.new })
-        (record { lines_old = D.lines doors.old; lines = D.lines doors.new; port_old = D.named doors.old; port = D.named doors.new }) result }
+    ensures says { ProgramSays words.now (keyed H.digest_of H.size) (record { left = D.Line.left; contents = D.Line.contents; faults = D.Line.faults })
+        (record { lines_old = D.lines doors.old; lines = D.lines doors.new; port = D.named doors.new })
+        (seen F.files F.faults folder.old folder.new) (seen K.store K.faults keeper.old keeper.new)
+        (seen O.contents O.faults out.old out.new) (seen E.contents E.faults err.old err.new) result }
 
     // With no fault and memory enough, it is what the definitions say.
-    ensures complete { NoFault (F.faults folder.old) (F.faults folder.new) → NoFault (O.faults out.old) (O.faults out.new) → NoFault (E.faults err.old) (E.faults err.new)
-        → NoFault (K.faults keeper.old) (K.faults keeper.new) → NoFault (D.faults doors.old) (D.faults doors.new) → (result ≡ statuses.Memory → ⊥)
-        → ProgramCompletes (map string_bytes words.now) (asked (map string_bytes words.now)) (hashes_of H.digest_of H.size) H.size (F.files folder.old)
-        (record { before = K.store keeper.old; after = K.store keeper.new; faults_before = K.faults keeper.old; faults = K.faults keeper.new })
-        (record { out_old = O.contents out.old; out = O.contents out.new; err_old = E.contents err.old; err = E.contents err.new }) result }
+    ensures complete { ProgramCompletes words.now (keyed H.digest_of H.size) (D.faults doors.old) (D.faults doors.new)
+        (seen F.files F.faults folder.old folder.new) (seen K.store K.faults keeper.old keeper.new)
+        (seen O.contents O.faults out.old out.new) (seen E.contents E.faults err.old err.new) result }
 
     // Each status has its cause, whatever the objects tell of their contents.
-    ensures causes { IsProgramCause (map string_bytes words.now) (asked (map string_bytes words.now))
-        (record { folder_before = F.faults folder.old; folder = F.faults folder.new; out_before = O.faults out.old; out = O.faults out.new; err_before = E.faults err.old; err = E.faults err.new })
-        (record { before = K.store keeper.old; after = K.store keeper.new; faults_before = K.faults keeper.old; faults = K.faults keeper.new })
-        (record { out_old = O.contents out.old; out = O.contents out.new; err_old = E.contents err.old; err = E.contents err.new }) (D.faults doors.old) (D.faults doors.new) result }
+    ensures causes { IsProgramCause words.now (D.faults doors.old) (D.faults doors.new)
+        (seen F.files F.faults folder.old folder.new) (seen K.store K.faults keeper.old keeper.new)
+        (seen O.contents O.faults out.old out.new) (seen E.contents E.faults err.old err.new) result }
 
     // A store that stands for a state is never called damaged.
     ensures sound { result ≡ statuses.Damaged → IsStanding (hashes_of H.digest_of H.size) (K.store keeper.old) → ⊥ }
 
-    // What keeps nothing leaves the keeper; the folder's files are as they were; no count falls.
-    ensures untouched { IsAside (map string_bytes words.now) (asked (map string_bytes words.now)) → keeper.new ≡ keeper.old }
+    // What keeps nothing leaves the keeper, what serves nothing the doors, and what is no command the folder and standard
+    // output; the folder's files are as they were; no count falls.
+    ensures untouched { IsAside words.now → keeper.new ≡ keeper.old }
+    ensures unopened { OpensNothing (spec.asked_of words.now) → doors.new ≡ doors.old }
+    ensures unread { ReadsNothing (spec.asked_of words.now) → (folder.new ≡ folder.old) × (out.new ≡ out.old) }
     ensures kept { F.files folder.new ≡ F.files folder.old }
     ensures later_in { (F.faults folder.old ≤ F.faults folder.new) × (D.faults doors.old ≤ D.faults doors.new) }
     ensures later_out { (O.faults out.old ≤ O.faults out.new) × (E.faults err.old ≤ E.faults err.new) }
