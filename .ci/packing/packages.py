@@ -49,7 +49,7 @@ it. Where the manual speaks of the script vaultdesk at the top of a checkout,
 read the program.
 """
 # What is copied to the same paths below the package's folder of documents, so that links lead on there.
-COPIED = ("README.md", "docs/*.md", "docs/manual/*.md", "examples/*/*")
+COPIED = ("README.md", "docs/*.md", "docs/manual/*.md", "docs/manual/pictures/*", "examples/*/*")
 # lintian's tags that are no fault here, each with why.
 OVERRIDES = (("unstripped-binary-or-object", "the program is that of the release, byte for byte, so that its sum can be held to it"),)
 
