@@ -15,6 +15,8 @@ from tools.mappings import Planter
 
 PAGES = ("rules", "mapping")
 HEADING = re.compile(r"^##+ (W?\d+ [A-Z]\w+)$", re.M)
+# A manifest that is refused.
+REFUSED = re.compile(r"^(\S+\.toml): W\d+ ", re.M)
 REFUSAL = re.compile(r"^(?:\S+\.toml: (W\d+ .*)|vaultdesk: (mapping \d+ .*))$", re.M)
 
 
@@ -25,10 +27,13 @@ def words_for_all(bench):
     expect_faults("the codes of the pages", codes, set(CHECK.WORDS) - {"mapping differs"})
 
 
-def as_check(command):
-    """The commands of an example, which call vaultdesk-check where they called `try` or a refused `load`."""
-    command = re.sub(r"^vaultdesk try \S+ \S+ (.*)$", r"vaultdesk-check \1", command, flags=re.M)
-    return re.sub(r"^vaultdesk load (w2\.toml)$", r"vaultdesk-check --vault \1", command, flags=re.M)
+def as_check(example):
+    """The commands of an example, which call vaultdesk-check where they called `try`, or `load` of a manifest that is refused."""
+    command = re.sub(r"^vaultdesk try \S+ \S+ (.*)$", r"vaultdesk-check \1", example.command, flags=re.M)
+    for manifest in dict.fromkeys(REFUSED.findall(example.expects("err"))):
+        before, load, behind = f"{command}\n".rpartition(f"\nvaultdesk load {manifest}\n")
+        command = f"{before}\nvaultdesk-check --vault {manifest}\n{behind}" if load else command
+    return command
 
 
 def manual_lines(bench):
@@ -36,12 +41,12 @@ def manual_lines(bench):
     tried = set()
     for example in itertools.chain(*(examples_of(TOP / "docs" / "manual" / f"{page}.md") for page in PAGES)):
         refusals = [one or other for part in ("err", "out") for one, other in REFUSAL.findall(example.expects(part))]
-        if not refusals or "vaultdesk-check" not in as_check(example.command):
+        if not refusals or "vaultdesk-check" not in as_check(example):
             continue
         folder = bench.new_folder(example.files)
         (folder / "vaultdesk").symlink_to(bench.program)
         (folder / "vaultdesk-check").symlink_to(TOP / "tools" / "vaultdesk-check")
-        command = f'PATH="$PWD:$PATH"\n{as_check(example.command)}'
+        command = f'PATH="$PWD:$PATH"\n{as_check(example)}'
         lines = re.sub(r"(vaultdesk-check .*?)( 2> lines)?$", r"\1; echo status $?", command, flags=re.M).replace("tail -n 2 lines", "")
         got = bench.run_shell(folder, lines)
         for refusal in refusals:
