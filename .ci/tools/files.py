@@ -140,8 +140,10 @@ def broken_off(bench):
     slow = folder / "slow"
     slow.write_text(f"#!/bin/sh\ntouch {folder}/begun\nexec sleep 60\n", encoding="utf-8")
     slow.chmod(0o755)
+    # What a shell starts in the background has the signal ignored, and so have those that it starts.
     with subprocess.Popen([sys.executable, bench.tool_path("vaultdesk-check"), "w1.toml"], cwd=folder, stdout=subprocess.DEVNULL,
-                          stderr=subprocess.PIPE, env={**os.environ, "VAULTDESK": str(slow)}, start_new_session=True) as process:
+                          stderr=subprocess.PIPE, env={**os.environ, "VAULTDESK": str(slow)}, start_new_session=True,
+                          preexec_fn=lambda: signal.signal(signal.SIGINT, signal.SIG_DFL)) as process:
         while process.poll() is None and not (folder / "begun").exists():
             time.sleep(0.01)
         os.killpg(process.pid, signal.SIGINT)
