@@ -273,10 +273,13 @@ def thousand_connections(bench):
         for number in range(WARM):
             visit(desk, number, posted)
         desk.says("the windows", [windows_reply(1)], WINDOWS)
+        # A client sees the end of the replies just before the desk closes its side.
+        rests(desk)
         before, files = desk.status_of("VmRSS"), desk.files_open()
         for number in range(CONNECTIONS):
             visit(desk, number, posted)
         desk.says("the windows", [windows_reply(1)], WINDOWS)
+        rests(desk)
         after = desk.status_of("VmRSS")
         expect(f"whether the memory grew by at most {FLAT} kB, from {before} to {after}", True, after - before <= FLAT)
         expect("the open files", files, desk.files_open())
