@@ -1,257 +1,198 @@
-//! Rows of any kind, put behind those of their kind and read back.
-use crate::batches::{Batch, last_up_to, number, put};
-use crate::cells::count_at;
-use crate::columns::{KindTable, Widths};
-use crate::dates::Dates;
-use crate::refusals::Refusal;
-use crate::statements::{insert_text, last_text, select_text};
-use crate::values::Values;
-use dv_text::List;
-use sqlite::types::ValueRef;
-use sqlite::{Alter, Connection, Row, Transaction};
-use std::alloc::Global;
+//! The eight kinds of rows, as the file has them.
+use crate::cells::Cells;
+use crate::lines::{Given, Lines};
+use crate::refusals::{Refusal, Result};
+use dv_records::{
+    BridgeRow, Code, EffectRow, HubRow, LinkRow, MultiRow, PitCell, PitRow, SatRow, StatusRow,
+};
+use dv_text::{Key, List};
 
-// How many rows one statement inserts. A statement writes each page that it changes once, and has costs of its own.
-const TOGETHER: usize = 64;
+/// A kind of rows.
+pub(crate) trait StoredRow: Sized + Drop {
+    /// The name of the kind in those of its tables.
+    const NAME: &'static str;
 
-/// A kind of rows, all of which stand in one table of the file.
-pub(crate) trait Kind: Sized + Drop {
-    /// The dates of a row, as the file has them.
-    type Printed: Drop;
+    /// Gives the values of the row.
+    fn give<'a>(&'a self, line: &mut Lines<'a>) -> Result<()>;
 
-    /// The table of the kind.
-    fn table() -> KindTable;
-
-    /// How many items the row's lists have.
-    fn widths(&self) -> Widths;
-
-    /// The row's dates, as the file has them.
-    fn printed(&self, alloc: Global) -> Result<Self::Printed, Refusal>;
-
-    /// Gives the values of the row, with a number and its dates.
-    fn give<'a>(
-        &'a self,
-        number: i64,
-        dates: &'a Self::Printed,
-        values: &mut Values<'a>,
-    ) -> Result<(), Refusal>;
-
-    /// The row that was read, with columns for so many items. A fault where its columns are no
-    /// row's.
-    fn read(alloc: Global, row: &Row, widths: Widths, dates: &mut Dates) -> Result<Self, Refusal>;
+    /// The row that was read. A fault where its values are no row's.
+    fn read(cells: &mut Cells<'_>) -> Result<Self>;
 }
 
-// How many items the lists of all rows have. A fault where there are not as many columns.
-fn widest<T: Kind>(rows: &[T]) -> Result<Widths, Refusal> {
-    let mut widths = Widths::NONE;
-    for row in rows {
-        widths = widths.widest(row.widths());
-    }
-    if !T::table().has_room(widths) {
-        return Err(Refusal::Fault);
-    }
-    Ok(widths)
-}
+impl StoredRow for HubRow {
+    const NAME: &'static str = "hub";
 
-// The number behind the last row of a kind.
-fn next_row<S: Alter>(
-    alloc: Global,
-    tx: &mut Transaction<'_, S>,
-    table: &KindTable,
-) -> Result<u64, Refusal> {
-    let last = last_text(alloc, table)?;
-    let rows = tx.query_all(last.as_str(), &[])?;
-    match rows.as_slice().first() {
-        Some(row) => Ok(count_at(row, 0)?.saturating_add(1)),
-        None => Ok(1),
+    fn give<'a>(&'a self, line: &mut Lines<'a>) -> Result<()> {
+        line.head(&self.digest, self.load, &self.source)?;
+        line.texts("part_", &self.key.parts)
+    }
+
+    fn read(cells: &mut Cells<'_>) -> Result<HubRow> {
+        Ok(HubRow {
+            digest: cells.digest()?,
+            load: cells.date()?,
+            source: cells.text()?,
+            key: Key {
+                parts: cells.texts("part_")?,
+            },
+        })
     }
 }
 
-// The place behind the last row of a raw table.
-fn next_place<S: Alter>(
-    conn: &mut Connection<S>,
-    table: &KindTable,
-    entity: u32,
-) -> Result<u64, Refusal> {
-    match last_up_to(conn, table, entity, i64::MAX)? {
-        Some(batch) => Ok(batch.end_place()),
-        None => Ok(0),
+impl StoredRow for LinkRow {
+    const NAME: &'static str = "link";
+
+    fn give<'a>(&'a self, line: &mut Lines<'a>) -> Result<()> {
+        line.head(&self.digest, self.load, &self.source)?;
+        line.digests("hub_", &self.hubs)
+    }
+
+    fn read(cells: &mut Cells<'_>) -> Result<LinkRow> {
+        Ok(LinkRow {
+            digest: cells.digest()?,
+            load: cells.date()?,
+            source: cells.text()?,
+            hubs: cells.digests("hub_")?,
+        })
     }
 }
 
-// The values of rows with the numbers from one on.
-fn give_all<'a, T: Kind>(
-    first: i64,
-    rows: &'a [T],
-    dates: &'a [T::Printed],
-    values: &mut Values<'a>,
-) -> Result<(), Refusal> {
-    let mut number = first;
-    for (row, dates) in rows.iter().zip(dates) {
-        row.give(number, dates, values)?;
-        number = number.saturating_add(1);
+impl StoredRow for SatRow {
+    const NAME: &'static str = "sat";
+
+    fn give<'a>(&'a self, line: &mut Lines<'a>) -> Result<()> {
+        line.head(&self.parent, self.load, &self.source)?;
+        line.put(("hash_diff", None), Given::Blob(self.diff.bytes()))?;
+        line.texts("attribute_", &self.attrs)
     }
-    Ok(())
-}
 
-fn dates_of<T: Kind>(alloc: Global, rows: &[T]) -> Result<Vec<T::Printed>, Refusal> {
-    let mut dates = Vec::with_capacity(alloc, rows.len())?;
-    for row in rows {
-        dates.push(row.printed(alloc)?)?;
+    fn read(cells: &mut Cells<'_>) -> Result<SatRow> {
+        Ok(SatRow {
+            parent: cells.digest()?,
+            load: cells.date()?,
+            source: cells.text()?,
+            diff: cells.digest()?,
+            attrs: cells.texts("attribute_")?,
+        })
     }
-    Ok(dates)
 }
 
-// Inserts rows by a statement that takes as many.
-fn put_together<S: Alter, T: Kind>(
-    alloc: Global,
-    tx: &mut Transaction<'_, S>,
-    sql: &str,
-    widths: Widths,
-    first: i64,
-    rows: &[T],
-) -> Result<(), Refusal> {
-    let dates = dates_of(alloc, rows)?;
-    let mut values = Values::new(alloc, widths);
-    give_all(first, rows, dates.as_slice(), &mut values)?;
-    tx.execute(sql, values.as_slice())?;
-    Ok(())
-}
+impl StoredRow for MultiRow {
+    const NAME: &'static str = "msat";
 
-// Inserts rows, so many together. The last ones may be fewer.
-fn put_rows<S: Alter, T: Kind>(
-    alloc: Global,
-    tx: &mut Transaction<'_, S>,
-    batch: &Batch,
-    rows: &[T],
-) -> Result<(), Refusal> {
-    let table = T::table();
-    let sql = insert_text(alloc, &table, batch.widths, TOGETHER)?;
-    let mut first = batch.first_row;
-    for part in rows.chunks(TOGETHER) {
-        let from = number(first)?;
-        if part.len() == TOGETHER {
-            put_together(alloc, tx, sql.as_str(), batch.widths, from, part)?;
-        } else {
-            let sql = insert_text(alloc, &table, batch.widths, part.len())?;
-            put_together(alloc, tx, sql.as_str(), batch.widths, from, part)?;
-        }
-        first = first.saturating_add(part.len() as u64);
+    fn give<'a>(&'a self, line: &mut Lines<'a>) -> Result<()> {
+        line.head(&self.parent, self.load, &self.source)?;
+        line.put(("hash_diff", None), Given::Blob(self.diff.bytes()))?;
+        line.texts("sub_", &self.sub)?;
+        line.texts("attribute_", &self.attrs)
     }
-    Ok(())
-}
 
-/// Puts rows behind those of their kind. Answers where they are: as a batch whose places begin with
-/// this one.
-pub(crate) fn put_behind<S: Alter, T: Kind>(
-    alloc: Global,
-    tx: &mut Transaction<'_, S>,
-    first_place: u64,
-    rows: &[T],
-) -> Result<Batch, Refusal> {
-    let batch = Batch {
-        first_place,
-        first_row: next_row(alloc, tx, &T::table())?,
-        row_count: rows.len() as u64,
-        widths: widest(rows)?,
-    };
-    put_rows(alloc, tx, &batch, rows)?;
-    Ok(batch)
-}
-
-/// Puts rows at the end of a raw table, by its number in the mapping, in one transaction.
-pub(crate) fn append<S: Alter, T: Kind>(
-    alloc: Global,
-    conn: &mut Connection<S>,
-    entity: u32,
-    rows: &[T],
-) -> Result<(), Refusal> {
-    if rows.is_empty() {
-        return Ok(());
+    fn read(cells: &mut Cells<'_>) -> Result<MultiRow> {
+        Ok(MultiRow {
+            parent: cells.digest()?,
+            load: cells.date()?,
+            source: cells.text()?,
+            diff: cells.digest()?,
+            sub: cells.texts("sub_")?,
+            attrs: cells.texts("attribute_")?,
+        })
     }
-    let table = T::table();
-    let first_place = next_place(conn, &table, entity)?;
-    if !conn.is_autocommit() {
-        return Err(Refusal::Fault);
-    }
-    let mut tx = conn.transaction();
-    let batch = put_behind(alloc, &mut tx, first_place, rows)?;
-    put(&mut tx, &table, entity, &batch)?;
-    tx.commit()?;
-    Ok(())
 }
 
-// The rows of a batch, behind those that were found. A fault where one of them is not there.
-fn read_batch<S: Alter, T: Kind>(
-    alloc: Global,
-    conn: &mut Connection<S>,
-    batch: &Batch,
-    dates: &mut Dates,
-    found: &mut Vec<T>,
-) -> Result<(), Refusal> {
-    let sql = select_text(alloc, &T::table(), batch.widths)?;
-    let first = ValueRef::Int(number(batch.first_row)?);
-    let end = ValueRef::Int(number(batch.first_row.saturating_add(batch.row_count))?);
-    let mut rows = conn.query(sql.as_str(), &[first, end])?;
-    for _ in 0..batch.row_count {
-        let Some(row) = rows.next()? else {
-            return Err(Refusal::Fault);
+impl StoredRow for StatusRow {
+    const NAME: &'static str = "status";
+
+    fn give<'a>(&'a self, line: &mut Lines<'a>) -> Result<()> {
+        line.head(&self.parent, self.load, &self.source)?;
+        let code: &[u8] = match self.code {
+            Code::I => b"I",
+            Code::D => b"D",
         };
-        found.push(T::read(alloc, row, batch.widths, dates)?)?;
+        line.put(("status", None), Given::Text(code))
     }
-    Ok(())
-}
 
-// The batch that holds a place of a raw table, from that place on, with so many rows at most. None where the table ends
-// before the place.
-fn batch_from<S: Alter>(
-    conn: &mut Connection<S>,
-    table: &KindTable,
-    entity: u32,
-    place: u64,
-    most: u64,
-) -> Result<Option<Batch>, Refusal> {
-    let last_place = i64::try_from(place).unwrap_or(i64::MAX);
-    match last_up_to(conn, table, entity, last_place)? {
-        Some(batch) => Ok(batch.part(place, most)),
-        None => Ok(None),
+    fn read(cells: &mut Cells<'_>) -> Result<StatusRow> {
+        Ok(StatusRow {
+            parent: cells.digest()?,
+            load: cells.date()?,
+            source: cells.text()?,
+            code: match cells.letters()? {
+                b"I" => Code::I,
+                b"D" => Code::D,
+                _ => return Err(Refusal::Fault),
+            },
+        })
     }
 }
 
-/// The rows of a batch.
-pub(crate) fn rows_of<S: Alter, T: Kind>(
-    alloc: Global,
-    conn: &mut Connection<S>,
-    batch: &Batch,
-) -> Result<List<T>, Refusal> {
-    let mut found = Vec::new(alloc);
-    read_batch(alloc, conn, batch, &mut Dates::new(), &mut found)?;
-    Ok(List::from_vec(found))
+impl StoredRow for EffectRow {
+    const NAME: &'static str = "eff";
+
+    fn give<'a>(&'a self, line: &mut Lines<'a>) -> Result<()> {
+        line.head(&self.parent, self.load, &self.source)?;
+        line.put(("begin", None), Given::Date(self.begin.print()))?;
+        line.put(("end", None), Given::Date(self.end.print()))
+    }
+
+    fn read(cells: &mut Cells<'_>) -> Result<EffectRow> {
+        Ok(EffectRow {
+            parent: cells.digest()?,
+            load: cells.date()?,
+            source: cells.text()?,
+            begin: cells.date()?,
+            end: cells.date()?,
+        })
+    }
 }
 
-/// The rows of a raw table from a place on, so many at most, and fewer only at the table's end.
-pub(crate) fn page<S: Alter, T: Kind>(
-    alloc: Global,
-    conn: &mut Connection<S>,
-    entity: u32,
-    from: u64,
-    most: u32,
-) -> Result<List<T>, Refusal> {
-    let table = T::table();
-    let mut found = Vec::new(alloc);
-    let mut dates = Dates::new();
-    let mut left = u64::from(most);
-    let mut place = from;
-    for _ in 0..most {
-        let Some(batch) = batch_from(conn, &table, entity, place, left)? else {
-            break;
-        };
-        read_batch(alloc, conn, &batch, &mut dates, &mut found)?;
-        left = left.saturating_sub(batch.row_count);
-        place = batch.end_place();
-        if left == 0 {
-            break;
+/// A cell for each feed of a hub: the load date, empty where there is none, and `Y` or `N`, as the
+/// printed table has them.
+impl StoredRow for PitRow {
+    const NAME: &'static str = "pit";
+
+    fn give<'a>(&'a self, line: &mut Lines<'a>) -> Result<()> {
+        line.put(("hash_key", None), Given::Blob(self.key.bytes()))?;
+        for (at, cell) in self.cells.items().iter().enumerate() {
+            let load = match cell.load {
+                Some(load) => Given::Date(load.print()),
+                None => Given::Text(b""),
+            };
+            let present: &[u8] = if cell.present { b"Y" } else { b"N" };
+            line.put(("load_", Some(at)), load)?;
+            line.put(("present_", Some(at)), Given::Text(present))?;
         }
+        Ok(())
     }
-    Ok(List::from_vec(found))
+
+    fn read(cells: &mut Cells<'_>) -> Result<PitRow> {
+        let key = cells.digest()?;
+        let mut found = List::new(cells.alloc);
+        for _ in 0..cells.left() / 2 {
+            let load = cells.date_or_none()?;
+            let present = match cells.letters()? {
+                b"Y" => true,
+                b"N" => false,
+                _ => return Err(Refusal::Fault),
+            };
+            found.push(PitCell { load, present })?;
+        }
+        Ok(PitRow { key, cells: found })
+    }
+}
+
+/// The links of a path's feeds, and the hubs of them all.
+impl StoredRow for BridgeRow {
+    const NAME: &'static str = "bridge";
+
+    fn give<'a>(&'a self, line: &mut Lines<'a>) -> Result<()> {
+        line.digests("link_", &self.links)?;
+        line.digests("hub_", &self.hubs)
+    }
+
+    fn read(cells: &mut Cells<'_>) -> Result<BridgeRow> {
+        Ok(BridgeRow {
+            links: cells.digests("link_")?,
+            hubs: cells.digests("hub_")?,
+        })
+    }
 }

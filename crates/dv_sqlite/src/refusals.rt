@@ -1,6 +1,10 @@
+ghost use Rattle.std.specs.Prelude.{◌≡◌};
+ghost use Rattle.dv_sqlite.specs.Answers.{refusal};
+ghost use Rattle.dv_sqlite.specs.declared.refusals.Refusal.TheVariants as variants;
+
 use dv_text::Memory;
 use sqlite::{Error, ErrorCode};
-use std::alloc::{AllocError, AllocFailed};
+use std::alloc::AllocError;
 
 /// Why something was not done: for want of memory, or for any other reason.
 #[derive(Clone, Copy)]
@@ -9,13 +13,11 @@ pub(crate) enum Refusal {
     Memory,
 }
 
-impl From<Error> for Refusal {
-    ghost use Rattle.std.specs.Prelude.{◌≡◌, ◌≢◌};
-    ghost use Rattle.sqlite.specs.declared.error.Error.TheVariants.{SqliteFailure};
-    ghost use Rattle.sqlite.specs.declared.error.ErrorCode.TheVariants.{OutOfMemory};
-    ghost use Rattle.dv_sqlite.specs.declared.refusals.Refusal.TheVariants as variants;
+/// What was done, or why it was not.
+pub(crate) type Result<T> = std::result::Result<T, Refusal>;
 
-    ghost from_gives = { λ e r. (e ≡ SqliteFailure OutOfMemory → r ≡ variants.Memory) × (e ≢ SqliteFailure OutOfMemory → r ≡ variants.Fault) };
+impl From<Error> for Refusal {
+    ghost from_gives = { λ e r. r ≡ refusal e };
 
     fn from(error: Error) -> Refusal {
         match error {
@@ -26,9 +28,6 @@ impl From<Error> for Refusal {
 }
 
 impl From<Memory> for Refusal {
-    ghost use Rattle.std.specs.Prelude.{◌≡◌};
-    ghost use Rattle.dv_sqlite.specs.declared.refusals.Refusal.TheVariants as variants;
-
     ghost from_gives = { λ _ r. r ≡ variants.Memory };
 
     fn from(_error: Memory) -> Refusal {
@@ -37,23 +36,9 @@ impl From<Memory> for Refusal {
 }
 
 impl From<AllocError> for Refusal {
-    ghost use Rattle.std.specs.Prelude.{◌≡◌};
-    ghost use Rattle.dv_sqlite.specs.declared.refusals.Refusal.TheVariants as variants;
-
     ghost from_gives = { λ _ r. r ≡ variants.Memory };
 
     fn from(_error: AllocError) -> Refusal {
-        Refusal::Memory
-    }
-}
-
-impl<T: Drop> From<AllocFailed<T>> for Refusal {
-    ghost use Rattle.std.specs.Prelude.{◌≡◌};
-    ghost use Rattle.dv_sqlite.specs.declared.refusals.Refusal.TheVariants as variants;
-
-    ghost from_gives = { λ _ r. r ≡ variants.Memory };
-
-    fn from(_error: AllocFailed<T>) -> Refusal {
         Refusal::Memory
     }
 }
