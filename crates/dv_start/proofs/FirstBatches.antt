@@ -6,15 +6,15 @@ use Rattle.std.specs.Result.{IsErrAnd, IsErrOf}
 use Rattle.std.specs.declared.result.Result.{Result}
 use Rattle.dv_records.specs.declared.answers.Damage.{Damage}
 use Rattle.dv_start.specs.Begins.{AreFirst, broken_window}
-use Rattle.dv_start.specs.declared.faults.StartFault.{StartFault}
-use Rattle.dv_start.specs.declared.faults.StartFault.TheVariants.{Damaged}
+use Rattle.dv_start.specs.declared.faults.StoreFault.{StoreFault}
+use Rattle.dv_start.specs.declared.faults.StoreFault.TheVariants.{Damaged}
 
 -- which damage an error tells of
-pub told_damage : {T : Type 0} (fault : StartFault) (damage : Damage) → fault ≡ Damaged broken_window → IsErrOf {T = T} (Err fault) (Damaged damage) → damage ≡ broken_window
+pub told_damage : {T : Type 0} (fault : StoreFault) (damage : Damage) → fault ≡ Damaged broken_window → IsErrOf {T = T} (Err fault) (Damaged damage) → damage ≡ broken_window
 told_damage {T} fault damage broken is = cc
 
 -- an error that is passed on is that of the call
-pub error_through : {T S : Type 0} (result : Result T StartFault) (fault other : StartFault) → IsErrAnd result (λ given. given ≡ fault) → IsErrOf result other → IsErrOf {T = S} (Err fault) other
+pub error_through : {T S : Type 0} (result : Result T StoreFault) (fault other : StoreFault) → IsErrAnd result (λ given. given ≡ fault) → IsErrOf result other → IsErrOf {T = S} (Err fault) other
 error_through result fault other gives is = ap Err (sym (subst (λ r. IsErrAnd r (λ given. given ≡ fault)) is gives))
 
 -- first batches are those that fewer ones are

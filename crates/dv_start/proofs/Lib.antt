@@ -7,6 +7,7 @@ pub mod HeadsHeld
 pub mod KeptTables
 pub mod LastPlaces
 pub mod LoadedRows
+pub mod NamedDamages
 pub mod NoClashes
 pub mod PartedTables
 pub mod ReadSteps

@@ -10,7 +10,7 @@ use Rattle.dv_form.specs.declared.flaws.Checked.{Checked}
 use Rattle.dv_records.specs.declared.answers.Damage.{Damage}
 use Rattle.dv_vault.specs.declared.tables.Table.{Table}
 use Rattle.dv_vault.specs.Vaults.{entry_of}
-use Rattle.dv_start.specs.declared.faults.StartFault.{StartFault}
+use Rattle.dv_start.specs.declared.faults.StoreFault.{StoreFault}
 use Rattle.dv_start.specs.Readings.{flaw_read}
 
 same_flaw : (before : Known) (id : TableId) (read : Read) → fronts.flaw_read before id read ≡ flaw_read before id read
@@ -18,7 +18,7 @@ same_flaw before id (AllRows rows) = refl
 same_flaw before id (OtherKind row) = refl
 
 module _ (before : Known) (id : TableId) (weight : ℕ) (is : tables_weight before.tables ≡ weight) (told : Option Store) (read : Read) (tells : Told told (λ s. TellsRows id weight (rows_in id s.tables) read)) where
-  pub rows_told : (result : Result (Checked Table) StartFault) → IfOk result (λ made. read ≡ AllRows (entry_of made.table).rows) → IfOk result (λ made. flaw_in before id (entry_of made.table).rows ≡ None)
+  pub rows_told : (result : Result (Checked Table) StoreFault) → IfOk result (λ made. read ≡ AllRows (entry_of made.table).rows) → IfOk result (λ made. flaw_in before id (entry_of made.table).rows ≡ None)
       → IfOk result (λ made. Told told (λ s. (entry_of made.table).rows ≡ rows_in id s.tables))
   rows_told (Ok made) all clear = λ s e. clear_whole before id weight (rows_in id s.tables) (entry_of made.table).rows is (subst (TellsRows id weight (rows_in id s.tables)) all (tells s e)) clear
   rows_told (Err fault) all clear = tt

@@ -1,9 +1,11 @@
 -- The first damage of a whole store: the first place where it breaks a rule of form.
-use Rattle.std.specs.Prelude.{◌≡◌, ◌⊎◌, ℕ, List, Some, None, Ok, codes}
+use Rattle.std.specs.Prelude.{◌≡◌, ◌⊎◌, ◌≤◌, ℕ, IsTrue, List, Option, Some, None, Ok, codes}
 use Rattle.dv_text.specs.Keys.{Hashes}
 use Rattle.dv_catalog.specs.Entries.{Mapping}
 use Rattle.dv_catalog.specs.MappingFiles.{read_mapping}
-use Rattle.dv_catalog.specs.Tables.{tables}
+use Rattle.dv_catalog.specs.declared.tables.TableId.{TableId}
+use Rattle.dv_catalog.specs.TableLookups.{is_table_of}
+use Rattle.dv_catalog.specs.Tables.{table_name, tables}
 use Rattle.dv_records.specs.declared.answers.Damage.{Damage}
 use Rattle.dv_records.specs.declared.stores.Store.{Store}
 use Rattle.dv_records.specs.Standing.{IsMappedBy}
@@ -15,6 +17,11 @@ use Rattle.dv_start.specs.Sealed.{sealed_of}
 -- the stored text is read as the mapping
 abbrev pub IsReadAs : Mapping → Store → Type 0
 IsReadAs mapping store = IsMappedBy mapping store.mapping
+
+-- and what was read of it: the mapping, or that none is stored
+abbrev pub IsMappedAs : Option Mapping → Store → Type 0
+IsMappedAs None store = store.mapping ≡ None
+IsMappedAs (Some mapping) store = IsReadAs mapping store
 
 -- the open window of a store, if there is one, may be completed
 abbrev pub KeepsF15 : Hashes → Mapping → Store → Type 0
@@ -54,3 +61,27 @@ BreaksRule hashes width mapping store damage = BreaksForm hashes width mapping s
 abbrev pub IsFirstDamage : Hashes → ℕ → Store → Damage → Type 0
 IsFirstDamage hashes width store damage =
     IsNotRead store damage ⊎ ((mapping : Mapping) × IsReadAs mapping store × BreaksRule hashes width mapping store damage)
+
+-- ---- damage of a store that is not told
+
+-- the names of what stands beside the raw tables
+abbrev pub IsBesideTables : List ℕ → Type 0
+IsBesideTables name = (name ≡ codes "mapping") ⊎ (name ≡ codes "windows") ⊎ (name ≡ codes "stage") ⊎ (name ≡ codes "snapshots")
+
+-- the name of a raw table of the mapping
+abbrev pub IsTableName : Mapping → List ℕ → Type 0
+IsTableName mapping name = (id : TableId) × IsTrue (is_table_of mapping id) × (name ≡ table_name mapping id)
+
+-- a rule of form has a number from 1 to 15
+abbrev pub IsFormRule : ℕ → Type 0
+IsFormRule rule = (1 ≤ rule) × (rule ≤ 15)
+
+-- a damage names a place that a store of the mapping may have, its rows counted from 1, and a rule of form
+pub record IsNamed (mapping : Mapping) (damage : Damage) : Type 0 where
+  pub table_is : IsBesideTables damage.table ⊎ IsTableName mapping damage.table
+  pub counted : 1 ≤ damage.row
+  pub numbered : IsFormRule damage.rule
+
+-- and where the mapping is not told either, of some mapping
+abbrev pub IsNamedBySome : Damage → Type 0
+IsNamedBySome damage = (damage ≡ mapping_damage) ⊎ ((mapping : Mapping) × IsNamed mapping damage)

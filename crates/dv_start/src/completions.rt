@@ -16,7 +16,7 @@ ghost use Rattle.dv_start.specs.Parts.{are_loaded};
 ghost use Rattle.dv_start.specs.Readings.{AreInForm};
 ghost use Rattle.dv_start.specs.Sealed.{sealed_vault};
 
-use crate::faults::StartFault;
+use crate::faults::StoreFault;
 use crate::parts::in_parts;
 use crate::restored::{Begun, Reopened};
 use dv_catalog::Catalog;
@@ -27,11 +27,11 @@ use dv_vault::{Addition, AdditionFault, Table, Vault};
 use std::alloc::Global;
 
 // The rule F15 is broken.
-fn broken(alloc: Global) -> Result<StartFault, Memory>
-    ensures { IfOk result (λ fault. fault ≡ StartFault.Damaged broken_window) }
+fn broken(alloc: Global) -> Result<StoreFault, Memory>
+    ensures { IfOk result (λ fault. fault ≡ StoreFault.Damaged broken_window) }
 {
     let table = Text::of(alloc, b"stage")?;
-    Ok(StartFault::Damaged(Damage {
+    Ok(StoreFault::Damaged(Damage {
         table,
         row: 1,
         rule: 15,
@@ -86,21 +86,20 @@ fn is_full(weight: u64, heads: &[WindowHead]) -> Result<bool, Memory>
 }
 
 // What a window adds to a vault, which has room for it.
-fn added<H: KeyDigest>(vault: &Vault, window: Window, digest: &H) -> Result<Addition, StartFault>
+fn added<H: KeyDigest>(vault: &Vault, window: Window, digest: &H) -> Result<Addition, StoreFault>
     requires later { late_after (last_head vault.now.heads) window.load ≡ None }
     requires window { IsTrue (is_window vault.now.mapping window) }
     ensures adds { IfOk result (IsAddition (hashes_of H.digest_of H.size) vault.now window) }
     ensures fits { IfOk result (Fits vault.now) }
     ensures room { IfOk result (λ addition. full_at addition.weight (length vault.now.heads) ≡ None) }
-    ensures damaged { (damage : Damage) → IsErrOf result (StartFault.Damaged damage) → (damage ≡ broken_window) × (HasPlace (hashes_of H.digest_of H.size) vault.now window → ⊥) }
-    ensures mapped { IsErrOf result StartFault.NoMapping → ⊥ }
-    ensures sound { IsErrOf result StartFault.KeeperFault → ⊥ }
+    ensures damaged { (damage : Damage) → IsErrOf result (StoreFault.Damaged damage) → (damage ≡ broken_window) × (HasPlace (hashes_of H.digest_of H.size) vault.now window → ⊥) }
+    ensures sound { IsErrOf result StoreFault.KeeperFault → ⊥ }
 {
     let heads = vault.heads();
     let addition = match vault.addition(window, digest) {
         Ok(addition) => addition,
         Err(AdditionFault::Collision { .. }) => return Err(broken(heads.allocator())?),
-        Err(AdditionFault::Memory) => return Err(StartFault::Memory),
+        Err(AdditionFault::Memory) => return Err(StoreFault::Memory),
     };
     if is_full(addition.weight, heads.items())? {
         return Err(broken(heads.allocator())?);
@@ -114,16 +113,15 @@ fn begun<H: KeyDigest>(
     window: Window,
     opened: &[Rows],
     digest: &H,
-) -> Result<Begun, StartFault>
+) -> Result<Begun, StoreFault>
     requires later { late_after (last_head vault.now.heads) window.load ≡ None }
     requires window { IsTrue (is_window vault.now.mapping window) }
     requires opened { length opened.now ≡ length vault.now.tables }
     ensures begun { IfOk result (IsBegunOf (hashes_of H.digest_of H.size) vault.now window) }
     ensures taken { IfOk result (MayBeTaken vault.now) }
     ensures first { IfOk result (λ begun. AreFirst begun.addition.batches opened.now begun.there) }
-    ensures damaged { (damage : Damage) → IsErrOf result (StartFault.Damaged damage) → (damage ≡ broken_window) × (MayFollow (hashes_of H.digest_of H.size) vault.now window opened.now → ⊥) }
-    ensures mapped { IsErrOf result StartFault.NoMapping → ⊥ }
-    ensures sound { IsErrOf result StartFault.KeeperFault → ⊥ }
+    ensures damaged { (damage : Damage) → IsErrOf result (StoreFault.Damaged damage) → (damage ≡ broken_window) × (MayFollow (hashes_of H.digest_of H.size) vault.now window opened.now → ⊥) }
+    ensures sound { IsErrOf result StoreFault.KeeperFault → ⊥ }
 {
     let addition = added(vault, window, digest)?;
     let there = reach(opened);
@@ -141,7 +139,7 @@ fn reopened<H: KeyDigest>(
     tables: Vec<Table>,
     weight: u64,
     digest: &H,
-) -> Result<Reopened, StartFault>
+) -> Result<Reopened, StoreFault>
     requires heads { head_flaw catalog heads ≡ None }
     requires stage { IsTrue (is_stage catalog heads window) }
     requires ids { IsVaultOf catalog (map entry_of tables.items) }
@@ -152,9 +150,8 @@ fn reopened<H: KeyDigest>(
     ensures begun { IfOk result (λ restored. IsBegunAs (hashes_of H.digest_of H.size) restored.vault (Some window) restored.begun) }
     ensures entries { IfOk result (λ restored. map entry_of tables.items ≡ rows_there restored.vault restored.begun) }
     ensures goes_on { IfOk result (λ restored. MayGoOn (hashes_of H.digest_of H.size) restored.vault (map entry_of tables.items) (Some window)) }
-    ensures damaged { (damage : Damage) → IsErrOf result (StartFault.Damaged damage) → (damage ≡ broken_window) × (MayGoOn (hashes_of H.digest_of H.size) (sealed_vault catalog heads (Some window) (map entry_of tables.items)) (map entry_of tables.items) (Some window) → ⊥) }
-    ensures mapped { IsErrOf result StartFault.NoMapping → ⊥ }
-    ensures sound { IsErrOf result StartFault.KeeperFault → ⊥ }
+    ensures damaged { (damage : Damage) → IsErrOf result (StoreFault.Damaged damage) → (damage ≡ broken_window) × (MayGoOn (hashes_of H.digest_of H.size) (sealed_vault catalog heads (Some window) (map entry_of tables.items)) (map entry_of tables.items) (Some window) → ⊥) }
+    ensures sound { IsErrOf result StoreFault.KeeperFault → ⊥ }
 {
     let parts = in_parts(heads.allocator(), tables, window.load, weight)?;
     let vault = Vault::from_tables(catalog, parts.sealed, heads, parts.weight);
@@ -175,7 +172,7 @@ pub(crate) fn restored<H: KeyDigest>(
     tables: Vec<Table>,
     weight: u64,
     digest: &H,
-) -> Result<Reopened, StartFault>
+) -> Result<Reopened, StoreFault>
     requires heads { head_flaw catalog heads ≡ None }
     requires stage { IfSome stage (λ window. IsTrue (is_stage catalog heads window)) }
     requires ids { IsVaultOf catalog (map entry_of tables.items) }
@@ -186,9 +183,8 @@ pub(crate) fn restored<H: KeyDigest>(
     ensures begun { IfOk result (λ restored. IsBegunAs (hashes_of H.digest_of H.size) restored.vault stage restored.begun) }
     ensures entries { IfOk result (λ restored. map entry_of tables.items ≡ rows_there restored.vault restored.begun) }
     ensures goes_on { IfOk result (λ restored. MayGoOn (hashes_of H.digest_of H.size) restored.vault (map entry_of tables.items) stage) }
-    ensures damaged { (damage : Damage) → IsErrOf result (StartFault.Damaged damage) → (damage ≡ broken_window) × (MayGoOn (hashes_of H.digest_of H.size) (sealed_vault catalog heads stage (map entry_of tables.items)) (map entry_of tables.items) stage → ⊥) }
-    ensures mapped { IsErrOf result StartFault.NoMapping → ⊥ }
-    ensures sound { IsErrOf result StartFault.KeeperFault → ⊥ }
+    ensures damaged { (damage : Damage) → IsErrOf result (StoreFault.Damaged damage) → (damage ≡ broken_window) × (MayGoOn (hashes_of H.digest_of H.size) (sealed_vault catalog heads stage (map entry_of tables.items)) (map entry_of tables.items) stage → ⊥) }
+    ensures sound { IsErrOf result StoreFault.KeeperFault → ⊥ }
 {
     if let Some(window) = stage {
         return reopened(catalog, heads, window, tables, weight, digest);

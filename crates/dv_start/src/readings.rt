@@ -10,9 +10,10 @@ ghost use Rattle.dv_records.specs.States.{head_of};
 ghost use Rattle.dv_records.specs.Weights.{tables_weight};
 ghost use Rattle.dv_form.specs.Damages.{raw_damage, stored_entries};
 ghost use Rattle.dv_vault.specs.Vaults.{IsVaultOf, entry_of};
+ghost use Rattle.dv_start.specs.Damages.{IsNamed};
 ghost use Rattle.dv_start.specs.Readings.{AreGathered, AreInForm, IsRawDamage, known_first};
 
-use crate::faults::StartFault;
+use crate::faults::StoreFault;
 use crate::gathered::Gathered;
 use crate::table_reads::read_table;
 use dv_catalog::{Catalog, TableId};
@@ -36,13 +37,13 @@ fn gather<K: Keeper, H: KeyDigest>(
     heads: &[WindowHead],
     ids: &[TableId],
     digest: &H,
-) -> Result<Gathered, StartFault>
+) -> Result<Gathered, StoreFault>
     requires { ids.now ≡ tables catalog.now }
     ensures gathered { IfOk result (AreGathered (known_first catalog.now (hashes_of H.digest_of H.size) H.size heads.now) (K.store keeper.old) ids.now (length ids.now)) }
-    ensures damaged { (damage : Damage) → IsErrOf result (StartFault.Damaged damage) → IsRawDamage (known_first catalog.now (hashes_of H.digest_of H.size) H.size heads.now) (K.store keeper.old) damage }
-    ensures mapped { IsErrOf result StartFault.NoMapping → ⊥ }
+    ensures damaged { (damage : Damage) → IsErrOf result (StoreFault.Damaged damage) → IsRawDamage (known_first catalog.now (hashes_of H.digest_of H.size) H.size heads.now) (K.store keeper.old) damage }
+    ensures formed { (damage : Damage) → IsErrOf result (StoreFault.Damaged damage) → IsNamed catalog.now damage }
     ensures store { K.store keeper.new ≡ K.store keeper.old }
-    ensures cause { IsErrOf result StartFault.KeeperFault → Rose (K.faults keeper.old) (K.faults keeper.new) }
+    ensures cause { IsErrOf result StoreFault.KeeperFault → Rose (K.faults keeper.old) (K.faults keeper.new) }
     ensures later { K.faults keeper.old ≤ K.faults keeper.new }
 {
     let mut gathered = Gathered::new(alloc);
@@ -64,16 +65,16 @@ pub(crate) fn read_tables<K: Keeper, H: KeyDigest>(
     catalog: &Catalog,
     heads: &[WindowHead],
     digest: &H,
-) -> Result<Tables, StartFault>
+) -> Result<Tables, StoreFault>
     ensures ids { IfOk result (λ read. IsVaultOf catalog.now (map entry_of read.tables.items)) }
     ensures weight { IfOk result (λ read. read.weight ≡ tables_weight (map entry_of read.tables.items)) }
     ensures clear { IfOk result (λ read. AreInForm (record { mapping = catalog.now; hashes = hashes_of H.digest_of H.size; width = H.size; heads = heads.now; tables = [] }) (map entry_of read.tables.items)) }
     ensures told { IfOk result (λ read. Told (K.store keeper.old) (λ s. map entry_of read.tables.items ≡ stored_entries s (tables catalog.now))) }
     ensures undamaged { IfOk result (λ read. Told (K.store keeper.old) (λ s. s.windows ++ map head_of (option_to_list s.stage) ≡ heads.now → raw_damage catalog.now (hashes_of H.digest_of H.size) H.size s ≡ None)) }
-    ensures damaged { (damage : Damage) → IsErrOf result (StartFault.Damaged damage) → Told (K.store keeper.old) (λ s. s.windows ++ map head_of (option_to_list s.stage) ≡ heads.now → raw_damage catalog.now (hashes_of H.digest_of H.size) H.size s ≡ Some damage) }
-    ensures mapped { IsErrOf result StartFault.NoMapping → ⊥ }
+    ensures damaged { (damage : Damage) → IsErrOf result (StoreFault.Damaged damage) → Told (K.store keeper.old) (λ s. s.windows ++ map head_of (option_to_list s.stage) ≡ heads.now → raw_damage catalog.now (hashes_of H.digest_of H.size) H.size s ≡ Some damage) }
+    ensures formed { (damage : Damage) → IsErrOf result (StoreFault.Damaged damage) → IsNamed catalog.now damage }
     ensures store { K.store keeper.new ≡ K.store keeper.old }
-    ensures cause { IsErrOf result StartFault.KeeperFault → Rose (K.faults keeper.old) (K.faults keeper.new) }
+    ensures cause { IsErrOf result StoreFault.KeeperFault → Rose (K.faults keeper.old) (K.faults keeper.new) }
     ensures later { K.faults keeper.old ≤ K.faults keeper.new }
 {
     let ids = catalog.tables()?;

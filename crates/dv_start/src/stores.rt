@@ -4,6 +4,7 @@ ghost use Rattle.std.specs.Prelude.{◌≡◌, ◌≤◌, ◌++◌, ℕ, IfOk, I
 ghost use Rattle.dv_text.specs.Causes.{Rose};
 ghost use Rattle.dv_text.specs.Keys.{hashes_of};
 ghost use Rattle.dv_text.specs.Told.{Told};
+ghost use Rattle.dv_catalog.specs.Entries.{Mapping};
 ghost use Rattle.dv_records.specs.declared.answers.Damage.{Damage as Damaged};
 ghost use Rattle.dv_records.specs.declared.stores.Store.{Store};
 ghost use Rattle.dv_records.specs.Standing.{Stands};
@@ -13,11 +14,11 @@ ghost use Rattle.dv_form.specs.Damages.{damage_at};
 ghost use Rattle.dv_form.specs.SnapshotHeads.{KeepLimits, snapshot_flaw, snapshot_heads};
 ghost use Rattle.dv_form.specs.StoredHeads as spec;
 ghost use Rattle.dv_start.specs.Completions.{MayBeTaken};
-ghost use Rattle.dv_start.specs.Damages.{BreaksRule, IsInForm};
+ghost use Rattle.dv_start.specs.Damages.{BreaksRule, IsInForm, IsNamed};
 ghost use Rattle.dv_start.specs.Restored.{HasKept, IsOfState};
 
 use crate::completions::restored;
-use crate::faults::StartFault;
+use crate::faults::StoreFault;
 use crate::readings::read_tables;
 use crate::restored::Restored;
 use dv_catalog::Catalog;
@@ -49,18 +50,18 @@ fn stored_heads<K: Keeper>(
     alloc: Global,
     keeper: &mut K,
     catalog: &Catalog,
-) -> Result<List<WindowHead>, StartFault>
+) -> Result<List<WindowHead>, StoreFault>
     ensures told { IfOk result (λ heads. Told (K.store keeper.old) (λ s. heads ≡ s.windows)) }
     ensures clear { IfOk result (λ made. spec.head_flaw catalog.now made ≡ None) }
-    ensures mapped { IsErrOf result StartFault.NoMapping → ⊥ }
-    ensures damaged { (damage : Damaged) → IsErrOf result (StartFault.Damaged damage) → Told (K.store keeper.old) (λ s. damages.head_damage catalog.now s ≡ Some damage) }
+    ensures damaged { (damage : Damaged) → IsErrOf result (StoreFault.Damaged damage) → Told (K.store keeper.old) (λ s. damages.head_damage catalog.now s ≡ Some damage) }
+    ensures formed { (damage : Damaged) → IsErrOf result (StoreFault.Damaged damage) → IsNamed catalog.now damage }
     ensures store { K.store keeper.new ≡ K.store keeper.old }
-    ensures cause { IsErrOf result StartFault.KeeperFault → Rose (K.faults keeper.old) (K.faults keeper.new) }
+    ensures cause { IsErrOf result StoreFault.KeeperFault → Rose (K.faults keeper.old) (K.faults keeper.new) }
     ensures later { K.faults keeper.old ≤ K.faults keeper.new }
 {
     let heads = keeper.windows(alloc)?;
     match head_flaw(catalog, heads.items()) {
-        Some(flaw) => Err(StartFault::Damaged(damage(alloc, b"windows", flaw)?)),
+        Some(flaw) => Err(StoreFault::Damaged(damage(alloc, b"windows", flaw)?)),
         None => Ok(heads),
     }
 }
@@ -85,13 +86,13 @@ fn stored_stage<K: Keeper>(
     keeper: &mut K,
     catalog: &Catalog,
     heads: &[WindowHead],
-) -> Result<Option<Window>, StartFault>
+) -> Result<Option<Window>, StoreFault>
     ensures told { IfOk result (λ stage. Told (K.store keeper.old) (λ s. stage ≡ s.stage)) }
     ensures in_form { IfOk result (λ stage. IfSome stage (λ window. IsTrue (spec.is_stage catalog.now heads.now window))) }
-    ensures mapped { IsErrOf result StartFault.NoMapping → ⊥ }
-    ensures damaged { (damage : Damaged) → IsErrOf result (StartFault.Damaged damage) → Told (K.store keeper.old) (λ s. s.windows ≡ heads.now → damages.stage_damage catalog.now s ≡ Some damage) }
+    ensures damaged { (damage : Damaged) → IsErrOf result (StoreFault.Damaged damage) → Told (K.store keeper.old) (λ s. s.windows ≡ heads.now → damages.stage_damage catalog.now s ≡ Some damage) }
+    ensures formed { (damage : Damaged) → IsErrOf result (StoreFault.Damaged damage) → IsNamed catalog.now damage }
     ensures store { K.store keeper.new ≡ K.store keeper.old }
-    ensures cause { IsErrOf result StartFault.KeeperFault → Rose (K.faults keeper.old) (K.faults keeper.new) }
+    ensures cause { IsErrOf result StoreFault.KeeperFault → Rose (K.faults keeper.old) (K.faults keeper.new) }
     ensures later { K.faults keeper.old ≤ K.faults keeper.new }
 {
     let stage = keeper.stage(alloc)?;
@@ -99,7 +100,7 @@ fn stored_stage<K: Keeper>(
         return Ok(stage);
     }
     let flaw = Flaw { row: 1, rule: 3 };
-    Err(StartFault::Damaged(damage(alloc, b"stage", flaw)?))
+    Err(StoreFault::Damaged(damage(alloc, b"stage", flaw)?))
 }
 
 // The heads of the snapshots, all in form, behind sealed windows with these heads.
@@ -107,18 +108,18 @@ fn stored_snapshots<K: Keeper>(
     alloc: Global,
     keeper: &mut K,
     heads: &[WindowHead],
-) -> Result<List<SnapHead>, StartFault>
+) -> Result<List<SnapHead>, StoreFault>
     ensures told { IfOk result (λ snapshots. Told (K.store keeper.old) (λ s. snapshots ≡ snapshot_heads s)) }
     ensures clear { IfOk result (λ snapshots. snapshot_flaw heads.now snapshots ≡ None) }
-    ensures mapped { IsErrOf result StartFault.NoMapping → ⊥ }
-    ensures damaged { (damage : Damaged) → IsErrOf result (StartFault.Damaged damage) → Told (K.store keeper.old) (λ s. s.windows ≡ heads.now → damages.snapshot_damage s ≡ Some damage) }
+    ensures damaged { (damage : Damaged) → IsErrOf result (StoreFault.Damaged damage) → Told (K.store keeper.old) (λ s. s.windows ≡ heads.now → damages.snapshot_damage s ≡ Some damage) }
+    ensures formed { (damage : Damaged) → IsErrOf result (StoreFault.Damaged damage) → (mapping : Mapping) → IsNamed mapping damage }
     ensures store { K.store keeper.new ≡ K.store keeper.old }
-    ensures cause { IsErrOf result StartFault.KeeperFault → Rose (K.faults keeper.old) (K.faults keeper.new) }
+    ensures cause { IsErrOf result StoreFault.KeeperFault → Rose (K.faults keeper.old) (K.faults keeper.new) }
     ensures later { K.faults keeper.old ≤ K.faults keeper.new }
 {
     let snapshots = keeper.snapshots(alloc)?;
     match snapshot_flaw(heads, snapshots.items()) {
-        Some(flaw) => Err(StartFault::Damaged(damage(alloc, b"snapshots", flaw)?)),
+        Some(flaw) => Err(StoreFault::Damaged(damage(alloc, b"snapshots", flaw)?)),
         None => Ok(snapshots),
     }
 }
@@ -140,25 +141,25 @@ fn all_heads(
 
 /// Reads the store of a keeper whose mapping is this: the sealed windows, the open one, the raw tables in table order,
 /// each in pages, and the heads of the snapshots. `Damaged` comes exactly where a row breaks a rule of form, with the first such row and its
-/// first rule; so never where the store stands for a state. `KeeperFault` comes only where the keeper's count of faults
-/// rose. The store is as before.
+/// first rule; so never where the store stands for a state; and over a keeper that tells nothing it names a place of a
+/// store of the mapping. `KeeperFault` comes only where the keeper's count of faults rose. The store is as before.
 pub fn read_store<K: Keeper, H: KeyDigest>(
     alloc: Global,
     keeper: &mut K,
     catalog: Catalog,
     digest: &H,
-) -> Result<Restored, StartFault>
+) -> Result<Restored, StoreFault>
     ensures mapping { IfOk result (λ restored. restored.vault.mapping ≡ catalog) }
     ensures kept { IfOk result (λ restored. Told (K.store keeper.old) (HasKept restored.vault restored.begun restored.snapshots)) }
     ensures taken { IfOk result (λ restored. IfSome restored.begun (MayBeTaken restored.vault)) }
     ensures in_form { IfOk result (λ restored. Told (K.store keeper.old) (IsInForm (hashes_of H.digest_of H.size) H.size catalog)) }
     ensures stands { IfOk result (λ restored. (state : State) → (store : Store) → K.store keeper.old ≡ Some store → Stands catalog (hashes_of H.digest_of H.size) state store → IsOfState (hashes_of H.digest_of H.size) state restored.vault restored.begun restored.snapshots) }
     ensures limits { IfOk result (λ restored. KeepLimits restored.snapshots) }
-    ensures mapped { IsErrOf result StartFault.NoMapping → ⊥ }
-    ensures damaged { (damage : Damaged) → IsErrOf result (StartFault.Damaged damage) → Told (K.store keeper.old) (λ s. BreaksRule (hashes_of H.digest_of H.size) H.size catalog s damage) }
-    ensures undamaged { (damage : Damaged) → IsErrOf result (StartFault.Damaged damage) → (state : State) → (store : Store) → K.store keeper.old ≡ Some store → Stands catalog (hashes_of H.digest_of H.size) state store → ⊥ }
+    ensures damaged { (damage : Damaged) → IsErrOf result (StoreFault.Damaged damage) → Told (K.store keeper.old) (λ s. BreaksRule (hashes_of H.digest_of H.size) H.size catalog s damage) }
+    ensures undamaged { (damage : Damaged) → IsErrOf result (StoreFault.Damaged damage) → (state : State) → (store : Store) → K.store keeper.old ≡ Some store → Stands catalog (hashes_of H.digest_of H.size) state store → ⊥ }
+    ensures formed { (damage : Damaged) → IsErrOf result (StoreFault.Damaged damage) → IsNamed catalog damage }
     ensures store { K.store keeper.new ≡ K.store keeper.old }
-    ensures cause { IsErrOf result StartFault.KeeperFault → Rose (K.faults keeper.old) (K.faults keeper.new) }
+    ensures cause { IsErrOf result StoreFault.KeeperFault → Rose (K.faults keeper.old) (K.faults keeper.new) }
     ensures later { K.faults keeper.old ≤ K.faults keeper.new }
 {
     note_sized(digest);

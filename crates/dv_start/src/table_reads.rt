@@ -15,10 +15,11 @@ ghost use Rattle.dv_form.specs.KnownTables.{IsKnown};
 ghost use Rattle.dv_form.specs.Pages.{IsOfTable, TellsRows};
 ghost use Rattle.dv_form.specs.StoredRows.{flaw_in};
 ghost use Rattle.dv_vault.specs.Vaults.{entry_of};
+ghost use Rattle.dv_start.specs.Damages.{IsNamed};
 ghost use Rattle.dv_start.specs.Readings.{flaw_read};
 
 use crate::checked_tables::checked_table;
-use crate::faults::StartFault;
+use crate::faults::StoreFault;
 use dv_catalog::{Catalog, TableId};
 use dv_form::{Checked, Fault, Flaw, Known, Read, read_rows};
 use dv_records::{Damage, Keeper, KeeperError};
@@ -27,12 +28,12 @@ use dv_vault::Table;
 use std::alloc::Global;
 
 // The damage of a flaw, by the name of its table.
-fn damaged(catalog: &Catalog, table: TableId, flaw: Flaw) -> Result<StartFault, Memory>
+fn damaged(catalog: &Catalog, table: TableId, flaw: Flaw) -> Result<StoreFault, Memory>
     requires { IsTrue (is_table_of catalog.now table) }
-    ensures { IfOk result (λ fault. fault ≡ StartFault.Damaged (damage_at (table_name catalog.now table) flaw)) }
+    ensures { IfOk result (λ fault. fault ≡ StoreFault.Damaged (damage_at (table_name catalog.now table) flaw)) }
 {
     let table = catalog.table_name(table)?;
-    Ok(StartFault::Damaged(Damage {
+    Ok(StoreFault::Damaged(Damage {
         table,
         row: flaw.row,
         rule: flaw.rule,
@@ -45,19 +46,18 @@ fn stored_rows<K: Keeper>(
     keeper: &mut K,
     table: TableId,
     weight: u64,
-) -> Result<Read, StartFault>
+) -> Result<Read, StoreFault>
     ensures told { IfOk result (λ read. Told (K.store keeper.old) (λ s. TellsRows table weight (rows_in table s.tables) read)) }
     ensures kind { IfOk result (λ read. IsOfTable table read) }
-    ensures sound { (damage : damages.Damage) → IsErrOf result (StartFault.Damaged damage) → ⊥ }
-    ensures mapped { IsErrOf result StartFault.NoMapping → ⊥ }
+    ensures sound { (damage : damages.Damage) → IsErrOf result (StoreFault.Damaged damage) → ⊥ }
     ensures store { K.store keeper.new ≡ K.store keeper.old }
-    ensures cause { IsErrOf result StartFault.KeeperFault → Rose (K.faults keeper.old) (K.faults keeper.new) }
+    ensures cause { IsErrOf result StoreFault.KeeperFault → Rose (K.faults keeper.old) (K.faults keeper.new) }
     ensures later { K.faults keeper.old ≤ K.faults keeper.new }
 {
     match read_rows(alloc, keeper, table, weight) {
         Ok(read) => Ok(read),
-        Err(KeeperError::Failed) => Err(StartFault::KeeperFault),
-        Err(KeeperError::Memory) => Err(StartFault::Memory),
+        Err(KeeperError::Failed) => Err(StoreFault::KeeperFault),
+        Err(KeeperError::Memory) => Err(StoreFault::Memory),
     }
 }
 
@@ -67,17 +67,16 @@ fn table_of<H: KeyDigest>(
     id: TableId,
     read: Read,
     digest: &H,
-) -> Result<Checked<Table>, StartFault>
+) -> Result<Checked<Table>, StoreFault>
     requires table { IsTrue (is_table_of known.now.catalog.now id) }
     requires kind { IsOfTable id read }
     ensures told { IfOk result (λ made. read ≡ Read.Rows (entry_of made.table).rows) }
     ensures id { IfOk result (λ made. (entry_of made.table).table ≡ id) }
     ensures weight { IfOk result (λ made. made.weight ≡ known.now.weight + rows_weight (entry_of made.table).rows) }
     ensures clear { (before : spec.Known) → IsKnown (hashes_of H.digest_of H.size) H.size known.now before → IfOk result (λ made. flaw_in before id (entry_of made.table).rows ≡ None) }
-    ensures damaged { (before : spec.Known) → IsKnown (hashes_of H.digest_of H.size) H.size known.now before → (damage : damages.Damage) → IsErrOf result (StartFault.Damaged damage)
+    ensures damaged { (before : spec.Known) → IsKnown (hashes_of H.digest_of H.size) H.size known.now before → (damage : damages.Damage) → IsErrOf result (StoreFault.Damaged damage)
         → option_map (damage_at (table_name known.now.catalog.now id)) (flaw_read before id read) ≡ Some damage }
-    ensures mapped { IsErrOf result StartFault.NoMapping → ⊥ }
-    ensures sound { IsErrOf result StartFault.KeeperFault → ⊥ }
+    ensures sound { IsErrOf result StoreFault.KeeperFault → ⊥ }
 {
     let rows = match read {
         Read::Rows(rows) => rows,
@@ -88,7 +87,7 @@ fn table_of<H: KeyDigest>(
     match checked_table(known, id, rows, digest) {
         Ok(made) => Ok(made),
         Err(Fault::Flawed(flaw)) => Err(damaged(known.catalog, id, flaw)?),
-        Err(Fault::Memory) => Err(StartFault::Memory),
+        Err(Fault::Memory) => Err(StoreFault::Memory),
     }
 }
 
@@ -100,17 +99,17 @@ pub(crate) fn read_table<K: Keeper, H: KeyDigest>(
     known: &Known<'_>,
     id: TableId,
     digest: &H,
-) -> Result<Checked<Table>, StartFault>
+) -> Result<Checked<Table>, StoreFault>
     requires { IsTrue (is_table_of known.now.catalog.now id) }
     ensures id { IfOk result (λ made. (entry_of made.table).table ≡ id) }
     ensures weight { IfOk result (λ made. made.weight ≡ known.now.weight + rows_weight (entry_of made.table).rows) }
     ensures clear { (before : spec.Known) → IsKnown (hashes_of H.digest_of H.size) H.size known.now before → IfOk result (λ made. flaw_in before id (entry_of made.table).rows ≡ None) }
     ensures told { (before : spec.Known) → IsKnown (hashes_of H.digest_of H.size) H.size known.now before → IfOk result (λ made. Told (K.store keeper.old) (λ s. (entry_of made.table).rows ≡ rows_in id s.tables)) }
-    ensures damaged { (before : spec.Known) → IsKnown (hashes_of H.digest_of H.size) H.size known.now before → (damage : damages.Damage) → IsErrOf result (StartFault.Damaged damage)
+    ensures damaged { (before : spec.Known) → IsKnown (hashes_of H.digest_of H.size) H.size known.now before → (damage : damages.Damage) → IsErrOf result (StoreFault.Damaged damage)
         → Told (K.store keeper.old) (λ s. option_map (damage_at (table_name known.now.catalog.now id)) (flaw_in before id (rows_in id s.tables)) ≡ Some damage) }
-    ensures mapped { IsErrOf result StartFault.NoMapping → ⊥ }
+    ensures formed { (before : spec.Known) → IsKnown (hashes_of H.digest_of H.size) H.size known.now before → (damage : damages.Damage) → IsErrOf result (StoreFault.Damaged damage) → IsNamed known.now.catalog.now damage }
     ensures store { K.store keeper.new ≡ K.store keeper.old }
-    ensures cause { IsErrOf result StartFault.KeeperFault → Rose (K.faults keeper.old) (K.faults keeper.new) }
+    ensures cause { IsErrOf result StoreFault.KeeperFault → Rose (K.faults keeper.old) (K.faults keeper.new) }
     ensures later { K.faults keeper.old ≤ K.faults keeper.new }
 {
     let read = stored_rows(alloc, keeper, id, known.weight)?;

@@ -1,9 +1,9 @@
 -- The damage of a stale office's store, and where it has none of the mapping.
 use Rattle.dv_window.proofs.Vocabulary.{None, Some, ap, inl, inr, same_Some, sym, ℕ, ◌∙◌, ◌≡◌, ◌⊎◌, BreaksRule, Damage, Hashes, IsDamageFor, IsNotRead, IsOther, IsOtherMapping, IsReadAs, Mapping, Stands, State, Store, read_mapping}
-use Rattle.dv_window.proofs.Vocabulary.{refl, CompletesTo, Held, IsLeftIn, Option, StartFault, StepsTo, WindowIn, unrefreshed, unresumed, Err, Ok, Result}
+use Rattle.dv_window.proofs.Vocabulary.{refl, CompletesTo, Held, IsLeftIn, Option, StoreFault, StepsTo, WindowIn, unrefreshed, unresumed, Err, Ok, Result}
 use Rattle.dv_records.specs.declared.answers.LoadAnswer.TheVariants as answers
 use Rattle.dv_records.specs.declared.answers.ResumeAnswer.TheVariants as resumed
-use Rattle.dv_start.specs.declared.faults.StartFault.TheVariants as faults
+use Rattle.dv_start.specs.declared.faults.StoreFault.TheVariants as faults
 use Rattle.dv_start.proofs.StandingStores.{never_unread, same_mapping}
 
 -- ---- the stored text is not another mapping
@@ -44,32 +44,28 @@ not_damaged mapping hashes state store stands damage (inr unread) = never_unread
 
 -- ---- what a call answers where an office could not be refreshed
 
-pub unrefreshed_step : (mapping : Mapping) (hashes : Hashes) (state : State) (given : WindowIn) (held : Held) (after : Option Store) → IsLeftIn hashes state held after → (fault : StartFault)
+pub unrefreshed_step : (mapping : Mapping) (hashes : Hashes) (state : State) (given : WindowIn) (held : Held) (after : Option Store) → IsLeftIn hashes state held after → (fault : StoreFault)
     → StepsTo mapping hashes state given (unrefreshed fault) held after
-unrefreshed_step mapping hashes state given held after left faults.NoMapping = (state, inl refl, left)
 unrefreshed_step mapping hashes state given held after left (faults.Damaged damage) = (state, refl, left)
 unrefreshed_step mapping hashes state given held after left faults.KeeperFault = (state, inl refl, left)
 unrefreshed_step mapping hashes state given held after left faults.Memory = (state, inl refl, left)
 
-pub unresumed_step : (mapping : Mapping) (hashes : Hashes) (state : State) (held : Held) (after : Option Store) → IsLeftIn hashes state held after → (fault : StartFault)
+pub unresumed_step : (mapping : Mapping) (hashes : Hashes) (state : State) (held : Held) (after : Option Store) → IsLeftIn hashes state held after → (fault : StoreFault)
     → CompletesTo mapping hashes state (unresumed fault) held after
-unresumed_step mapping hashes state held after left faults.NoMapping = (state, inl refl, left)
 unresumed_step mapping hashes state held after left (faults.Damaged damage) = (state, refl, left)
 unresumed_step mapping hashes state held after left faults.KeeperFault = (state, inl refl, left)
 unresumed_step mapping hashes state held after left faults.Memory = (state, inl refl, left)
 
-pub was_damaged : (fault : StartFault) (damage : Damage) → unrefreshed fault ≡ answers.Damaged damage → fault ≡ faults.Damaged damage
-was_damaged faults.NoMapping damage e = cc
+pub was_damaged : (fault : StoreFault) (damage : Damage) → unrefreshed fault ≡ answers.Damaged damage → fault ≡ faults.Damaged damage
 was_damaged (faults.Damaged other) damage e = cc
 was_damaged faults.KeeperFault damage e = cc
 was_damaged faults.Memory damage e = cc
 
-pub is_damaged : (fault : StartFault) (damage : Damage) → unresumed fault ≡ resumed.Damaged damage → fault ≡ faults.Damaged damage
-is_damaged faults.NoMapping damage e = cc
+pub is_damaged : (fault : StoreFault) (damage : Damage) → unresumed fault ≡ resumed.Damaged damage → fault ≡ faults.Damaged damage
 is_damaged (faults.Damaged other) damage e = cc
 is_damaged faults.KeeperFault damage e = cc
 is_damaged faults.Memory damage e = cc
 
 -- a refresh that answered Ok did not fail
-pub not_err : (fault : StartFault) → ◌≡◌ {A = Result (Unit {0}) StartFault} (Ok tt) (Err fault) → ⊥
+pub not_err : (fault : StoreFault) → ◌≡◌ {A = Result (Unit {0}) StoreFault} (Ok tt) (Err fault) → ⊥
 not_err fault e = cc

@@ -1,5 +1,6 @@
 -- The office of no windows stands for the beginning, and what is restored of a store for the store's state.
-use Rattle.dv_window.proofs.Vocabulary.{[], and_from, ap, map, refl, subst, sym, ◌∙◌, ◌≡◌, Hashes, IsBegunAs, Mapping, State, beginning, no_rows, none_sealed, none_valid, tables, Held, IsOfState, StandsFor, None}
+use Rattle.dv_window.proofs.Vocabulary.{[], and_from, ap, map, refl, subst, sym, ◌∙◌, ◌≡◌, Hashes, IsBegunAs, Mapping, State, beginning, no_rows, none_sealed, none_valid, tables, Held, IsOfState, StandsFor, None, Option, Some, IsReadAs, Store}
+use Rattle.dv_start.specs.Damages.{IsMappedAs}
 
 module _ (mapping : Mapping) (held : Held) (mapping_is : held.vault.mapping ≡ mapping) (tables_are : held.vault.tables ≡ map (λ id. record { table = id; rows = no_rows id }) (tables mapping))
     (no_heads : held.vault.heads ≡ []) (none_open : held.begun ≡ None) (no_snapshots : held.snapshots ≡ []) where
@@ -17,3 +18,15 @@ module _ (mapping : Mapping) (held : Held) (mapping_is : held.vault.mapping ≡ 
 -- an office of what is of a state
 pub stands_as : (hashes : Hashes) (state : State) (held : Held) → IsOfState hashes state held.vault held.begun held.snapshots → StandsFor hashes state held
 stands_as hashes state held is = record { valid = is.valid; sealed_are = is.sealed_are; begun_is = is.begun_is; snapshots_are = is.snapshots_are }
+
+-- what is read of a keeper's mapping, where one is stored and where none is
+pub none_of : {A : Type 0} (o : Option A) → ((x : A) → o ≡ Some x → ⊥) → o ≡ None
+none_of None not = refl
+none_of (Some x) not = absurd (not x refl)
+
+module _ (stored : Option Mapping) (store : Store) (is : IsMappedAs stored store) where
+  pub read_as : (mapping : Mapping) → stored ≡ Some mapping → IsReadAs mapping store
+  read_as mapping some = subst (λ (o : Option Mapping). IsMappedAs o store) some is
+
+  pub none_stored : ((mapping : Mapping) → stored ≡ Some mapping → ⊥) → store.mapping ≡ None
+  none_stored not = subst (λ (o : Option Mapping). IsMappedAs o store) (none_of stored not) is

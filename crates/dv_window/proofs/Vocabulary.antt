@@ -59,7 +59,7 @@ pub use Rattle.std.specs.Cmp.Lexicographic.{pointwise}
 pub use Rattle.dv_text.specs.Keys.{row_eq}
 pub use Rattle.dv_vault.proofs.Vocabulary.{map-map}
 pub use Rattle.std.proofs.lemmas.List.{map-id, take-append-drop}
-pub use Rattle.dv_start.specs.declared.faults.StartFault.{StartFault}
+pub use Rattle.dv_start.specs.declared.faults.StoreFault.{StoreFault}
 pub use Rattle.dv_vault.proofs.Vocabulary.{AllZip, AllZip-long, Bor, Follow, has_table, is_of_kind, length-map, none_pass, rows_then, slice_get, suc, table_eq, zero, ◌<◌}
 pub use Rattle.dv_records.proofs.Vocabulary.{by_place, is_placed, position}
 pub use Rattle.dv_start.specs.Completions.{rows_there}

@@ -4,12 +4,14 @@ use Rattle.dv_records.specs.declared.keepers.KeeperError.{KeeperError}
 use Rattle.dv_records.specs.declared.keepers.KeeperError.TheVariants as error
 use Rattle.dv_records.specs.declared.answers.ResumeAnswer.{ResumeAnswer}
 use Rattle.dv_records.specs.declared.answers.ResumeAnswer.TheVariants as resumed
-use Rattle.dv_start.specs.declared.faults.StartFault.{StartFault}
-use Rattle.dv_start.specs.declared.faults.StartFault.TheVariants as start
+use Rattle.dv_start.specs.declared.faults.StoreFault.{StoreFault}
+use Rattle.dv_start.specs.declared.faults.StoreFault.TheVariants as unread
 use Rattle.dv_stage.specs.declared.faults.StageFault.{StageFault}
 use Rattle.dv_stage.specs.declared.faults.StageFault.TheVariants as fault
 use Rattle.dv_records.specs.declared.answers.LoadAnswer.{LoadAnswer}
 use Rattle.dv_records.specs.declared.answers.LoadAnswer.TheVariants as answer
+use Rattle.dv_window.specs.declared.faults.StartFault.{StartFault}
+use Rattle.dv_window.specs.declared.faults.StartFault.TheVariants as start
 use Rattle.dv_window.specs.declared.stops.Stop.{Stop}
 use Rattle.dv_window.specs.declared.stops.Stop.TheVariants as stop
 
@@ -39,16 +41,21 @@ resume_answer (Ok rows) = resumed.Loaded rows
 resume_answer (Err error.Failed) = resumed.KeeperFault
 resume_answer (Err error.Memory) = resumed.Memory
 
--- ---- what a fault of a refresh is answered as; it is never that no mapping is stored
+-- ---- where what a keeper has could not be read
 
-abbrev pub unrefreshed : StartFault → LoadAnswer
-unrefreshed start.NoMapping = answer.KeeperFault
-unrefreshed (start.Damaged damage) = answer.Damaged damage
-unrefreshed start.KeeperFault = answer.KeeperFault
-unrefreshed start.Memory = answer.Memory
+-- what that is to a start
+abbrev pub start_fault : StoreFault → StartFault
+start_fault (unread.Damaged damage) = start.Damaged damage
+start_fault unread.KeeperFault = start.KeeperFault
+start_fault unread.Memory = start.Memory
 
-abbrev pub unresumed : StartFault → ResumeAnswer
-unresumed start.NoMapping = resumed.KeeperFault
-unresumed (start.Damaged damage) = resumed.Damaged damage
-unresumed start.KeeperFault = resumed.KeeperFault
-unresumed start.Memory = resumed.Memory
+-- and what calls answer, whose office could not be refreshed
+abbrev pub unrefreshed : StoreFault → LoadAnswer
+unrefreshed (unread.Damaged damage) = answer.Damaged damage
+unrefreshed unread.KeeperFault = answer.KeeperFault
+unrefreshed unread.Memory = answer.Memory
+
+abbrev pub unresumed : StoreFault → ResumeAnswer
+unresumed (unread.Damaged damage) = resumed.Damaged damage
+unresumed unread.KeeperFault = resumed.KeeperFault
+unresumed unread.Memory = resumed.Memory

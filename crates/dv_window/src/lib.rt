@@ -2,6 +2,7 @@
 //! loads to a keeper, completes one that was broken off, and keeps the vault of the sealed ones.
 #![tactic(auto)]
 
+mod faults;
 mod loads;
 mod offices;
 mod plans;
@@ -13,5 +14,6 @@ mod starts;
 mod stops;
 mod takings;
 
-pub use dv_start::StartFault;
+pub use dv_start::StoreFault;
+pub use faults::StartFault;
 pub use offices::{Office, Order};

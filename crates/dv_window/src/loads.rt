@@ -5,6 +5,7 @@ ghost use Rattle.dv_text.specs.Keys.{hashes_of};
 ghost use Rattle.dv_text.specs.Told.{Told};
 ghost use Rattle.dv_records.specs.declared.answers.Damage.{Damage};
 ghost use Rattle.dv_records.specs.States.{State};
+ghost use Rattle.dv_start.specs.Damages.{IsNamed};
 ghost use Rattle.dv_window.specs.Offices.{AgreesUnlessStale, IsDamageFor, IsIn, LeavesOffice, LeavesStore, StaleAfter, StandsFor, StepsTo};
 
 use crate::offices::{Office, Order};
@@ -85,6 +86,7 @@ impl Office {
         ensures stays { IsSome (K.store keeper.old) → IsSome (K.store keeper.new) }
         ensures damaged { (damage : Damage) → result ≡ LoadAnswer.Damaged damage → Told (K.store keeper.old) (λ s. IsDamageFor self.old.vault.mapping (hashes_of H.digest_of H.size) H.size s damage) }
         ensures undamaged { (damage : Damage) → result ≡ LoadAnswer.Damaged damage → (state : State) → IsIn (hashes_of H.digest_of H.size) state self.old (K.store keeper.old) → ⊥ }
+        ensures formed { (damage : Damage) → result ≡ LoadAnswer.Damaged damage → IsNamed self.old.vault.mapping damage }
         ensures cause { result ≡ LoadAnswer.KeeperFault → Rose (K.faults keeper.old) (K.faults keeper.new) }
         ensures later { K.faults keeper.old ≤ K.faults keeper.new }
     {

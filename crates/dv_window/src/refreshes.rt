@@ -5,13 +5,13 @@ ghost use Rattle.dv_text.specs.Keys.{hashes_of};
 ghost use Rattle.dv_text.specs.Told.{Told};
 ghost use Rattle.dv_records.specs.declared.answers.Damage.{Damage};
 ghost use Rattle.dv_records.specs.States.{State};
-ghost use Rattle.dv_start.specs.Damages.{IsInForm, IsNotRead, IsReadAs};
+ghost use Rattle.dv_start.specs.Damages.{IsInForm, IsNamed, IsNotRead, IsReadAs, mapping_damage as spec_damage};
 ghost use Rattle.dv_window.specs.Offices.{AgreesUnlessStale, IsDamageFor, IsIn, IsOtherMapping};
 
 use crate::offices::Office;
 use dv_catalog::Catalog;
 use dv_records::Keeper;
-use dv_start::{StartFault, mapping_damage, read_store, stored_mapping};
+use dv_start::{StoreFault, mapping_damage, read_store, stored_mapping};
 use dv_text::KeyDigest;
 
 impl Office {
@@ -23,35 +23,33 @@ impl Office {
     }
 
     // The mapping of the office, read from its keeper again. One that is gone, or another one, is damage.
-    fn same_mapping<K: Keeper>(&self, keeper: &mut K) -> Result<Catalog, StartFault>
+    fn same_mapping<K: Keeper>(&self, keeper: &mut K) -> Result<Catalog, StoreFault>
         ensures same { IfOk result (λ catalog. catalog ≡ self.now.vault.mapping) }
         ensures read { IfOk result (λ catalog. Told (K.store keeper.old) (IsReadAs catalog)) }
-        ensures mapped { IsErrOf result StartFault.NoMapping → ⊥ }
-        ensures damaged { (damage : Damage) → IsErrOf result (StartFault.Damaged damage) → Told (K.store keeper.old) (λ s. IsOtherMapping self.now.vault.mapping s damage ⊎ IsNotRead s damage) }
+        ensures damaged { (damage : Damage) → IsErrOf result (StoreFault.Damaged damage) → Told (K.store keeper.old) (λ s. IsOtherMapping self.now.vault.mapping s damage ⊎ IsNotRead s damage) }
+        ensures formed { (damage : Damage) → IsErrOf result (StoreFault.Damaged damage) → damage ≡ spec_damage }
         ensures store { K.store keeper.new ≡ K.store keeper.old }
-        ensures cause { IsErrOf result StartFault.KeeperFault → Rose (K.faults keeper.old) (K.faults keeper.new) }
+        ensures cause { IsErrOf result StoreFault.KeeperFault → Rose (K.faults keeper.old) (K.faults keeper.new) }
         ensures later { K.faults keeper.old ≤ K.faults keeper.new }
     {
         let alloc = self.allocator();
-        let catalog = match stored_mapping(alloc, keeper) {
-            Err(StartFault::NoMapping) => return Err(StartFault::Damaged(mapping_damage(alloc)?)),
-            read => read?,
+        let Some(catalog) = stored_mapping(alloc, keeper)? else {
+            return Err(StoreFault::Damaged(mapping_damage(alloc)?));
         };
         if !catalog.same(self.catalog()) {
-            return Err(StartFault::Damaged(mapping_damage(alloc)?));
+            return Err(StoreFault::Damaged(mapping_damage(alloc)?));
         }
         Ok(catalog)
     }
 
-    /// Reads the keeper again, where the office is stale; then it isn't stale, and the store breaks no rule of form. It
-    /// never answers `NoMapping`: a mapping that is gone, or another one, is damage of the mapping (F1), and no other rule
-    /// is asked then. `Damaged` and `KeeperFault` come else as from `start`. With an error the office is as before. The
+    /// Reads the keeper again, where the office is stale; then it isn't stale, and the store breaks no rule of form. A
+    /// mapping that is gone, or another one, is damage of the mapping (F1), and no other rule is asked then. `Damaged` and `KeeperFault` come else as from `start`. With an error the office is as before. The
     /// store is as before.
     pub fn refresh<K: Keeper, H: KeyDigest>(
         &mut self,
         keeper: &mut K,
         digest: &H,
-    ) -> Result<(), StartFault>
+    ) -> Result<(), StoreFault>
         requires { AgreesUnlessStale self.old (K.store keeper.old) }
         ensures fresh { OnOk result (self.new.stale ≡ false) }
         ensures kept { OnErr result (self.new ≡ self.old) }
@@ -61,11 +59,11 @@ impl Office {
         ensures agrees { AgreesUnlessStale self.new (K.store keeper.new) }
         ensures in_form { self.old.stale ≡ true → OnOk result (Told (K.store keeper.old) (IsInForm (hashes_of H.digest_of H.size) H.size self.new.vault.mapping)) }
         ensures stands { (state : State) → IsIn (hashes_of H.digest_of H.size) state self.old (K.store keeper.old) → OnOk result (IsIn (hashes_of H.digest_of H.size) state self.new (K.store keeper.new)) }
-        ensures mapped { IsErrOf result StartFault.NoMapping → ⊥ }
-        ensures damaged { (damage : Damage) → IsErrOf result (StartFault.Damaged damage) → Told (K.store keeper.old) (λ s. IsDamageFor self.old.vault.mapping (hashes_of H.digest_of H.size) H.size s damage) }
-        ensures undamaged { (damage : Damage) → IsErrOf result (StartFault.Damaged damage) → (state : State) → IsIn (hashes_of H.digest_of H.size) state self.old (K.store keeper.old) → ⊥ }
+        ensures damaged { (damage : Damage) → IsErrOf result (StoreFault.Damaged damage) → Told (K.store keeper.old) (λ s. IsDamageFor self.old.vault.mapping (hashes_of H.digest_of H.size) H.size s damage) }
+        ensures undamaged { (damage : Damage) → IsErrOf result (StoreFault.Damaged damage) → (state : State) → IsIn (hashes_of H.digest_of H.size) state self.old (K.store keeper.old) → ⊥ }
+        ensures formed { (damage : Damage) → IsErrOf result (StoreFault.Damaged damage) → IsNamed self.old.vault.mapping damage }
         ensures store { K.store keeper.new ≡ K.store keeper.old }
-        ensures cause { IsErrOf result StartFault.KeeperFault → Rose (K.faults keeper.old) (K.faults keeper.new) }
+        ensures cause { IsErrOf result StoreFault.KeeperFault → Rose (K.faults keeper.old) (K.faults keeper.new) }
         ensures later { K.faults keeper.old ≤ K.faults keeper.new }
     {
         if !self.stale {

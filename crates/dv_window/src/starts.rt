@@ -10,13 +10,14 @@ ghost use Rattle.dv_records.specs.Standing.{Stands};
 ghost use Rattle.dv_records.specs.States.{State, beginning};
 ghost use Rattle.dv_form.specs.SnapshotHeads.{KeepLimits};
 ghost use Rattle.dv_start.specs.Completions.{MayBeTaken};
-ghost use Rattle.dv_start.specs.Damages.{IsFirstDamage, IsInForm};
+ghost use Rattle.dv_start.specs.Damages.{IsFirstDamage, IsInForm, IsNamedBySome};
 ghost use Rattle.dv_window.specs.Offices.{Agrees, StandsFor};
 
+use crate::faults::StartFault;
 use crate::offices::Office;
 use dv_catalog::Catalog;
 use dv_records::Keeper;
-use dv_start::{Restored, StartFault, read_store, stored_mapping};
+use dv_start::{Restored, read_store, stored_mapping};
 use dv_text::{KeyDigest, List, Memory};
 use dv_vault::Vault;
 use std::alloc::Global;
@@ -57,8 +58,8 @@ impl Office {
 
     /// The office over a keeper, whose store is read whole. `NoMapping` comes exactly where no mapping is stored.
     /// `Damaged` names the first row of the store that breaks a rule of form, and its first rule: exactly where one
-    /// does, so never where the store stands for a state. `KeeperFault` comes only where the keeper's count of faults
-    /// rose. The store is as before.
+    /// does, so never where the store stands for a state; and over a keeper that tells nothing, a place and a rule that
+    /// there may be. `KeeperFault` comes only where the keeper's count of faults rose. The store is as before.
     pub fn start<K: Keeper, H: KeyDigest>(
         alloc: Global,
         keeper: &mut K,
@@ -72,11 +73,14 @@ impl Office {
         ensures none { IsErrOf result StartFault.NoMapping → Told (K.store keeper.old) (λ s. s.mapping ≡ None) }
         ensures damaged { (damage : Damage) → IsErrOf result (StartFault.Damaged damage) → Told (K.store keeper.old) (λ s. IsFirstDamage (hashes_of H.digest_of H.size) H.size s damage) }
         ensures undamaged { (damage : Damage) → IsErrOf result (StartFault.Damaged damage) → (mapping : Mapping) → (state : State) → (store : Store) → K.store keeper.old ≡ Some store → Stands mapping (hashes_of H.digest_of H.size) state store → ⊥ }
+        ensures formed { (damage : Damage) → IsErrOf result (StartFault.Damaged damage) → IsNamedBySome damage }
         ensures store { K.store keeper.new ≡ K.store keeper.old }
         ensures cause { IsErrOf result StartFault.KeeperFault → Rose (K.faults keeper.old) (K.faults keeper.new) }
         ensures later { K.faults keeper.old ≤ K.faults keeper.new }
     {
-        let catalog = stored_mapping(alloc, keeper)?;
+        let Some(catalog) = stored_mapping(alloc, keeper)? else {
+            return Err(StartFault::NoMapping);
+        };
         let restored = read_store(alloc, keeper, catalog, digest)?;
         Ok(Office::of_restored(restored, digest.width()))
     }

@@ -4,7 +4,7 @@ ghost use Rattle.dv_window.specs.Stopping as spec;
 use dv_catalog::Rule;
 use dv_records::{KeeperError, LoadAnswer, ResumeAnswer};
 use dv_stage::StageFault;
-use dv_start::StartFault;
+use dv_start::StoreFault;
 use dv_text::Memory;
 
 /// Why a window is not loaded: it repeats a sealed one, or breaks a rule; or want of memory.
@@ -78,27 +78,23 @@ pub(crate) fn resume_answer(taken: Result<u64, KeeperError>) -> ResumeAnswer
 }
 
 /// What a load answers where a stale office could not be refreshed.
-pub(crate) fn unrefreshed(fault: StartFault) -> LoadAnswer
-    requires { fault ≡ StartFault.NoMapping → ⊥ }
+pub(crate) fn unrefreshed(fault: StoreFault) -> LoadAnswer
     ensures { result ≡ spec.unrefreshed fault }
 {
     match fault {
-        StartFault::NoMapping => unreachable!(),
-        StartFault::Damaged(damage) => LoadAnswer::Damaged(damage),
-        StartFault::KeeperFault => LoadAnswer::KeeperFault,
-        StartFault::Memory => LoadAnswer::Memory,
+        StoreFault::Damaged(damage) => LoadAnswer::Damaged(damage),
+        StoreFault::KeeperFault => LoadAnswer::KeeperFault,
+        StoreFault::Memory => LoadAnswer::Memory,
     }
 }
 
 /// What the completion of the open window answers where a stale office could not be refreshed.
-pub(crate) fn unresumed(fault: StartFault) -> ResumeAnswer
-    requires { fault ≡ StartFault.NoMapping → ⊥ }
+pub(crate) fn unresumed(fault: StoreFault) -> ResumeAnswer
     ensures { result ≡ spec.unresumed fault }
 {
     match fault {
-        StartFault::NoMapping => unreachable!(),
-        StartFault::Damaged(damage) => ResumeAnswer::Damaged(damage),
-        StartFault::KeeperFault => ResumeAnswer::KeeperFault,
-        StartFault::Memory => ResumeAnswer::Memory,
+        StoreFault::Damaged(damage) => ResumeAnswer::Damaged(damage),
+        StoreFault::KeeperFault => ResumeAnswer::KeeperFault,
+        StoreFault::Memory => ResumeAnswer::Memory,
     }
 }

@@ -3,7 +3,7 @@ use Rattle.dv_text.specs.declared.rows.WindowHead.{WindowHead}
 use Rattle.dv_form.specs.StoredHeads.{is_later}
 use Rattle.dv_start.specs.Begins.{AreFirst, MayFollow}
 use Rattle.dv_start.specs.Parts.{are_loaded}
-use Rattle.dv_start.specs.declared.faults.StartFault.TheVariants.{Damaged}
+use Rattle.dv_start.specs.declared.faults.StoreFault.TheVariants.{Damaged}
 use Rattle.dv_start.proofs.Completing.{kinds_of}
 use Rattle.dv_start.proofs.FirstBatches.{error_through}
 use Rattle.dv_start.proofs.HeadsHeld.{ends_last, heads_fed}

@@ -1,9 +1,10 @@
-use Rattle.dv_form.proofs.Vocabulary.{◌≡◌, ◌∙◌, ◌<◌, Err, Result, ap, arith, err_from_is_err_and, flaw_in, get_or, get_or_default, hashes_of, length, option_map, rows_in, sym, table_name}
+use Rattle.dv_form.proofs.Vocabulary.{◌≡◌, ◌∙◌, ◌<◌, Err, Result, ap, arith, err_from_is_err_and, flaw_in, get_or, get_or_default, hashes_of, length, option_map, rows_in, subst, sym, table_name, Mapping}
 use Rattle.dv_catalog.proofs.TablesIn.{table_at}
 use Rattle.dv_catalog.specs.declared.tables.TableId.TheVariants.{Hub}
 use Rattle.dv_catalog.specs.TableLookups.{is_table_of}
 use Rattle.dv_form.specs.Damages.{damage_at}
-use Rattle.dv_start.specs.declared.faults.StartFault.TheVariants.{Damaged}
+use Rattle.dv_start.specs.Damages.{IsNamed}
+use Rattle.dv_start.specs.declared.faults.StoreFault.TheVariants.{Damaged}
 use Rattle.dv_start.specs.Readings.{entries_in, known_first}
 use Rattle.dv_start.proofs.GatherSteps.{gathered_damaged, gathered_more}
 use Rattle.dv_start.proofs.readings.gather.Goals as goal
@@ -29,6 +30,14 @@ returns-in_err-made-clause-damaged g c damage e =
     let found = c.in_err-made.ensures.damaged (record first { tables = entries_in c.loop-id.gathered }) (so_far.known c.known-known.result c.known-known.ensures) damage (ap Err fault) in
     gathered_damaged first (g.K.Keeper.store c.args.keeper.now) items c.requires i id under (get_or_default items i id (Hub 0) under) c.loop-id.gathered so_far damage
     (λ s is. ap (λ m. option_map (damage_at (table_name m id)) (flaw_in (record first { tables = entries_in c.loop-id.gathered }) id (rows_in id s.tables))) (sym c.known-known.ensures.catalog_is) ∙ found s (c.loop-id.invariant.kept ∙ is))
+
+pub returns-in_err-made-clause-formed : goal.returns-in_err-made-clause-formed
+returns-in_err-made-clause-formed g c damage e =
+    let first = known_first c.args.catalog.now (hashes_of g.H.KeyDigest.digest_of g.H.KeyDigest.size) g.H.KeyDigest.size c.args.heads.now in
+    let p = err_from_is_err_and c.from_residual.result c.from_residual.ensures.1 in
+    let fault : c.in_err-made.field-0.0 ≡ Damaged damage = same_fault c.from_residual.result p.0 c.in_err-made.field-0.0 (Damaged damage) p.1 p.2 e in
+    subst (λ (m : Mapping). IsNamed m damage) c.known-known.ensures.catalog_is
+    (c.in_err-made.ensures.formed (record first { tables = entries_in c.loop-id.gathered }) (c.loop-id.invariant.gathered.known c.known-known.result c.known-known.ensures) damage (ap Err fault))
 
 pub loop-id-preserved : goal.loop-id-preserved
 loop-id-preserved g c =

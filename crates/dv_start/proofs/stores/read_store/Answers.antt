@@ -56,6 +56,9 @@ pub returns-in_err-snapshots-clause-undamaged : goal.returns-in_err-snapshots-cl
 returns-in_err-snapshots-clause-undamaged g c damage is state store at stands =
     none_broken c.args.catalog g.H.KeyDigest.digest_of g.H.KeyDigest.size c.note_sized.ensures state store stands damage (returns-in_err-snapshots-clause-damaged g c damage is store at)
 
+pub returns-in_err-snapshots-clause-formed : goal.returns-in_err-snapshots-clause-formed
+returns-in_err-snapshots-clause-formed g c damage is = c.stored_snapshots.ensures.formed damage (search rules) c.args.catalog
+
 pub returns-in_err-reopened-clause-undamaged : goal.returns-in_err-reopened-clause-undamaged
 returns-in_err-reopened-clause-undamaged g c damage is state store at stands =
     let hashes = hashes_of g.H.KeyDigest.digest_of g.H.KeyDigest.size in
