@@ -17,7 +17,9 @@ use Rattle.dv_records.specs.declared.stores.Store.{Store}
 use Rattle.dv_records.specs.Changes.{Changes, changed}
 use Rattle.dv_records.specs.Steps.{IsStored}
 use Rattle.dv_records.specs.Stores.{with_mapping}
-use Rattle.dv_start.specs.Damages.{IsNotRead, IsReadAs}
+use Rattle.dv_start.specs.Damages.{IsNotRead, IsReadAs, mapping_damage}
+use Rattle.dv_start.specs.declared.faults.StoreFault.{StoreFault}
+use Rattle.dv_start.specs.declared.faults.StoreFault.TheVariants as faults
 use Rattle.dv_try.specs.declared.endings.Ending.{Ending}
 use Rattle.dv_try.specs.declared.endings.Ending.TheVariants as endings
 use Rattle.dv_try.specs.Endings.{IsReadCause, MappingEnds}
@@ -28,12 +30,12 @@ use Rattle.dv_app.specs.declared.replies.Reply.{Reply}
 use Rattle.dv_app.specs.declared.stops.Stop.{Stop}
 use Rattle.dv_app.specs.declared.stops.Stop.TheVariants as stop
 use Rattle.dv_app.specs.Changes.{Leaves}
-use Rattle.dv_app.specs.Damaged.{IsFound, NamesDamage}
+use Rattle.dv_app.specs.Damaged.{Finds, NamesDamage}
 use Rattle.dv_app.specs.Kept.{IsStanding, InitBy, InitFor, InitSays, InitWith, Rises, risen, unread}
 use Rattle.dv_app.specs.Lines.{kept_line, stored_line}
 use Rattle.dv_app.specs.Keyed.{Keyed}
 use Rattle.dv_outside.specs.Seen.{Seen}
-use Rattle.dv_app.specs.Stops.{IsStopCause, said_of, stop_of_error}
+use Rattle.dv_app.specs.Stops.{IsStopCause, said_of, stop_of_error, stop_of_unread}
 use Rattle.dv_app.specs.Words.{Init}
 use Rattle.dv_app.specs.Works.{Comes, Does, Stores, Works, memory_said}
 use Rattle.dv_app.proofs.MoreRises.{cause_of_more, init_for_more}
@@ -163,7 +165,7 @@ module _ (rises : Rises) (files : List NamedFile) (store : Store) (after : Optio
 
 module _ (file : List ℕ) (keeper : Seen Store) where
   stores_by : (s : Stop) → Told keeper.old (λ store. InitFor (unread keeper) file store keeper.new (said_of s)) → IsStopCause (unread keeper) s → Leaves Init keeper (said_of s)
-      → ((k : Keyed) (damage : Damage) → s ≡ stop.Damaged damage → IsFound (λ store. IsNotRead store damage) k.hashes keeper.old) → Stores file keeper (said_of s)
+      → ((k : Keyed) (damage : Damage) → s ≡ stop.Damaged damage → Finds Init k keeper.old damage) → Stores file keeper (said_of s)
   stores_by s says cause leaves found = record { says = says; cause = line_cause (unread keeper) s cause; leaves = leaves; damage = λ k. named_by Init k keeper.old s (found k) }
 
   memory_by : Told keeper.old (λ store. InitFor (unread keeper) file store keeper.new memory_said) → Leaves Init keeper memory_said → Stores file keeper memory_said
@@ -184,14 +186,14 @@ module _ (file : List ℕ) (keeper : Seen Store) where
     pub memory_left : Comes (Stores file keeper) (Err (stop.Ended endings.Memory))
     memory_left = (stores_memory, stores_memory)
 
-    pub fault_left : Rose keeper.before keeper.now → Comes (Stores file keeper) (Err stop.KeeperFault)
+    fault_left : Rose keeper.before keeper.now → Comes (Stores file keeper) (Err stop.KeeperFault)
     fault_left rose = (
       stores_by stop.KeeperFault (λ store e. fault_kept (unread keeper) file store keeper.new (left ∙ e) rose) rose (inl left) (λ k damage is. absurd (let no : stop.KeeperFault ≡ stop.Damaged damage = is in cc)),
       stores_memory,
     )
 
-    pub damage_left : (damage : Damage) → Told keeper.old (λ store. IsNotRead store damage) → Comes (Stores file keeper) (Err (stop.Damaged damage))
-    damage_left damage not_read = (
+    damage_left : (damage : Damage) → Told keeper.old (λ store. IsNotRead store damage) → damage ≡ mapping_damage → Comes (Stores file keeper) (Err (stop.Damaged damage))
+    damage_left damage not_read formed = (
       stores_by (stop.Damaged damage) (λ store e. damage_kept (unread keeper) file store keeper.new (left ∙ e) damage (not_read store e)) tt (inl left) found,
       stores_memory,
     )
@@ -199,8 +201,16 @@ module _ (file : List ℕ) (keeper : Seen Store) where
         same : {other : Damage} → stop.Damaged damage ≡ stop.Damaged other → damage ≡ other
         same e = cc
 
-        found : (k : Keyed) (other : Damage) → stop.Damaged damage ≡ stop.Damaged other → IsFound (λ store. IsNotRead store other) k.hashes keeper.old
-        found k other is = subst (λ d. IsFound (λ store. IsNotRead store d) k.hashes keeper.old) (same is) (record { has = not_read; stands_for_none = not_read_sound k.hashes keeper.old damage not_read })
+        found : (k : Keyed) (other : Damage) → stop.Damaged damage ≡ stop.Damaged other → Finds Init k keeper.old other
+        found k other is = subst (Finds Init k keeper.old) (same is) (record { has = not_read; may = inl formed; stands_for_none = not_read_sound k.hashes keeper.old damage not_read })
+
+    -- what a keeper has could not be read
+    pub unread_left : {T : Type 0} (fault : StoreFault) → ((damage : Damage) → IsErrOf {T = T} (Err fault) (faults.Damaged damage) → Told keeper.old (λ store. IsNotRead store damage))
+        → ((damage : Damage) → IsErrOf {T = T} (Err fault) (faults.Damaged damage) → damage ≡ mapping_damage) → (IsErrOf {T = T} (Err fault) faults.KeeperFault → Rose keeper.before keeper.now)
+        → Comes (Stores file keeper) (Err (stop_of_unread fault))
+    unread_left (faults.Damaged damage) not_read formed rose = damage_left damage (not_read damage refl) (formed damage refl)
+    unread_left faults.KeeperFault not_read formed rose = fault_left (rose refl)
+    unread_left faults.Memory not_read formed rose = memory_left
 
     module _ (stored catalog : Mapping) (stored_as : Told keeper.old (IsReadAs stored)) (reads : read_mapping file ≡ Ok catalog) where
       pub equal_left : stored ≡ catalog → Stores file keeper (ended statuses.Done kept_line)

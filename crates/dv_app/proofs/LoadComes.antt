@@ -23,13 +23,12 @@ use Rattle.dv_try.proofs.EndSteps.{rose_later}
 use Rattle.dv_app.specs.declared.stops.Stop.{Stop}
 use Rattle.dv_app.specs.declared.stops.Stop.TheVariants as stop
 use Rattle.dv_app.specs.Changes.{Leaves}
-use Rattle.dv_app.specs.Damaged.{HasDamage, IsFound}
-use Rattle.dv_app.specs.Kept.{Answers, BreaksTo, IsBrought, KeptSays, LoadBreaks, LoadSays, OpenedSays, Rises, StandsAt, load_answer, risen, unread}
+use Rattle.dv_app.specs.Kept.{Answers, BreaksTo, IsBrought, LoadBreaks, LoadSays, OpenedSays, Rises, StandsAt, load_answer, risen, unread}
 use Rattle.dv_app.specs.Openings.{IsOpen}
 use Rattle.dv_app.specs.Keyed.{Keyed}
 use Rattle.dv_outside.specs.Seen.{Seen}
 use Rattle.dv_app.specs.Stops.{IsStopCause, said_of}
-use Rattle.dv_app.specs.Takings.{BrokeOff, IsBreak, IsUnbrought, TakenLeaves, Took, taken_said, unbrought}
+use Rattle.dv_app.specs.Takings.{BrokeOff, IsUnbrought, TakenLeaves, Took, taken_said, unbrought}
 use Rattle.dv_app.specs.Words.{Load}
 use Rattle.dv_app.specs.Works.{Does, IsUndamaged, Works, memory_said}
 use Rattle.dv_app.proofs.LoadSteps.{absent_says, answer_broke, break_says, memory_says, stay_broke, unread_says}

@@ -1,5 +1,5 @@
 -- What comes of the completion of the open window.
-use Rattle.std.specs.Prelude.{◌≡◌, ℕ, List, Option, Some, Err}
+use Rattle.std.specs.Prelude.{◌≡◌, ℕ, List, Some, Err}
 use Rattle.std.proofs.Common.{inl, inr, refl, subst, sym, ◌∙◌}
 use Rattle.dv_catalog.specs.Entries.{Mapping}
 use Rattle.dv_mart.specs.declared.query_rules.QueryRule.TheVariants.{NothingOpen}

@@ -1,8 +1,7 @@
 -- What `run` promises of a call, by what the words ask for.
 use Rattle.std.specs.Global.{Global}
-use Rattle.std.specs.Prelude.{◌≡◌, ◌⊎◌, ℕ, List, [], Option, String}
+use Rattle.std.specs.Prelude.{◌≡◌, ℕ, List, [], String}
 use Rattle.std.proofs.Common.{⊎_elim, ap, inl, inr, refl, subst, sym, ◌∙◌}
-use Rattle.dv_text.specs.Causes.{Rose}
 use Rattle.dv_text.specs.Told.{Told}
 use Rattle.dv_outside.specs.Bytes.{after}
 use Rattle.dv_outside.specs.Ends.{Ends}
@@ -18,7 +17,7 @@ use Rattle.dv_try.specs.Loadings.{trial_of}
 use Rattle.dv_try.specs.Says.{Gives, TrySays, Trial, tried_of}
 use Rattle.dv_try.specs.Tried.{Tried, ended}
 use Rattle.dv_app.specs.Changes.{IsBroken, IsRefusal, IsText, Leaves, LeavesStore, MayChange}
-use Rattle.dv_app.specs.Damaged.{HasDamage, IsFound, NamesDamage}
+use Rattle.dv_app.specs.Damaged.{Finds}
 use Rattle.dv_app.specs.Kept.{IsStanding, risen}
 use Rattle.dv_app.specs.Lines.{damaged_line, usage_line}
 use Rattle.dv_app.specs.Replies.{EndsAs, IsCauseOf, heard}
@@ -121,11 +120,11 @@ module _ (words : List (String Global)) (k : Keyed) (folder : Seen (List NamedFi
   caused (inr cut) = subst (IsCause (OnKeeper command) (risen folder keeper) out err) (sym cut.status_is) cut.rose
 
   named : EndsAs said out err result → result ≡ statuses.Damaged
-      → (damage : Damage) × (err.new ≡ after err.old (damaged_line damage)) × IsFound (λ store. HasDamage command k.hashes k.width store damage) k.hashes keeper.old
+      → (damage : Damage) × (err.new ≡ after err.old (damaged_line damage)) × Finds command k keeper.old damage
   named (inl gives) damaged = by (does.damage (gives.status_is ∙ damaged))
     where
-      by : ((damage : Damage) × (said ≡ ended statuses.Damaged (damaged_line damage)) × IsFound (λ store. HasDamage command k.hashes k.width store damage) k.hashes keeper.old)
-          → (damage : Damage) × (err.new ≡ after err.old (damaged_line damage)) × IsFound (λ store. HasDamage command k.hashes k.width store damage) k.hashes keeper.old
+      by : ((damage : Damage) × (said ≡ ended statuses.Damaged (damaged_line damage)) × Finds command k keeper.old damage)
+          → (damage : Damage) × (err.new ≡ after err.old (damaged_line damage)) × Finds command k keeper.old damage
       by (damage, says, found) = (damage, gives.err ∙ ap (λ (t : Tried). after err.old t.err) says, found)
   named (inr cut) damaged = absurd (let no : statuses.WriteFault ≡ statuses.Damaged = sym cut.status_is ∙ damaged in cc)
 
@@ -136,7 +135,7 @@ module _ (words : List (String Global)) (k : Keyed) (folder : Seen (List NamedFi
     causes = subst (λ c. IsCause c (risen folder keeper) out err result) (sym is) (caused ends);
     leaves = λ leaves. left_by keeper out err result command said ends does.leaves (subst (λ c. LeavesStore c result) is leaves);
     changes = subst (λ c. ChangesAsSaid c keeper out err result) (sym is) (said, ends, does.leaves);
-    damaged = λ damaged. subst (λ c. DamageIsNamed c k keeper.old err) (sym is) (let found = named ends damaged in (found.0, found.1, found.2.has));
+    damaged = λ damaged. subst (λ c. DamageIsNamed c k keeper.old err) (sym is) (let found = named ends damaged in (found.0, found.1, found.2.has, found.2.may));
     sound = λ damaged. (named ends damaged).2.stands_for_none;
   }
 

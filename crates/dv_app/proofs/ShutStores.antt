@@ -9,15 +9,15 @@ use Rattle.dv_records.specs.declared.answers.Damage.{Damage}
 use Rattle.dv_records.specs.declared.stores.Store.{Store}
 use Rattle.dv_records.specs.Standing.{Stands}
 use Rattle.dv_records.specs.States.{State}
-use Rattle.dv_start.specs.Damages.{IsFirstDamage}
-use Rattle.dv_start.specs.declared.faults.StartFault.{StartFault}
-use Rattle.dv_start.specs.declared.faults.StartFault.TheVariants as faults
+use Rattle.dv_start.specs.Damages.{IsFirstDamage, IsNamedBySome}
+use Rattle.dv_window.specs.declared.faults.StartFault.{StartFault}
+use Rattle.dv_window.specs.declared.faults.StartFault.TheVariants as faults
 use Rattle.dv_try.specs.declared.endings.Ending.TheVariants as endings
 use Rattle.dv_try.specs.Tried.{Tried}
 use Rattle.dv_app.specs.declared.stops.Stop.{Stop}
 use Rattle.dv_app.specs.declared.stops.Stop.TheVariants as stop
 use Rattle.dv_app.specs.Changes.{IsBroken}
-use Rattle.dv_app.specs.Damaged.{HasDamage, IsFound}
+use Rattle.dv_app.specs.Damaged.{FindsFirst, HasDamage, MayBe}
 use Rattle.dv_app.specs.Kept.{EndsAtFault, IsOpenedBy, IsShut, KeptSays, OpenedSays, OpensOr, ReadsNone, Rises, risen, unread}
 use Rattle.dv_app.specs.Openings.{IsUnopened}
 use Rattle.dv_app.specs.Keyed.{Keyed}
@@ -72,9 +72,9 @@ module _ (k : Keyed) (keeper : Seen Store) where
   start_shut faults.KeeperFault none damaged = λ s e. inr tt
   start_shut faults.Memory none damaged = λ s e. inr tt
 
-  start_found : {T : Type 0} (fault : StartFault) → ((damage : Damage) → IsErrOf {T = T} (Err fault) (faults.Damaged damage) → IsFound (λ store. IsFirstDamage k.hashes k.width store damage) k.hashes keeper.old)
-      → (damage : Damage) → stop_of_start fault ≡ stop.Damaged damage → IsFound (λ store. IsFirstDamage k.hashes k.width store damage) k.hashes keeper.old
-  start_found (faults.Damaged damage) found other is = subst (λ d. IsFound (λ store. IsFirstDamage k.hashes k.width store d) k.hashes keeper.old) (same is) (found damage refl)
+  start_found : {T : Type 0} (fault : StartFault) → ((damage : Damage) → IsErrOf {T = T} (Err fault) (faults.Damaged damage) → FindsFirst k keeper.old damage)
+      → (damage : Damage) → stop_of_start fault ≡ stop.Damaged damage → FindsFirst k keeper.old damage
+  start_found (faults.Damaged damage) found other is = subst (FindsFirst k keeper.old) (same is) (found damage refl)
     where
       same : stop.Damaged damage ≡ stop.Damaged other → damage ≡ other
       same e = cc
@@ -91,11 +91,13 @@ module _ (k : Keyed) (keeper : Seen Store) where
   pub unstarted : {T : Type 0} (fault : StartFault) → (IsErrOf {T = T} (Err fault) faults.NoMapping → Told keeper.old (λ s. s.mapping ≡ None))
       → ((damage : Damage) → IsErrOf {T = T} (Err fault) (faults.Damaged damage) → Told keeper.old (λ s. IsFirstDamage k.hashes k.width s damage))
       → ((damage : Damage) → IsErrOf {T = T} (Err fault) (faults.Damaged damage) → (mapping : Mapping) → (state : State) → (store : Store) → keeper.old ≡ Some store → Stands mapping k.hashes state store → ⊥)
+      → ((damage : Damage) → IsErrOf {T = T} (Err fault) (faults.Damaged damage) → IsNamedBySome damage)
       → (IsErrOf {T = T} (Err fault) faults.KeeperFault → (unread keeper).keeper) → IsUnopened k keeper (stop_of_start fault)
-  unstarted {T} fault none damaged undamaged rose = record {
+  unstarted {T} fault none damaged undamaged formed rose = record {
     shut = start_shut {T = T} fault none damaged;
     found = start_found {T = T} fault (λ damage is. record {
       has = damaged damage is;
+      may = formed damage is;
       stands_for_none = λ standing. undamaged damage is standing.mapping standing.state standing.store standing.told_is standing.stands;
     });
     cause = start_cause {T = T} fault rose;
@@ -140,10 +142,15 @@ module _ (k : Keyed) (folder : Seen (List NamedFile)) (keeper : Seen Store) (lef
   first_had (Snapshot date) opens damage store first = first
   first_had (Stored table date) opens damage store first = inl first
 
+  first_may : (command : KeptCommand) → (damage : Damage) → IsNamedBySome damage → MayBe command damage
+  first_may (Stored table date) damage named = inl named
+  first_may command damage named = named
+
   pub shut_works : (command : KeptCommand) → Opens command → Works command k folder keeper (Err s)
   shut_works command opens = left_works command k folder keeper left s cause
       (λ damage is. record {
         has = λ store e. first_had command opens damage store ((unopened.found damage is).has store e);
+        may = first_may command damage (unopened.found damage is).may;
         stands_for_none = (unopened.found damage is).stands_for_none;
       })
       (λ store e. (shut_says store e command opens).0) (λ store e. (shut_says store e command opens).1)

@@ -22,7 +22,7 @@ use Rattle.dv_records.specs.States.{State}
 use Rattle.dv_snapshots.specs.declared.stored.StoredFault.{StoredFault}
 use Rattle.dv_snapshots.specs.declared.stored.StoredFault.TheVariants as stored
 use Rattle.dv_snapshots.specs.StoredRows.{asked_of, head_at}
-use Rattle.dv_snapshots.specs.StoredTexts.{IsDamageOf, IsStoredDamage, table_text as snap_text}
+use Rattle.dv_snapshots.specs.StoredTexts.{IsDamageOf, IsRowOf, IsStoredDamage, table_text as snap_text}
 use Rattle.dv_window.specs.Offices.{Held, IsIn, StandsFor}
 use Rattle.dv_try.specs.declared.endings.Ending.{Ending}
 use Rattle.dv_try.specs.Endings.{DateEnds, QueryEnds}
@@ -30,7 +30,7 @@ use Rattle.dv_try.specs.Given.{query_line}
 use Rattle.dv_try.specs.Tried.{Tried, ended}
 use Rattle.dv_app.specs.declared.stops.Stop.{Stop}
 use Rattle.dv_app.specs.declared.stops.Stop.TheVariants as stop
-use Rattle.dv_app.specs.Damaged.{HasDamage, IsFound, IsTableDamage}
+use Rattle.dv_app.specs.Damaged.{Finds, IsTableDamage}
 use Rattle.dv_app.specs.Kept.{IsStanding, OpenedSays, Rises, TextSays, risen, stored_id, stored_says, text_or}
 use Rattle.dv_app.specs.Openings.{IsOpen}
 use Rattle.dv_app.specs.Queries.{StoredEnds}
@@ -164,27 +164,28 @@ module _ (k : Keyed) (office : Held) (keeper : Seen Store) (is_open : IsOpen k k
           damage_is = subst (λ width. IsDamageOf mapping width (asked_of id found.head) store.snapshots damage) is_open.width_is found.damage_is;
         }
 
-        found_by : (damage : Damage) → Told keeper.old (λ store. IsStoredDamage office id at store.snapshots damage)
+        found_by : (damage : Damage) → Told keeper.old (λ store. IsStoredDamage office id at store.snapshots damage) → IsRowOf mapping id damage
             → ((state : State) (store : Store) → keeper.old ≡ Some store → IsIn k.hashes state office (Some store) → ⊥)
-            → IsFound (λ store. HasDamage (Stored table date) k.hashes k.width store damage) k.hashes keeper.old
-        found_by damage has undamaged = record { has = λ store e. inr (table_damage damage store e (has store e)); stands_for_none = stands_for_none undamaged }
+            → Finds (Stored table date) k keeper.old damage
+        found_by damage has formed undamaged = record { has = λ store e. inr (table_damage damage store e (has store e)); may = inr (mapping, id, named, formed); stands_for_none = stands_for_none undamaged }
 
-        stored_stop : (s : Stop) → IsStopCause rises s → ((damage : Damage) → s ≡ stop.Damaged damage → IsFound (λ store. HasDamage (Stored table date) k.hashes k.width store damage) k.hashes keeper.old)
+        stored_stop : (s : Stop) → IsStopCause rises s → ((damage : Damage) → s ≡ stop.Damaged damage → Finds (Stored table date) k keeper.old damage)
             → Says (Stored table date) k folder keeper (said_of s) → Works (Stored table date) k folder keeper (Err s)
         stored_stop s cause found says = left_works (Stored table date) k folder keeper left s cause found says memory_says
 
         pub stored_stopped : (fault : StoredFault) → (IsErrOf {T = List ℕ} (Err fault) stored.NoSnapshot → head_at at office.snapshots ≡ None)
             → ((damage : Damage) → IsErrOf {T = List ℕ} (Err fault) (stored.Damaged damage) → Told keeper.old (λ store. IsStoredDamage office id at store.snapshots damage))
+            → ((damage : Damage) → IsErrOf {T = List ℕ} (Err fault) (stored.Damaged damage) → IsRowOf mapping id damage)
             → ((damage : Damage) → IsErrOf {T = List ℕ} (Err fault) (stored.Damaged damage) → (state : State) (store : Store) → keeper.old ≡ Some store → IsIn k.hashes state office (Some store) → ⊥)
             → (IsErrOf {T = List ℕ} (Err fault) stored.KeeperFault → rises.keeper) → Works (Stored table date) k folder keeper (Err (stop_of_stored at fault))
-        stored_stopped stored.NoSnapshot none has undamaged rose =
+        stored_stopped stored.NoSnapshot none has formed undamaged rose =
             stored_stop (stop_of_stored at stored.NoSnapshot) tt (λ damage is. absurd (let no : stop_of_stored at stored.NoSnapshot ≡ stop.Damaged damage = is in cc)) (none_says (none refl))
-        stored_stopped (stored.Damaged damage) none has undamaged rose = stored_stop (stop.Damaged damage) tt
-            (λ other is. subst (λ d. IsFound (λ store. HasDamage (Stored table date) k.hashes k.width store d) k.hashes keeper.old) (same is) (found_by damage (has damage refl) (undamaged damage refl)))
+        stored_stopped (stored.Damaged damage) none has formed undamaged rose = stored_stop (stop.Damaged damage) tt
+            (λ other is. subst (Finds (Stored table date) k keeper.old) (same is) (found_by damage (has damage refl) (formed damage refl) (undamaged damage refl)))
             (says_by (said_of (stop.Damaged damage)) (λ store e state stands. absurd (undamaged damage refl state store e (in_store store e state stands))))
           where
             same : {other : Damage} → stop.Damaged damage ≡ stop.Damaged other → damage ≡ other
             same e = cc
-        stored_stopped stored.KeeperFault none has undamaged rose = stored_stop stop.KeeperFault (rose refl) (λ damage is. absurd (let no : stop.KeeperFault ≡ stop.Damaged damage = is in cc))
+        stored_stopped stored.KeeperFault none has formed undamaged rose = stored_stop stop.KeeperFault (rose refl) (λ damage is. absurd (let no : stop.KeeperFault ≡ stop.Damaged damage = is in cc))
             (says_by (said_of stop.KeeperFault) (λ store e state stands. (inr (inr (inl (refl, rose refl, tt))), left ∙ e)))
-        stored_stopped stored.Memory none has undamaged rose = stored_stop (stop_of_stored at stored.Memory) tt (λ damage is. absurd (let no : stop_of_stored at stored.Memory ≡ stop.Damaged damage = is in cc)) memory_says
+        stored_stopped stored.Memory none has formed undamaged rose = stored_stop (stop_of_stored at stored.Memory) tt (λ damage is. absurd (let no : stop_of_stored at stored.Memory ≡ stop.Damaged damage = is in cc)) memory_says

@@ -17,8 +17,8 @@ use Rattle.dv_app.specs.declared.replies.Reply.{Reply}
 use Rattle.dv_app.specs.declared.stops.Stop.{Stop}
 use Rattle.dv_app.specs.declared.stops.Stop.TheVariants as stop
 use Rattle.dv_app.specs.Changes.{Leaves}
-use Rattle.dv_app.specs.Damaged.{HasDamage, IsFound, NamesDamage}
-use Rattle.dv_app.specs.Kept.{KeptSays, Rises, risen, text_or}
+use Rattle.dv_app.specs.Damaged.{Finds, NamesDamage}
+use Rattle.dv_app.specs.Kept.{KeptSays, risen, text_or}
 use Rattle.dv_app.specs.Replies as replies
 use Rattle.dv_app.specs.Keyed.{Keyed}
 use Rattle.dv_outside.specs.Seen.{Seen}
@@ -54,7 +54,7 @@ module _ (command : KeptCommand) (k : Keyed) (told : Option Store) where
   pub names_none : (said : Tried) → IsUndamaged said → NamesDamage command k told said
   names_none said undamaged = λ is. absurd (undamaged is)
 
-  pub named_by : (s : Stop) → ((damage : Damage) → s ≡ stop.Damaged damage → IsFound (λ store. HasDamage command k.hashes k.width store damage) k.hashes told) → NamesDamage command k told (said_of s)
+  pub named_by : (s : Stop) → ((damage : Damage) → s ≡ stop.Damaged damage → Finds command k told damage) → NamesDamage command k told (said_of s)
   named_by (stop.Damaged damage) found = λ is. (damage, refl, found damage refl)
   named_by (stop.Ended (endings.BadMapping e)) found = names_none _ (λ is. let no : statuses.Mapping ≡ statuses.Damaged = is in cc)
   named_by (stop.Ended (endings.BadQuery rule)) found = names_none _ (λ is. let no : statuses.Refused ≡ statuses.Damaged = is in cc)
@@ -79,7 +79,7 @@ module _ (command : KeptCommand) (k : Keyed) (folder : Seen (List NamedFile)) (k
     damage = names_none command k keeper.old memory_said memory_undamaged;
   }
 
-  pub stop_works : (s : Stop) → IsStopCause (risen folder keeper) s → ((damage : Damage) → s ≡ stop.Damaged damage → IsFound (λ store. HasDamage command k.hashes k.width store damage) k.hashes keeper.old)
+  pub stop_works : (s : Stop) → IsStopCause (risen folder keeper) s → ((damage : Damage) → s ≡ stop.Damaged damage → Finds command k keeper.old damage)
       → Says (said_of s) → Leaves command keeper (said_of s) → Says memory_said → Leaves command keeper memory_said → Works command k folder keeper (Err s)
   stop_works s cause found says leaves memory leaves_so = (
     record { says = says; cause = line_cause (risen folder keeper) s cause; leaves = leaves; damage = named_by command k keeper.old s found },
@@ -87,7 +87,7 @@ module _ (command : KeptCommand) (k : Keyed) (folder : Seen (List NamedFile)) (k
   )
 
   -- where the store is left
-  pub left_works : (left : keeper.new ≡ keeper.old) (s : Stop) → IsStopCause (risen folder keeper) s → ((damage : Damage) → s ≡ stop.Damaged damage → IsFound (λ store. HasDamage command k.hashes k.width store damage) k.hashes keeper.old)
+  pub left_works : (left : keeper.new ≡ keeper.old) (s : Stop) → IsStopCause (risen folder keeper) s → ((damage : Damage) → s ≡ stop.Damaged damage → Finds command k keeper.old damage)
       → Says (said_of s) → Says memory_said → Works command k folder keeper (Err s)
   left_works left s cause found says memory = stop_works s cause found says (inl left) memory (inl left)
 

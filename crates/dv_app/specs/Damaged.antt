@@ -11,8 +11,8 @@ use Rattle.dv_records.specs.declared.snapshots.SnapHead.{SnapHead}
 use Rattle.dv_records.specs.declared.snapshots.SnapId.{SnapId}
 use Rattle.dv_records.specs.declared.stores.Store.{Store}
 use Rattle.dv_snapshots.specs.StoredRows.{asked_of, head_at}
-use Rattle.dv_snapshots.specs.StoredTexts.{IsDamageOf}
-use Rattle.dv_start.specs.Damages.{IsFirstDamage, IsNotRead}
+use Rattle.dv_snapshots.specs.StoredTexts.{IsDamageOf, IsRowOf}
+use Rattle.dv_start.specs.Damages.{IsFirstDamage, IsNamedBySome, IsNotRead}
 use Rattle.dv_try.specs.Tried.{Tried, ended}
 use Rattle.dv_app.specs.Kept.{IsOpenedBy, IsStanding, stored_id}
 use Rattle.dv_app.specs.Lines.{damaged_line}
@@ -38,13 +38,30 @@ HasDamage Init hashes width store damage = IsNotRead store damage
 HasDamage (Stored table date) hashes width store damage = IsFirstDamage hashes width store damage ⊎ IsTableDamage hashes width table date store damage
 HasDamage command hashes width store damage = IsFirstDamage hashes width store damage
 
+-- it names a row that the table may have in a snapshot
+abbrev pub IsRowIn : StoredTable → Damage → Type 0
+IsRowIn table damage = (mapping : Mapping) × (id : SnapId) × (stored_id mapping table ≡ Some id) × IsRowOf mapping id damage
+
+-- whatever is stored, the damage names a place and a rule that there may be
+abbrev pub MayBe : KeptCommand → Damage → Type 0
+MayBe (Stored table date) damage = IsNamedBySome damage ⊎ IsRowIn table damage
+MayBe command damage = IsNamedBySome damage
+
 -- it is found of a store that, where it is told, has it, and stands for no state
-pub record IsFound (Has : Store → Type 0) (hashes : Hashes) (told : Option Store) : Type 0 where
+pub record IsFound (Has : Store → Type 0) (May : Type 0) (hashes : Hashes) (told : Option Store) : Type 0 where
   pub has : Told told Has
+  pub may : May
   pub stands_for_none : IsStanding hashes told → ⊥
+
+-- the first damage of the store
+abbrev pub FindsFirst : Keyed → Option Store → Damage → Type 0
+FindsFirst k told damage = IsFound (λ store. IsFirstDamage k.hashes k.width store damage) (IsNamedBySome damage) k.hashes told
+
+-- the damage of a command
+abbrev pub Finds : KeptCommand → Keyed → Option Store → Damage → Type 0
+Finds command k told damage = IsFound (λ store. HasDamage command k.hashes k.width store damage) (MayBe command damage) k.hashes told
 
 -- with the status for damage such a damage is named
 abbrev pub NamesDamage : KeptCommand → Keyed → Option Store → Tried → Type 0
 NamesDamage command k told said =
-    said.status ≡ statuses.Damaged
-    → (damage : Damage) × (said ≡ ended statuses.Damaged (damaged_line damage)) × IsFound (λ store. HasDamage command k.hashes k.width store damage) k.hashes told
+    said.status ≡ statuses.Damaged → (damage : Damage) × (said ≡ ended statuses.Damaged (damaged_line damage)) × Finds command k told damage

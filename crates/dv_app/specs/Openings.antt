@@ -1,15 +1,14 @@
 -- An office that is opened over what is kept, or why there is none.
-use Rattle.std.specs.Prelude.{◌≡◌, ◌⊎◌, ℕ, false, List, Option, length}
+use Rattle.std.specs.Prelude.{◌≡◌, ◌⊎◌, false, List, Option, length}
 use Rattle.dv_text.specs.declared.rows.Key.{Key}
 use Rattle.dv_text.specs.Told.{Told}
 use Rattle.dv_bridge.specs.ZeroKeys.{HasZeroKeys}
 use Rattle.dv_records.specs.declared.answers.Damage.{Damage}
 use Rattle.dv_records.specs.declared.stores.Store.{Store}
-use Rattle.dv_start.specs.Damages.{IsFirstDamage}
 use Rattle.dv_window.specs.Offices.{Agrees, Held, StandsFor}
 use Rattle.dv_app.specs.declared.stops.Stop.{Stop}
 use Rattle.dv_app.specs.declared.stops.Stop.TheVariants as stop
-use Rattle.dv_app.specs.Damaged.{IsFound}
+use Rattle.dv_app.specs.Damaged.{FindsFirst}
 use Rattle.dv_app.specs.Kept.{InEach, IsOpenedBy, IsShut, unread}
 use Rattle.dv_app.specs.Keyed.{Keyed}
 use Rattle.dv_outside.specs.Seen.{Seen}
@@ -29,5 +28,5 @@ pub record IsOpen (k : Keyed) (told : Option Store) (office : Held) : Type 0 whe
 -- the store is shut, the keeper failed, or memory ran out
 pub record IsUnopened (k : Keyed) (keeper : Seen Store) (s : Stop) : Type 0 where
   pub shut : Told keeper.old (λ store. IsShut k.hashes k.width store (said_of s) ⊎ IsBreak s)
-  pub found : (damage : Damage) → s ≡ stop.Damaged damage → IsFound (λ store. IsFirstDamage k.hashes k.width store damage) k.hashes keeper.old
+  pub found : (damage : Damage) → s ≡ stop.Damaged damage → FindsFirst k keeper.old damage
   pub cause : IsStopCause (unread keeper) s

@@ -15,7 +15,7 @@ use Rattle.dv_try.specs.Lines.{memory_line}
 use Rattle.dv_try.specs.Says.{Gives, TrySays, Trial, tried_of}
 use Rattle.dv_try.specs.Tried.{Tried}
 use Rattle.dv_app.specs.Changes.{Leaves}
-use Rattle.dv_app.specs.Damaged.{HasDamage}
+use Rattle.dv_app.specs.Damaged.{HasDamage, MayBe}
 use Rattle.dv_app.specs.Kept.{KeptSays, Rises, risen}
 use Rattle.dv_app.specs.Lines.{damaged_line, keeper_line, usage_line}
 use Rattle.dv_app.specs.Replies.{EndsAs, IsDamagedText, IsMappingText, IsUnreadText, heard}
@@ -60,10 +60,11 @@ ChangesAsSaid _ keeper out err result = keeper.new ≡ keeper.old
 
 -- ---- damage
 
--- the last line names a damage that the store has, where it is told
+-- the last line names a damage that the store has, where it is told, and else one that it may have
 abbrev pub DamageIsNamed : Command → Keyed → Option Store → Seen (List ℕ) → Type 0
 DamageIsNamed (OnKeeper command) k told err =
-    (damage : Damage) × (err.new ≡ after err.old (damaged_line damage)) × Told told (λ store. HasDamage command k.hashes k.width store damage)
+    (damage : Damage) × (err.new ≡ after err.old (damaged_line damage))
+    × Told told (λ store. HasDamage command k.hashes k.width store damage) × MayBe command damage
 DamageIsNamed _ k told err = ⊥
 
 -- ---- causes

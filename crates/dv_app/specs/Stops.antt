@@ -4,11 +4,13 @@ use Rattle.dv_outside.specs.declared.statuses.Status.{Status}
 use Rattle.dv_outside.specs.declared.statuses.Status.TheVariants as statuses
 use Rattle.dv_records.specs.declared.keepers.KeeperError.{KeeperError}
 use Rattle.dv_records.specs.declared.keepers.KeeperError.TheVariants as errors
-use Rattle.dv_start.specs.declared.faults.StartFault.{StartFault}
-use Rattle.dv_start.specs.declared.faults.StartFault.TheVariants as faults
+use Rattle.dv_start.specs.declared.faults.StoreFault.{StoreFault}
+use Rattle.dv_start.specs.declared.faults.StoreFault.TheVariants as unread
 use Rattle.dv_mart.specs.declared.query_rules.QueryRule.TheVariants.{NoSnapshot}
 use Rattle.dv_snapshots.specs.declared.stored.StoredFault.{StoredFault}
 use Rattle.dv_snapshots.specs.declared.stored.StoredFault.TheVariants as stored
+use Rattle.dv_window.specs.declared.faults.StartFault.{StartFault}
+use Rattle.dv_window.specs.declared.faults.StartFault.TheVariants as faults
 use Rattle.dv_try.specs.declared.endings.Ending.TheVariants as endings
 use Rattle.dv_try.specs.Endings.{line_of_ending, status_of as status_of_ending}
 use Rattle.dv_try.specs.Tried.{Tried, ended}
@@ -49,6 +51,12 @@ stop_of_start faults.NoMapping = stop.NoMapping
 stop_of_start (faults.Damaged damage) = stop.Damaged damage
 stop_of_start faults.KeeperFault = stop.KeeperFault
 stop_of_start faults.Memory = stop.Ended endings.Memory
+
+-- of what a keeper has, which could not be read
+abbrev pub stop_of_unread : StoreFault → Stop
+stop_of_unread (unread.Damaged damage) = stop.Damaged damage
+stop_of_unread unread.KeeperFault = stop.KeeperFault
+stop_of_unread unread.Memory = stop.Ended endings.Memory
 
 abbrev pub stop_of_error : KeeperError → Stop
 stop_of_error errors.Failed = stop.KeeperFault

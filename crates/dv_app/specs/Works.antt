@@ -3,14 +3,12 @@ use Rattle.std.specs.Prelude.{◌≡◌, ◌⊎◌, ℕ, List, Result, Ok, Err}
 use Rattle.dv_text.specs.Told.{Told}
 use Rattle.dv_outside.specs.declared.folders.NamedFile.{NamedFile}
 use Rattle.dv_outside.specs.declared.statuses.Status.TheVariants as statuses
-use Rattle.dv_records.specs.declared.answers.Damage.{Damage}
 use Rattle.dv_records.specs.declared.stores.Store.{Store}
 use Rattle.dv_try.specs.Lines.{memory_line}
 use Rattle.dv_try.specs.Tried.{Tried, ended}
 use Rattle.dv_window.specs.Offices.{Held}
 use Rattle.dv_app.specs.declared.replies.Reply.{Reply}
 use Rattle.dv_app.specs.declared.stops.Stop.{Stop}
-use Rattle.dv_app.specs.declared.stops.Stop.TheVariants as stop
 use Rattle.dv_app.specs.Changes.{Leaves}
 use Rattle.dv_app.specs.Damaged.{NamesDamage}
 use Rattle.dv_app.specs.Kept.{InitFor, KeptSays, risen, unread}

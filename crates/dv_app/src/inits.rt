@@ -15,9 +15,9 @@ use crate::stops::Stop;
 use dv_catalog::Catalog;
 use dv_outside::{Folder, Status};
 use dv_records::Keeper;
-use dv_start::{StartFault, stored_mapping};
+use dv_start::stored_mapping;
 use dv_text::Text;
-use dv_try::{Ending, MappingFile, read_mapping_file};
+use dv_try::{MappingFile, read_mapping_file};
 use std::alloc::Global;
 
 // Stores the file, where no mapping is stored.
@@ -60,15 +60,9 @@ fn init_with<K: Keeper>(alloc: Global, keeper: &mut K, file: &MappingFile) -> Re
     ensures stores { Comes (Stores file.now.bytes (seen K.store K.faults keeper.old keeper.new)) result }
     ensures later { K.faults keeper.old ≤ K.faults keeper.new }
 {
-    let stored = stored_mapping(alloc, keeper);
-    match stored {
-        Ok(catalog) => compare(alloc, &catalog, file),
-        Err(fault) => match fault {
-            StartFault::NoMapping => store_mapping(alloc, keeper, file),
-            StartFault::Damaged(damage) => Err(Stop::Damaged(damage)),
-            StartFault::KeeperFault => Err(Stop::KeeperFault),
-            StartFault::Memory => Err(Stop::Ended(Ending::Memory)),
-        },
+    match stored_mapping(alloc, keeper)? {
+        Some(catalog) => compare(alloc, &catalog, file),
+        None => store_mapping(alloc, keeper, file),
     }
 }
 

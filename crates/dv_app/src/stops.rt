@@ -9,9 +9,10 @@ use crate::lines::{DAMAGED, KEEPER_FAULT, MAPPING_DIFFERS, MAPPING_NONE};
 use crate::replies::Reply;
 use dv_outside::Status;
 use dv_records::{Damage, KeeperError};
-use dv_start::StartFault;
+use dv_start::StoreFault;
 use dv_text::{Memory, Text};
 use dv_try::{Ending, line_text};
+use dv_window::StartFault;
 use std::alloc::Global;
 
 /// Why a command on what is kept stops before its reply.
@@ -64,6 +65,21 @@ impl From<StartFault> for Stop {
             StartFault::Damaged(damage) => Stop::Damaged(damage),
             StartFault::KeeperFault => Stop::KeeperFault,
             StartFault::Memory => Stop::Ended(Ending::Memory),
+        }
+    }
+}
+
+impl From<StoreFault> for Stop {
+    ghost use Rattle.std.specs.Prelude.{◌≡◌};
+    ghost use Rattle.dv_app.specs.Stops.{stop_of_unread};
+
+    ghost from_gives = { λ fault stop. stop ≡ stop_of_unread fault };
+
+    fn from(fault: StoreFault) -> Stop {
+        match fault {
+            StoreFault::Damaged(damage) => Stop::Damaged(damage),
+            StoreFault::KeeperFault => Stop::KeeperFault,
+            StoreFault::Memory => Stop::Ended(Ending::Memory),
         }
     }
 }

@@ -12,9 +12,9 @@ use Rattle.dv_records.specs.declared.answers.Damage.{Damage}
 use Rattle.dv_records.specs.declared.stores.Store.{Store}
 use Rattle.dv_records.specs.Standing.{Stands}
 use Rattle.dv_records.specs.States.{State}
-use Rattle.dv_start.specs.Damages.{IsFirstDamage, IsInForm}
-use Rattle.dv_start.specs.declared.faults.StartFault.{StartFault}
-use Rattle.dv_start.specs.declared.faults.StartFault.TheVariants as faults
+use Rattle.dv_start.specs.Damages.{IsFirstDamage, IsInForm, IsNamedBySome}
+use Rattle.dv_window.specs.declared.faults.StartFault.{StartFault}
+use Rattle.dv_window.specs.declared.faults.StartFault.TheVariants as faults
 use Rattle.dv_window.specs.Offices.{Agrees, StandsFor}
 use Rattle.dv_desk.specs.Doors.{EndsOr, IsFaultOf, IsServeCause, IsServedOut, Started}
 use Rattle.dv_desk.specs.Lines.{line_of_fault, memory_line, status_of_fault}
@@ -22,7 +22,7 @@ use Rattle.dv_desk.specs.Turns.{Moment}
 
 -- why no office could be started
 pub fault_is : (hashes : Hashes) (width : ℕ) (store : Option Store) (before now : ℕ) (fault : StartFault) → (fault ≡ faults.NoMapping → Told store (λ s. s.mapping ≡ None))
-    → ((damage : Damage) → fault ≡ faults.Damaged damage → Told store (λ s. IsFirstDamage hashes width s damage)) → (fault ≡ faults.KeeperFault → Rose before now) → IsFaultOf hashes width store before now fault
+    → ((damage : Damage) → fault ≡ faults.Damaged damage → Told store (λ s. IsFirstDamage hashes width s damage) × IsNamedBySome damage) → (fault ≡ faults.KeeperFault → Rose before now) → IsFaultOf hashes width store before now fault
 fault_is hashes width store before now faults.NoMapping none damaged rose = none refl
 fault_is hashes width store before now (faults.Damaged damage) none damaged rose = damaged damage refl
 fault_is hashes width store before now faults.KeeperFault none damaged rose = rose refl

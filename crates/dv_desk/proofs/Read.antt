@@ -32,6 +32,7 @@ use Rattle.dv_texts.specs.Texts.{pit_text}
 use Rattle.dv_vault.proofs.OtherTables.{with_has}
 use Rattle.dv_vault.proofs.VaultFacts.{vault_has}
 use Rattle.dv_vault.specs.Vaults.{HasSealed, IsVaultOf, RawVault, has_table}
+pub use Rattle.dv_window.proofs.StartFacts.{none_of}
 use Rattle.dv_window.specs.Offices.{Agrees, Held, IsIn, StandsFor, rows_behind as behind_in_windows, staged}
 use Rattle.dv_desk.specs.declared.answers.Answer.{Answer}
 use Rattle.dv_desk.specs.declared.answers.Answer.TheVariants as answers
@@ -46,11 +47,6 @@ use Rattle.dv_desk.specs.Turns.{IsDue, ReadOffice}
 pub so_answered : {E : Type 0} (P Q : Answer → Type 0) → ((answer : Answer) → P answer → Q answer) → (r : Result Answer E) → IfOk r P → IfOk r Q
 so_answered P Q so (Ok answer) is = so answer is
 so_answered P Q so (Err e) is = tt
-
--- nothing is there where whatever there is is ruled out
-pub none_of : {A : Type 0} (o : Option A) → ((x : A) → o ≡ Some x → ⊥) → o ≡ None
-none_of None not = refl
-none_of (Some x) not = absurd (not x refl)
 
 -- a date that is no stamp needs no cause
 pub undated_quiet : {E : Type 0} (date : List ℕ) (r : Result Answer E) → IfOk r (λ answer. answer ≡ bad_date date) → IfOk r IsQuiet
@@ -67,7 +63,8 @@ undated_office held date r is = so_answered (λ answer. answer ≡ bad_date date
 pub pit_cause : (mapping : Mapping) (name date : List ℕ) (hub at : ℕ) → hub_place mapping name ≡ Some hub → stamp_of date ≡ Some at → (held : Held) (store : Option Store) (before now : ℕ) (answer : Answer)
     → IsReadCause (IsPitAt hub at) held store before now answer → IsReadCause (IsPitFor mapping name date) held store before now answer
 pit_cause mapping name date hub at named dated held store before now answers.Keeper rose = rose
-pit_cause mapping name date hub at named dated held store before now (answers.Damaged damage) (id, when, (id_is, when_is), is) = (id, when, (hub, named, dated ∙ ap Some (sym when_is), id_is), is)
+pit_cause mapping name date hub at named dated held store before now (answers.Damaged damage) (id, when, (id_is, when_is), is, row) =
+    (id, when, (hub, named, dated ∙ ap Some (sym when_is), id_is), is, row)
 pit_cause mapping name date hub at named dated held store before now (answers.NotAllowed methods) none = none
 pit_cause mapping name date hub at named dated held store before now answer cause = tt
 

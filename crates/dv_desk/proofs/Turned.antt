@@ -19,8 +19,9 @@ use Rattle.dv_records.specs.declared.snapshots.SnapId.{SnapId}
 use Rattle.dv_records.specs.declared.stores.Store.{Store}
 use Rattle.dv_records.specs.States.{State}
 use Rattle.dv_snapshots.specs.StoredTexts.{IsStoredDamage}
-use Rattle.dv_start.specs.declared.faults.StartFault.{StartFault}
-use Rattle.dv_start.specs.declared.faults.StartFault.TheVariants as faults
+use Rattle.dv_start.specs.Damages.{IsNamed}
+use Rattle.dv_start.specs.declared.faults.StoreFault.{StoreFault}
+use Rattle.dv_start.specs.declared.faults.StoreFault.TheVariants as faults
 use Rattle.dv_window.specs.Offices.{AgreesUnlessStale, Held, IsDamageFor, IsIn, IsLeftIn, LeavesOffice, LeavesStore, StaleAfter, StepsTo, made_stale}
 use Rattle.dv_desk.specs.declared.answers.Answer.{Answer}
 use Rattle.dv_desk.specs.declared.answers.Answer.TheVariants as answers
@@ -33,7 +34,7 @@ use Rattle.dv_desk.specs.Answers.{unrefreshed}
 use Rattle.dv_desk.specs.Posted.{posted}
 use Rattle.dv_desk.specs.Reads.{AreSized, IsQuiet, IsReadCause}
 use Rattle.dv_desk.specs.Routes.{Asked, asked_as, Load, Heads, MartAt, TableOf, PitAt, NotFound, NotAllowed}
-use Rattle.dv_desk.specs.Turns.{HasWidth, IsAllowed, IsAskedFor, IsCauseOf, IsDamageIn, IsDue, IsRead, IsSound, IsStoredFor, IsThere, Leads, Leaves, LoadOffice, Moment, OfficeThen, PostSays, ReadOffice, ReadSays, Says, StaleBy, StoreBy, StoreThen, Turn, answer_of, due}
+use Rattle.dv_desk.specs.Turns.{HasWidth, MayBe, IsAllowed, IsAskedFor, IsCauseOf, IsDamageIn, IsDue, IsRead, IsSound, IsStoredFor, IsThere, Leads, Leaves, LoadOffice, Moment, OfficeThen, PostSays, ReadOffice, ReadSays, Says, StaleBy, StoreBy, StoreThen, Turn, answer_of, due}
 
 -- ---- small facts
 
@@ -62,12 +63,12 @@ still_told before after same some = subst IsSome (sym same) some
 rose_before : (first before now : ℕ) → first ≤ before → Rose before now → Rose first now
 rose_before first before now less rose = omega (arith, less, rose)
 
-no_success : (result : Result (Unit {0}) StartFault) (fault : StartFault) (done : Unit {0}) → result ≡ Err fault → result ≡ Ok done → ⊥
+no_success : (result : Result (Unit {0}) StoreFault) (fault : StoreFault) (done : Unit {0}) → result ≡ Err fault → result ≡ Ok done → ⊥
 no_success (Ok other) fault done failed is = cc
 no_success (Err other) fault done failed is = cc
 
 -- an office that could not be refreshed was stale
-pub was_stale : (held : Held) (result : Result (Unit {0}) StartFault) (fault : StartFault) → result ≡ Err fault → (held.stale ≡ false → result ≡ Ok tt) → held.stale ≡ true
+pub was_stale : (held : Held) (result : Result (Unit {0}) StoreFault) (fault : StoreFault) → result ≡ Err fault → (held.stale ≡ false → result ≡ Ok tt) → held.stale ≡ true
 was_stale held result fault failed still = by held.stale refl
   where
     by : (stale : Bool) → held.stale ≡ stale → held.stale ≡ true
@@ -151,7 +152,8 @@ module _ (hashes : Hashes) (width : ℕ) (held held' : Held) (before after : Opt
   read_cause : (asked : Asked) (answer : Answer) → ReadOffice answer held held' → IsReadCause (IsStoredFor held.vault.mapping asked) held before faults_before faults answer
       → IsCauseOf hashes width asked (record { held = held; store = before; faults = faults_before }) (record { held = held'; store = after; faults = faults }) answer
   read_cause asked answers.Keeper office rose = rose
-  read_cause asked (answers.Damaged damage) office (id, at, is_for, is) = λ s told. inr (id, at, is_for, subst (λ (h : Held). IsStoredDamage h id at s.snapshots damage) (sym office) (is s told))
+  read_cause asked (answers.Damaged damage) office (id, at, is_for, is, row) =
+      (λ s told. inr (id, at, is_for, subst (λ (h : Held). IsStoredDamage h id at s.snapshots damage) (sym office) (is s told)), inr (id, at, is_for, row))
   read_cause asked answer office cause = tt
 
   pub read_turn : (asked : Asked) (answer : Answer) → IsRead asked → held.stale ≡ false → HasZeroKeys hashes → AreSized hashes width → after ≡ before → faults_before ≤ faults
@@ -288,46 +290,42 @@ memory_turn hashes width asked held before after count now is same later = still
 
 -- ---- an office that could not be refreshed
 
-module _ (hashes : Hashes) (width : ℕ) (held : Held) (before after : Option Store) (count now : ℕ) (fault : StartFault) where
+module _ (hashes : Hashes) (width : ℕ) (held : Held) (before after : Option Store) (count now : ℕ) (fault : StoreFault) where
   abbrev was : Moment
   was = record { held = held; store = before; faults = count }
 
   abbrev is_now : Moment
   is_now = record { held = held; store = after; faults = now }
 
-  unrefreshed_cause : (asked : Asked) (f : StartFault) → held.stale ≡ true → (f ≡ faults.NoMapping → ⊥) → (f ≡ faults.KeeperFault → Rose count now)
-      → ((damage : Damage) → f ≡ faults.Damaged damage → Told before (λ s. IsDamageFor held.vault.mapping hashes width s damage)) → IsCauseOf hashes width asked was is_now (unrefreshed f)
-  unrefreshed_cause asked faults.NoMapping stale mapped rose damaged = absurd (mapped refl)
-  unrefreshed_cause asked (faults.Damaged damage) stale mapped rose damaged = λ s told. inl (stale, damaged damage refl s told)
-  unrefreshed_cause asked faults.KeeperFault stale mapped rose damaged = rose refl
-  unrefreshed_cause asked faults.Memory stale mapped rose damaged = tt
+  unrefreshed_cause : (asked : Asked) (f : StoreFault) → held.stale ≡ true → (f ≡ faults.KeeperFault → Rose count now)
+      → ((damage : Damage) → f ≡ faults.Damaged damage → Told before (λ s. IsDamageFor held.vault.mapping hashes width s damage) × IsNamed held.vault.mapping damage) → IsCauseOf hashes width asked was is_now (unrefreshed f)
+  unrefreshed_cause asked (faults.Damaged damage) stale rose damaged = let found = damaged damage refl in (λ s told. inl (stale, found.0 s told), inl found.1)
+  unrefreshed_cause asked faults.KeeperFault stale rose damaged = rose refl
+  unrefreshed_cause asked faults.Memory stale rose damaged = tt
 
-  unrefreshed_stale : (f : StartFault) → held.stale ≡ true → StaleBy (unrefreshed f) held.stale held.stale
-  unrefreshed_stale faults.NoMapping stale = stale
+  unrefreshed_stale : (f : StoreFault) → held.stale ≡ true → StaleBy (unrefreshed f) held.stale held.stale
   unrefreshed_stale (faults.Damaged damage) stale = λ is. is
   unrefreshed_stale faults.KeeperFault stale = stale
   unrefreshed_stale faults.Memory stale = λ is. is
 
-  unrefreshed_allowed : (f : StartFault) → IsAllowed (unrefreshed f)
-  unrefreshed_allowed faults.NoMapping = tt
+  unrefreshed_allowed : (f : StoreFault) → IsAllowed (unrefreshed f)
   unrefreshed_allowed (faults.Damaged damage) = tt
   unrefreshed_allowed faults.KeeperFault = tt
   unrefreshed_allowed faults.Memory = tt
 
-  unrefreshed_says : (state : State) (f : StartFault) → ((damage : Damage) → f ≡ faults.Damaged damage → ⊥) → (asked : Asked) → IsThere asked → Says held.vault.mapping hashes state before before asked (unrefreshed f) state
-  unrefreshed_says state faults.NoMapping sound asked is = says_broken held.vault.mapping hashes state before answers.Keeper (inl refl) asked is
+  unrefreshed_says : (state : State) (f : StoreFault) → ((damage : Damage) → f ≡ faults.Damaged damage → ⊥) → (asked : Asked) → IsThere asked → Says held.vault.mapping hashes state before before asked (unrefreshed f) state
   unrefreshed_says state (faults.Damaged damage) sound asked is = absurd (sound damage refl)
   unrefreshed_says state faults.KeeperFault sound asked is = says_broken held.vault.mapping hashes state before answers.Keeper (inl refl) asked is
   unrefreshed_says state faults.Memory sound asked is = says_broken held.vault.mapping hashes state before answers.Memory (inr refl) asked is
 
   pub unrefreshed_turn : (asked : Asked) → IsThere asked → held.stale ≡ true → after ≡ before → count ≤ now
-      → (fault ≡ faults.NoMapping → ⊥) → (fault ≡ faults.KeeperFault → Rose count now)
-      → ((damage : Damage) → fault ≡ faults.Damaged damage → Told before (λ s. IsDamageFor held.vault.mapping hashes width s damage))
+      → (fault ≡ faults.KeeperFault → Rose count now)
+      → ((damage : Damage) → fault ≡ faults.Damaged damage → Told before (λ s. IsDamageFor held.vault.mapping hashes width s damage) × IsNamed held.vault.mapping damage)
       → ((damage : Damage) → fault ≡ faults.Damaged damage → (state : State) → IsIn hashes state held before → ⊥)
       → Turn hashes width asked (unrefreshed fault) was is_now
-  unrefreshed_turn asked is stale same later mapped rose damaged undamaged = still_turn hashes width asked (unrefreshed fault) held before after count now same later
+  unrefreshed_turn asked is stale same later rose damaged undamaged = still_turn hashes width asked (unrefreshed fault) held before after count now same later
       (λ state is_in. unrefreshed_says state fault (λ damage broken. undamaged damage broken state is_in) asked is)
-      (unrefreshed_cause asked fault stale mapped rose damaged) (asked_there asked (unrefreshed fault) is (unrefreshed_allowed fault))
+      (unrefreshed_cause asked fault stale rose damaged) (asked_there asked (unrefreshed fault) is (unrefreshed_allowed fault))
       (still_leaves asked (unrefreshed fault) held before after count now is same (unrefreshed_stale fault stale) (λ fresh. absurd (false≢true (sym fresh ∙ stale))))
 
 -- ---- a window that was given to the office
@@ -370,9 +368,9 @@ loaded_office load.Memory held held' left = tt
 
 module _ (hashes : Hashes) (width : ℕ) (before after : Moment) (came : LoadAnswer) where
   loaded_cause : (asked : Asked) (c : LoadAnswer) → StaleAfter c before.held.stale after.held.stale → (c ≡ load.KeeperFault → Rose before.faults after.faults)
-      → ((damage : Damage) → c ≡ load.Damaged damage → Told before.store (λ s. IsDamageFor before.held.vault.mapping hashes width s damage)) → IsCauseOf hashes width asked before after (answer_of c)
+      → ((damage : Damage) → c ≡ load.Damaged damage → Told before.store (λ s. IsDamageFor before.held.vault.mapping hashes width s damage) × IsNamed before.held.vault.mapping damage) → IsCauseOf hashes width asked before after (answer_of c)
   loaded_cause asked load.KeeperFault stale rose damaged = rose refl
-  loaded_cause asked (load.Damaged damage) stale rose damaged = λ s told. inl (stale.0, damaged damage refl s told)
+  loaded_cause asked (load.Damaged damage) stale rose damaged = let found = damaged damage refl in (λ s told. inl (stale.0, found.0 s told), inl found.1)
   loaded_cause asked (load.Loaded rows) stale rose damaged = tt
   loaded_cause asked load.Repeated stale rose damaged = tt
   loaded_cause asked (load.Refused rule) stale rose damaged = tt
@@ -383,7 +381,7 @@ module _ (hashes : Hashes) (width : ℕ) (before after : Moment) (came : LoadAns
       → LeavesStore came before.store after.store
       → LeavesOffice came before.held after.held
       → StaleAfter came before.held.stale after.held.stale
-      → ((damage : Damage) → came ≡ load.Damaged damage → Told before.store (λ s. IsDamageFor before.held.vault.mapping hashes width s damage))
+      → ((damage : Damage) → came ≡ load.Damaged damage → Told before.store (λ s. IsDamageFor before.held.vault.mapping hashes width s damage) × IsNamed before.held.vault.mapping damage)
       → ((damage : Damage) → came ≡ load.Damaged damage → (state : State) → IsIn hashes state before.held before.store → ⊥)
       → (came ≡ load.KeeperFault → Rose before.faults after.faults)
       → after.held.vault.mapping ≡ before.held.vault.mapping
@@ -438,7 +436,8 @@ module _ (hashes : Hashes) (width : ℕ) (asked : Asked) (answer : Answer) (befo
   cause_behind : (a : Answer) → mid.held.stale ≡ false → mid.held.vault.mapping ≡ before.held.vault.mapping → mid.store ≡ before.store → before.faults ≤ mid.faults
       → IsCauseOf hashes width asked mid after a → IsCauseOf hashes width asked before after a
   cause_behind answers.Keeper fresh mapped same later rose = rose_before before.faults mid.faults after.faults later rose
-  cause_behind (answers.Damaged damage) fresh mapped same later is = λ s told. by s (is s (same ∙ told))
+  cause_behind (answers.Damaged damage) fresh mapped same later is =
+      (λ s told. by s (is.0 s (same ∙ told)), subst (λ (m : Mapping). MayBe m asked damage) mapped is.1)
     where
       by : (s : Store) → IsDamageIn hashes width asked mid after s damage → IsDamageIn hashes width asked before after s damage
       by s (inl read) = absurd (false≢true (sym fresh ∙ read.0))

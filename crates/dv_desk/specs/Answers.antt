@@ -9,8 +9,8 @@ use Rattle.dv_http.specs.declared.replies.ReplyKind.TheVariants.{Json, Csv}
 use Rattle.dv_http.specs.declared.requests.WireError.{WireError}
 use Rattle.dv_http.specs.declared.requests.WireError.TheVariants as errors
 use Rattle.dv_mart.specs.QueryTexts.{query_text}
-use Rattle.dv_start.specs.declared.faults.StartFault.{StartFault}
-use Rattle.dv_start.specs.declared.faults.StartFault.TheVariants as faults
+use Rattle.dv_start.specs.declared.faults.StoreFault.{StoreFault}
+use Rattle.dv_start.specs.declared.faults.StoreFault.TheVariants as faults
 use Rattle.dv_desk.specs.Bodies.{answer_body, damage_text, loaded_body, text_body}
 use Rattle.dv_desk.specs.declared.answers.Answer.{Answer}
 use Rattle.dv_desk.specs.declared.answers.Answer.TheVariants as answers
@@ -100,9 +100,8 @@ wire_answer errors.Spent = None
 wire_answer errors.ReadFault = None
 wire_answer errors.Memory = None
 
--- what is answered where a stale office could not be refreshed; its mapping is never found missing
-abbrev pub unrefreshed : StartFault → Answer
-unrefreshed faults.NoMapping = answers.Keeper
+-- what is answered where a stale office could not be refreshed
+abbrev pub unrefreshed : StoreFault → Answer
 unrefreshed (faults.Damaged damage) = answers.Damaged damage
 unrefreshed faults.KeeperFault = answers.Keeper
 unrefreshed faults.Memory = answers.Memory

@@ -13,9 +13,9 @@ use Rattle.dv_catalog.specs.Entries.{Mapping}
 use Rattle.dv_records.specs.declared.stores.Store.{Store}
 use Rattle.dv_records.specs.Standing.{Stands}
 use Rattle.dv_records.specs.States.{State}
-use Rattle.dv_start.specs.Damages.{IsFirstDamage, IsInForm}
-use Rattle.dv_start.specs.declared.faults.StartFault.{StartFault}
-use Rattle.dv_start.specs.declared.faults.StartFault.TheVariants as faults
+use Rattle.dv_start.specs.Damages.{IsFirstDamage, IsInForm, IsNamedBySome}
+use Rattle.dv_window.specs.declared.faults.StartFault.{StartFault}
+use Rattle.dv_window.specs.declared.faults.StartFault.TheVariants as faults
 use Rattle.dv_window.specs.Offices.{Agrees, StandsFor}
 use Rattle.dv_desk.specs.declared.served.Served.{Served}
 use Rattle.dv_desk.specs.Lines.{doors_line, line_of_fault, memory_line, status_of_fault}
@@ -77,7 +77,7 @@ pub record ServesAll {L : Type 0} (hashes : Hashes) (width : ℕ) (tells : Tells
 -- why no office could be started over a store
 abbrev pub IsFaultOf : Hashes → ℕ → Option Store → ℕ → ℕ → StartFault → Type 0
 IsFaultOf hashes width store before now faults.NoMapping = Told store (λ s. s.mapping ≡ None)
-IsFaultOf hashes width store before now (faults.Damaged damage) = Told store (λ s. IsFirstDamage hashes width s damage)
+IsFaultOf hashes width store before now (faults.Damaged damage) = Told store (λ s. IsFirstDamage hashes width s damage) × IsNamedBySome damage
 IsFaultOf hashes width store before now faults.KeeperFault = Rose before now
 IsFaultOf hashes width store before now faults.Memory = Unit {0}
 

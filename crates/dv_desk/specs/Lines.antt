@@ -4,8 +4,8 @@ use Rattle.dv_outside.specs.Ends.{line_of}
 use Rattle.dv_outside.specs.declared.statuses.Status.{Status}
 use Rattle.dv_outside.specs.declared.statuses.Status.TheVariants as statuses
 use Rattle.dv_records.specs.declared.answers.Damage.{Damage}
-use Rattle.dv_start.specs.declared.faults.StartFault.{StartFault}
-use Rattle.dv_start.specs.declared.faults.StartFault.TheVariants as faults
+use Rattle.dv_window.specs.declared.faults.StartFault.{StartFault}
+use Rattle.dv_window.specs.declared.faults.StartFault.TheVariants as faults
 use Rattle.dv_desk.specs.Bodies.{damage_text}
 
 -- the line where memory ran out

@@ -10,7 +10,7 @@ use Rattle.dv_records.specs.declared.snapshots.SnapId.{SnapId}
 use Rattle.dv_records.specs.declared.snapshots.SnapId.TheVariants.{Pit}
 use Rattle.dv_records.specs.declared.stores.Store.{Store}
 use Rattle.dv_records.specs.States.{State}
-use Rattle.dv_snapshots.specs.StoredTexts.{IsStoredDamage}
+use Rattle.dv_snapshots.specs.StoredTexts.{IsRowOf, IsStoredDamage}
 use Rattle.dv_window.specs.Offices.{Held, IsIn}
 use Rattle.dv_desk.specs.declared.answers.Answer.{Answer}
 use Rattle.dv_desk.specs.declared.answers.Answer.TheVariants as answers
@@ -37,7 +37,7 @@ IsQuiet answer = Unit {0}
 abbrev pub IsReadCause : (SnapId → ℕ → Type 0) → Held → Option Store → ℕ → ℕ → Answer → Type 0
 IsReadCause IsFor held store before now answers.Keeper = Rose before now
 IsReadCause IsFor held store before now (answers.Damaged damage) =
-    (id : SnapId) × (at : ℕ) × IsFor id at × Told store (λ s. IsStoredDamage held id at s.snapshots damage)
+    (id : SnapId) × (at : ℕ) × IsFor id at × Told store (λ s. IsStoredDamage held id at s.snapshots damage) × IsRowOf held.vault.mapping id damage
 IsReadCause IsFor held store before now (answers.NotAllowed methods) = ⊥
 IsReadCause IsFor held store before now answer = Unit {0}
 

@@ -15,7 +15,8 @@ use Rattle.dv_records.specs.declared.stores.Store.{Store}
 use Rattle.dv_records.specs.Standing.{Stands}
 use Rattle.dv_records.specs.States.{State}
 use Rattle.dv_records.specs.Steps.{LoadStep}
-use Rattle.dv_snapshots.specs.StoredTexts.{IsStoredDamage}
+use Rattle.dv_snapshots.specs.StoredTexts.{IsRowOf, IsStoredDamage}
+use Rattle.dv_start.specs.Damages.{IsNamed}
 use Rattle.dv_window.specs.Offices.{Held, IsDamageFor, IsIn, IsLeftIn, LeavesStore, made_stale}
 use Rattle.dv_desk.specs.declared.answers.Answer.{Answer}
 use Rattle.dv_desk.specs.declared.answers.Answer.TheVariants as answers
@@ -120,10 +121,14 @@ IsDamageIn hashes width asked before after store damage =
     ((before.held.stale ≡ true) × IsDamageFor before.held.vault.mapping hashes width store damage)
     ⊎ ((id : SnapId) × (at : ℕ) × IsStoredFor before.held.vault.mapping asked id at × IsStoredDamage after.held id at store.snapshots damage)
 
+-- whatever is stored, it names a place and a rule that there may be, by the mapping, or a row of the table that is asked for
+abbrev pub MayBe : Mapping → Asked → Damage → Type 0
+MayBe mapping asked damage = IsNamed mapping damage ⊎ ((id : SnapId) × (at : ℕ) × IsStoredFor mapping asked id at × IsRowOf mapping id damage)
+
 abbrev pub IsCauseOf : Hashes → ℕ → Asked → Moment → Moment → Answer → Type 0
 IsCauseOf hashes width asked before after answers.Keeper = Rose before.faults after.faults
 IsCauseOf hashes width asked before after (answers.Damaged damage) =
-    Told before.store (λ store. IsDamageIn hashes width asked before after store damage)
+    Told before.store (λ store. IsDamageIn hashes width asked before after store damage) × MayBe before.held.vault.mapping asked damage
 IsCauseOf hashes width asked before after answer = Unit {0}
 
 -- it isn't that the route has no such method

@@ -8,7 +8,7 @@ use dv_catalog::{Rule, rule_text};
 use dv_http::{Reply, ReplyKind, WireError};
 use dv_mart::QueryRule;
 use dv_records::{Damage, LoadAnswer};
-use dv_start::StartFault;
+use dv_start::StoreFault;
 use dv_text::{Memory, Text};
 use std::alloc::Global;
 
@@ -64,13 +64,13 @@ impl From<LoadAnswer> for Answer {
 }
 
 /// The answer where a stale office could not be refreshed.
-pub(crate) fn unrefreshed(fault: StartFault) -> Answer
+pub(crate) fn unrefreshed(fault: StoreFault) -> Answer
     ensures { result ≡ spec.unrefreshed fault }
 {
     match fault {
-        StartFault::NoMapping | StartFault::KeeperFault => Answer::Keeper,
-        StartFault::Damaged(damage) => Answer::Damaged(damage),
-        StartFault::Memory => Answer::Memory,
+        StoreFault::Damaged(damage) => Answer::Damaged(damage),
+        StoreFault::KeeperFault => Answer::Keeper,
+        StoreFault::Memory => Answer::Memory,
     }
 }
 

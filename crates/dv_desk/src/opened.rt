@@ -18,9 +18,8 @@ use crate::lines::{DAMAGED, DOORS_FAULT, KEEPER_FAULT, MAPPING_NONE, MEMORY};
 use crate::serving::serve_link;
 use dv_outside::{Doors, Failed, Gate, Sink, Status, end, end_named};
 use dv_records::{Damage, Keeper};
-use dv_start::StartFault;
 use dv_text::{KeyDigest, Memory};
-use dv_window::Office;
+use dv_window::{Office, StartFault};
 use std::alloc::Global;
 
 // Ends with the line of a damaged store.

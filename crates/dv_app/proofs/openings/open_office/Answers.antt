@@ -10,7 +10,7 @@ pub returns-in_err-start-clause-shut : goal.returns-in_err-start-clause-shut
 returns-in_err-start-clause-shut g c =
     let p = err_from_is_err_and c.from_residual.result c.from_residual.ensures.1 in
     rw (p.1, p.2) (unstarted (keyed g.H.KeyDigest.digest_of g.H.KeyDigest.size) (seen g.K.Keeper.store g.K.Keeper.faults c.args.keeper.now c.start.new.keeper) _
-    c.in_err-start.ensures.none c.in_err-start.ensures.damaged c.in_err-start.ensures.undamaged c.in_err-start.ensures.cause)
+    c.in_err-start.ensures.none c.in_err-start.ensures.damaged c.in_err-start.ensures.undamaged c.in_err-start.ensures.formed c.in_err-start.ensures.cause)
 
 pub returns-clause-ok : goal.returns-clause-ok
 returns-clause-ok g c = record {

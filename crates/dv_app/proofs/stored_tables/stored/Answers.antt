@@ -1,4 +1,4 @@
-use Rattle.dv_try.proofs.Vocabulary.{err_from_is_err_and, subst, sym, ◌∙◌}
+use Rattle.dv_try.proofs.Vocabulary.{err_from_is_err_and, subst, sym}
 use Rattle.dv_app.specs.Openings.{IsOpen}
 use Rattle.dv_app.specs.Keyed.{keyed}
 use Rattle.dv_outside.specs.Seen.{seen}

@@ -36,4 +36,4 @@ returns-in-Err-clause-works g c = λ k is_open folder.
     rw c.stop_of.ensures
     (stored_stopped k c.args.office.now keeper is_open c.stored_text.ensures.kept (stored_of c.args.table.now) c.args.date.now folder c.in_ok-id.id
     (ap (λ m. stored_id m (stored_of c.args.table.now)) (sym c.catalog.ensures.value) ∙ c.in_ok-id.ensures.ok) c.in_ok-date.date c.in_ok-date.ensures.ok
-    c.in-Err.fault c.in-Err.ensures.absent.0 c.in-Err.ensures.damaged (λ damage is state store e is_in. c.in-Err.ensures.undamaged damage is k.hashes state store e is_in (wide k c.args.office.now keeper is_open)) c.in-Err.ensures.cause)
+    c.in-Err.fault c.in-Err.ensures.absent.0 c.in-Err.ensures.damaged c.in-Err.ensures.formed (λ damage is state store e is_in. c.in-Err.ensures.undamaged damage is k.hashes state store e is_in (wide k c.args.office.now keeper is_open)) c.in-Err.ensures.cause)

@@ -14,7 +14,7 @@ pub returns-in-Err-clause-says : goal.returns-in-Err-clause-says
 returns-in-Err-clause-says g c = inl (record {
   fault = c.in-Err.fault;
   is_fault = fault_is (hashes_of g.H.KeyDigest.digest_of g.H.KeyDigest.size) g.H.KeyDigest.size (g.K.Keeper.store c.args.keeper.now) (g.K.Keeper.faults c.args.keeper.now) (g.K.Keeper.faults c.start.new.keeper) c.in-Err.fault
-      (λ e. c.in-Err.ensures.none (ap Err e)) (λ damage e. c.in-Err.ensures.damaged damage (ap Err e)) (λ e. c.in-Err.ensures.cause (ap Err e));
+      (λ e. c.in-Err.ensures.none (ap Err e)) (λ damage e. (c.in-Err.ensures.damaged damage (ap Err e), c.in-Err.ensures.formed damage (ap Err e))) (λ e. c.in-Err.ensures.cause (ap Err e));
   doors = refl;
   store = c.start.ensures.store;
   ends = c.end_unstarted.ensures.says;

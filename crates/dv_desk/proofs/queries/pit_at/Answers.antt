@@ -22,7 +22,10 @@ returns-in-Err-Damaged-clause-due g c = λ hashes state s told is_in sized.
     absurd ((c.in-Err-Damaged.ensures {u = tt}).undamaged c.in-Err-Damaged.damage (ap Err c.in-Err-Damaged.field-0-is) hashes state s told is_in sized)
 
 pub returns-in-Err-Damaged-clause-cause : goal.returns-in-Err-Damaged-clause-cause
-returns-in-Err-Damaged-clause-cause g c = (Pit c.args.hub, c.args.date, (refl, refl), (c.in-Err-Damaged.ensures {u = tt}).damaged c.in-Err-Damaged.damage (ap Err c.in-Err-Damaged.field-0-is))
+returns-in-Err-Damaged-clause-cause g c =
+    let broken = c.in-Err-Damaged.ensures {u = tt} in
+    let is = ap Err c.in-Err-Damaged.field-0-is in
+    (Pit c.args.hub, c.args.date, (refl, refl), broken.damaged c.in-Err-Damaged.damage is, broken.formed c.in-Err-Damaged.damage is)
 
 pub returns-in-Ok-clause-office : goal.returns-in-Ok-clause-office
 returns-in-Ok-clause-office g c = c.in-Ok.ensures.left (no_fault c.in-Ok.text stored.KeeperFault)

@@ -29,4 +29,4 @@ returns-in-Err-clause-turn g c =
     (sym c.in-Err.ensures.kept)
     (unrefreshed_turn hashes g.H.KeyDigest.size office store store' count now c.in-Err.fault asked c.requires.there
     (was_stale c.args.office.now (Err c.in-Err.fault) c.in-Err.fault refl (λ fresh. (c.in-Err.ensures.still fresh).0)) c.in-Err.ensures.store c.in-Err.ensures.later
-    (λ e. c.in-Err.ensures.mapped (ap Err e)) (λ e. c.in-Err.ensures.cause (ap Err e)) (λ damage e. c.in-Err.ensures.damaged damage (ap Err e)) (λ damage e. c.in-Err.ensures.undamaged damage (ap Err e))))
+    (λ e. c.in-Err.ensures.cause (ap Err e)) (λ damage e. (c.in-Err.ensures.damaged damage (ap Err e), c.in-Err.ensures.formed damage (ap Err e))) (λ damage e. c.in-Err.ensures.undamaged damage (ap Err e))))

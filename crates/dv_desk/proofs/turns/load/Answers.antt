@@ -12,7 +12,7 @@ returns-in-Ok-Given-clause-turn g c =
     let before : Moment = record { held = c.args.office.now; store = g.K.Keeper.store c.args.keeper.now; faults = g.K.Keeper.faults c.args.keeper.now } in
     let after : Moment = record { held = c.load-came.new.self; store = g.K.Keeper.store c.load-came.new.keeper; faults = g.K.Keeper.faults c.load-came.new.keeper } in
     rw c.from.ensures (load_turn (hashes_of g.H.KeyDigest.digest_of g.H.KeyDigest.size) g.H.KeyDigest.size before after c.load-came.result c.args.body.now c.in-Ok-Given.given
-    (sym c.in-Ok-Given.ensures ∙ c.in-Ok-Given.field-0-is) c.requires.fresh c.load-came.ensures.step c.load-came.ensures.store (c.load-came.ensures.kept c.requires.fresh) c.load-came.ensures.stale c.load-came.ensures.damaged c.load-came.ensures.undamaged
+    (sym c.in-Ok-Given.ensures ∙ c.in-Ok-Given.field-0-is) c.requires.fresh c.load-came.ensures.step c.load-came.ensures.store (c.load-came.ensures.kept c.requires.fresh) c.load-came.ensures.stale (λ damage e. (c.load-came.ensures.damaged damage e, c.load-came.ensures.formed damage e)) c.load-came.ensures.undamaged
     c.load-came.ensures.cause c.load-came.ensures.mapping (c.load-came.ensures.width.0 c.requires.fresh) c.load-came.ensures.stays c.load-came.ensures.later)
 
 pub returns-in-Ok-Faulty-clause-turn : goal.returns-in-Ok-Faulty-clause-turn
