@@ -4,7 +4,7 @@ from kept.commands import EVERY_COMMAND
 from kept.orders import DATES
 from kept.program import KEEPER_FAULT, expect
 from kept.readmes import loaded_rows
-from kept.stores import change, change_row, contents, opened_copy
+from kept.stores import change, change_row, contents, opened, opened_copy
 
 NO_DIGEST = bytes(range(16))
 GREATEST_DIGEST = b"\xff" * 16
@@ -17,7 +17,6 @@ CHANGED_ROWS = (
     ("hub_customer", 1, "load_date", "2024-03-01T02:00:01", "hub_customer 1 F5"),
     ("hub_customer", 1, "load_date", DATES[1], "hub_customer 2 F6"),
     ("hub_customer", 4, "record_source", "crm.clients", "hub_customer 4 F8"),
-    ("hub_customer", 1, "part_1", None, "hub_customer 1 F4"),
     ("hub_customer", 1, "hash_key", bytes(32), "hub_customer 1 F4"),
     ("hub_product", 2, "hash_key", GREATEST_DIGEST, "hub_product 2 F7"),
     ("link_placed", 3, "hash_key", bytes(16), "link_placed 3 F7"),
@@ -44,11 +43,11 @@ CHANGED_PERIODS = (
 # The same of the example `phones`.
 CHANGED_PHONES = (
     ("msat_phones", 4, "attribute_1", "21", "msat_phones 4 F7"),
-    ("msat_phones", 4, "sub_1", None, "msat_phones 4 F4"),
+    ("msat_phones", 4, "hash_diff", bytes(32), "msat_phones 4 F4"),
 )
 
 CHANGED_WINDOWS = (
-    ("UPDATE windows SET load_date = '2024-03-01T02:00:00' WHERE load_date = '2024-04-01T02:00:00'", "windows 2 F2"),
+    ("UPDATE windows SET load_date = '2024-02-01T02:00:00' WHERE load_date = '2024-04-01T02:00:00'", "windows 2 F2"),
     ("UPDATE windows SET load_date = '2024-06-01T02:00:00' WHERE load_date = '2024-04-01T02:00:00'", "windows 3 F2"),
     ("UPDATE windows SET feeds = '4 0' WHERE load_date = '2024-05-01T02:00:00'", "windows 3 F2"),
     ("UPDATE windows SET feeds = '0 5' WHERE load_date = '2024-05-01T02:00:00'", "windows 3 F2"),
@@ -60,11 +59,11 @@ CHANGED_WINDOWS = (
 
 # What stands for no value, or for no row.
 NO_VALUES = (
-    "UPDATE rows_of_statuses SET status = 'X' WHERE number = 1",
-    "UPDATE rows_of_hubs SET load_date = 'soon' WHERE number = 1",
-    "UPDATE rows_of_hubs SET hash_key = x'00' WHERE number = 1",
+    "UPDATE rows_of_status_0 SET status = 'X' WHERE number = 1",
+    "UPDATE rows_of_hub_0 SET load_date = 'soon' WHERE number = 1",
+    "UPDATE rows_of_hub_0 SET hash_key = x'00' WHERE number = 1",
     "UPDATE windows SET feeds = 'customers' WHERE place = 1",
-    "DELETE FROM rows_of_hubs WHERE number = 1",
+    "DELETE FROM rows_of_hub_0 WHERE number = 1",
 )
 
 
@@ -97,7 +96,7 @@ def changed_periods_and_phones(bench):
 def a_key_twice(bench):
     """a key that stands twice in a hub is named"""
     vault = orders.kept(bench, 3)
-    change(vault, "UPDATE rows_of_hubs SET hash_key = ?, part_1 = 'C1' WHERE hash_key = ?", C1, C4)
+    change(vault, "UPDATE rows_of_hub_0 SET hash_key = ?, part_1 = 'C1' WHERE hash_key = ?", C1, C4)
     vault.says("windows", **damaged("hub_customer 4 F10"))
 
 
@@ -120,9 +119,9 @@ def a_changed_stage(bench):
     """an open window with another feed than the mapping's is named"""
     vault = rooms.with_open_window(bench)
     with opened_copy(vault) as connection:
-        [(content,)] = connection.execute("SELECT content FROM stage").fetchall()
-    # The load date takes eight bytes, the number of extracts four, and then comes the first one's feed.
-    change(vault, "UPDATE stage SET content = ?", content[:12] + (70_000).to_bytes(4, "big") + content[16:])
+        [(content,)] = connection.execute("SELECT extracts FROM stage").fetchall()
+    # The number of extracts takes four bytes, and then comes the first one's feed.
+    change(vault, "UPDATE stage SET extracts = ?", content[:4] + (70_000).to_bytes(4, "big") + content[8:])
     vault.says("resume", **damaged("stage 1 F3"))
 
 
@@ -136,7 +135,7 @@ def every_command_names_it(bench):
         vault.says(*words, **damaged("hub_customer 1 F7"))
     vault.says("init", err="init: Kept")
     expect("the store after each command named its damage", before, contents(vault))
-    change(vault, "UPDATE rows_of_hubs SET hash_key = ? WHERE hash_key = ?", C1, NO_DIGEST)
+    change(vault, "UPDATE rows_of_hub_0 SET hash_key = ? WHERE hash_key = ?", C1, NO_DIGEST)
     vault.says("windows", out=orders.windows_text(3))
 
 
@@ -152,17 +151,31 @@ def values_of_nothing(bench):
         bench.drop(changed)
 
 
-def lists_of_other_lengths(bench):
-    """a row has as many items as stand in its batch's columns: one more is named, and a gap is a fault"""
+def lines_of_other_rows(bench):
+    """a line of the directory that says other rows than a table has is a keeper fault, or what it leaves out is named"""
     vault = orders.kept(bench, 3)
-    text = vault.text("table", "sat_lines")
-    change(vault, "UPDATE batches SET list_columns = 2 WHERE kind = 'satellite' AND entity = 4", rows=3)
-    vault.says("table", "sat_lines", out=text)
-    change_row(vault, "sat_lines", 1, "attribute_2", "X")
-    vault.says("windows", **damaged("sat_lines 1 F4"))
-    change(vault, "UPDATE rows_of_satellites SET attribute_1 = NULL WHERE attribute_2 = 'X'")
-    vault.says("windows", **KEEPER_FAULT)
+    for said in ("row_count = row_count + 1", "row_count = 4611686018427387904", "first_row = first_row + 1",
+                 "first_row = 9223372036854775807"):
+        changed = vault.twin()
+        change(changed, f"UPDATE directory SET {said} WHERE rows_in = 'rows_of_sat_4'")
+        changed.says("windows", **KEEPER_FAULT)
+    change(vault, "DELETE FROM directory WHERE rows_in = 'rows_of_hub_0'")
+    expect("the exit status without the line of a table", 8, vault.run("windows").status)
+
+
+def a_change_without_its_sum(bench):
+    """a store that a SQLite without sums changed is a keeper fault for each command, and stays as it is"""
+    for sql in ("UPDATE windows SET feeds = '4 0' WHERE load_date = '2024-05-01T02:00:00'",
+                "DELETE FROM rows_of_sat_4 WHERE number = 1", "CREATE INDEX places ON rows_of_hub_0 (part_1)"):
+        vault = orders.kept(bench, 3)
+        with opened(vault.file("vault.db")) as connection:
+            connection.execute(sql)
+            connection.execute("PRAGMA wal_checkpoint(TRUNCATE)")
+        before = vault.file("vault.db").read_bytes()
+        for words in EVERY_COMMAND:
+            vault.says(*words, **KEEPER_FAULT)
+        expect(f"the bytes of the store after {sql}", before, vault.file("vault.db").read_bytes())
 
 
 CHECKS = (changed_rows, changed_periods_and_phones, a_key_twice, changed_windows, a_changed_mapping, a_changed_stage,
-          lists_of_other_lengths, every_command_names_it, values_of_nothing)
+          lines_of_other_rows, a_change_without_its_sum, every_command_names_it, values_of_nothing)

@@ -15,7 +15,7 @@ from kept.orders import DATES, LAST_DATE, MANIFESTS
 from kept.points import hubs_of, pit_text
 from kept.program import CheckFailed, expect, with_limits
 from kept.readmes import loaded_rows
-from kept.stores import change, contents
+from kept.stores import line_of, change, contents, opened_copy
 
 
 class ByCurl:
@@ -314,7 +314,9 @@ def damaged_rows(bench):
     vault = orders.kept(bench, 1)
     vault.run("snapshot", DATES[0])
     products = vault.text("pit", "product", DATES[0])
-    change(vault, "UPDATE snapshot_tables SET list_columns = list_columns - 1 WHERE kind = 'pit' AND entity = 0")
+    with opened_copy(vault) as connection:
+        line = line_of(connection, "pit_customer", DATES[0])
+    change(vault, f"UPDATE {line.rows_in} SET hash_key = ? WHERE number = ?", bytes(32), line.first)
     vault.says("pit", "customer", DATES[0], status=8, err="vaultdesk: damaged pit_customer 1 F4")
     with serving(vault) as desk:
         each_is(desk, [(("GET", f"/pits/customer?at={DATES[0]}"), answer(500, "Damaged", text="pit_customer 1 F4")),
@@ -327,11 +329,14 @@ def keeper_faults(bench):
     vault, unbroken = orders.kept(bench, 1), orders.kept(bench, 2)
     posted = (("POST", "/windows", window_of(vault, "w2.toml")), loaded(loaded_rows("orders")["w2.toml"]))
     elsewhere, windows = (("GET", "/nothing"), NOT_FOUND), (("GET", "/windows"), heads(orders.windows_text(2).encode()))
-    first, last = (each.file("vault.db-wal").stat().st_size for each in (vault, unbroken))
+    ended = vault.twin()
+    with serving(ended) as desk:
+        each_is(desk, [posted], [ByClient])
+    size = ended.file("vault.db-wal").stat().st_size
     for part in range(6):
         tried = vault.twin()
         with serving(tried, limits=with_limits()) as desk:
-            limit_files(desk, first + (last - first) * part // 6)
+            limit_files(desk, size * part // 6)
             each_is(desk, [(posted[0], KEEPER), elsewhere], [ByClient])
             limit_files(desk, resource.RLIM_INFINITY)
             each_is(desk, [posted, windows], [ByClient])

@@ -7,7 +7,7 @@ import time
 from typing import NamedTuple
 
 from kept.program import CheckFailed, expect
-from kept.stores import is_whole, opened, opened_copy
+from kept.stores import is_whole, opened, opened_copy, rows_of
 from kept.vaults import Vault
 
 CUSTOMERS = 300
@@ -123,8 +123,7 @@ def texts(vault):
 
 def second_rows(connection):
     """How many rows of the second window each raw table has, in table order."""
-    count = 'SELECT count(*) FROM "{}" WHERE load_date = ?'
-    return [connection.execute(count.format(table), (DATES[1],)).fetchone()[0] for table in TABLES]
+    return [sum(row[1] == DATES[1] for row in rows_of(connection, table)) for table in TABLES]
 
 
 class Unbroken(NamedTuple):

@@ -35,7 +35,7 @@ def held_by_a_reader(bench):
     vault = orders.kept(bench, 1)
     with opened(vault.file("vault.db")) as connection:
         connection.execute("BEGIN")
-        connection.execute("SELECT count(*) FROM hub_customer").fetchone()
+        connection.execute("SELECT count(*) FROM rows_of_hub_0").fetchone()
         got = vault.run("load", "w2.toml")
         answers = {0: f"{orders.line_of('w2.toml')}\n", 5: f"{KEEPER_FAULT['err']}\n"}
         expect("load while SQLite reads: its line", answers.get(got.status), got.err.decode())

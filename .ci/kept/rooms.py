@@ -62,7 +62,7 @@ def answers_with_an_open_window(bench):
 def with_open_window(bench):
     """The example with its second window open, since its files could not grow."""
     first = orders.kept(bench, 1)
-    for size in range(first.file("vault.db-wal").stat().st_size, 4_000_000, PAGE // 2):
+    for size in range(PAGE, 4_000_000, PAGE // 2):
         vault = first.twin()
         got = vault.run("load", "w2.toml", limits=with_limits(file_size=size))
         if is_keeper_fault_or_loaded(got, orders.line_of("w2.toml")):
