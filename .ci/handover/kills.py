@@ -9,11 +9,13 @@ import time
 
 from handover import nights, vaults
 from handover.sources import DATES, history
-from handover.vaults import all_texts, expect_answer, expect_texts, kept, run_tool
-from kept.program import TOP, expect
+from handover.vaults import LONGEST_RUN, all_texts, expect_answer, expect_texts, kept, run_tool
+from kept.program import TOP, all_end, expect
 
 KILLED = TOP / ".ci/handover/killed.py"
 SNAPSHOTS = (DATES[1],)
+# How a program is begun that is to be killed: with a session of its own, by which what it begins is known.
+APART = {"stdin": subprocess.DEVNULL, "stdout": subprocess.DEVNULL, "stderr": subprocess.DEVNULL, "start_new_session": True}
 
 
 def changes(bench, name, *words):
@@ -27,9 +29,11 @@ def changes(bench, name, *words):
 
 def killed(bench, name, number, *words):
     """Runs a program, which is killed before a change of the world; its status."""
-    done = subprocess.run([sys.executable, KILLED, str(number), TOP / "tools" / name, *map(str, words)], capture_output=True, check=False,
-                          env={**os.environ, "CHANGES": str(bench.folder / "changes")})
-    return done.returncode
+    process = subprocess.Popen([sys.executable, KILLED, str(number), TOP / "tools" / name, *map(str, words)], **APART,
+                               env={**os.environ, "CHANGES": str(bench.folder / "changes")})
+    process.wait(LONGEST_RUN)
+    all_end(process.pid)
+    return process.returncode
 
 
 def places(bench, count, few):
@@ -88,10 +92,11 @@ def expect_same_end(bench, vault, expected, *words):
 
 
 def killed_after(seconds, name, *words):
-    process = subprocess.Popen([sys.executable, TOP / "tools" / name, *map(str, words)], stdout=subprocess.DEVNULL, stderr=subprocess.DEVNULL)
+    process = subprocess.Popen([sys.executable, TOP / "tools" / name, *map(str, words)], **APART)
     time.sleep(seconds)
     process.kill()
     process.wait()
+    all_end(process.pid)
 
 
 def at_drawn_moments(bench):

@@ -2,17 +2,17 @@
 import contextlib
 import http.client
 import os
-import socket
 import subprocess
 import sys
 import time
 import tomllib
 from datetime import datetime, timedelta
 
+from kept.desks import free_port
 from kept.program import TOP, Answer, CheckFailed, expect
 from kept.vaults import Vault
 
-LONGEST_RUN = 900  # seconds
+LONGEST_RUN = 3600  # seconds
 EXAMPLES = {"orders": "w1.toml w2.toml w3.toml", "phones": "w1.toml w2.toml w3.toml w4.toml",
             "assignments": "w1.toml w2.toml w3.toml w4.toml"}
 
@@ -85,8 +85,7 @@ def seconds_after(date, count):
 @contextlib.contextmanager
 def served(vault):
     """What a desk over a vault answers to the target of a GET: a text with status 200. A command would read the vault each time."""
-    with socket.create_server(("127.0.0.1", 0)) as listener:
-        port = listener.getsockname()[1]
+    port = free_port()
     process = vault.begin("serve", str(port))
     client = http.client.HTTPConnection("127.0.0.1", port, timeout=LONGEST_RUN)
 

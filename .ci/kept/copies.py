@@ -58,9 +58,9 @@ def a_copy_after_a_desk(bench):
 def a_copy_of_a_broken_load(bench):
     """after a load that was killed a copy of both files is the vault, and after the next command one of vault.db alone"""
     made = history.make(bench)
-    for moment in breaks.spread(1, made.growth, 5):
+    for size in breaks.sizes(made.after_first, 5, "load", "w2.toml"):
         vault = made.after_first.twin()
-        breaks.killed_by_growth(vault, moment, "load", "w2.toml")
+        breaks.killed_by_size(vault, size, "load", "w2.toml")
         text = vault.twin().text("windows")
         expect("the windows after a load was killed", text, vault.text("windows"))
         expect("the windows of a copy", text, copied(vault).text("windows"))
@@ -83,18 +83,25 @@ def of_one_feed(bench, count):
     return vault
 
 
-def a_failed_close(bench):
-    """a load whose log cannot be put into the file is answered as ever, and the next command puts it in"""
-    vault = of_one_feed(bench, 4000)
-    size = vault.file("vault.db").stat().st_size
-    unbroken = vault.twin()
-    unbroken.says("load", "w2.toml", err="w2.toml: Loaded 4")
-    vault.says("load", "w2.toml", err="w2.toml: Loaded 4", limits=with_limits(file_size=size * 3 // 4))
+def closes_after(vault, unbroken):
+    """Fails where no changes wait in the log, or where the next command does not put them into the file."""
     log = vault.file("vault.db-wal").stat().st_size
     expect("whether the load left a log with changes", True, log > PAGE)
     vault.says("load", "w2.toml", err="w2.toml: Repeated")
     for words in (("windows",), ("table", "sat_customers"), ("mart", "feed:customers", DATES[1])):
         expect(f"{words[0]} of a copy", unbroken.text(*words), copied(vault).text(*words))
+
+
+def a_failed_close(bench):
+    """a load whose log cannot be put into the file is answered as ever, or killed then: the next command puts it in"""
+    first = of_one_feed(bench, 4000)
+    size = first.file("vault.db").stat().st_size * 3 // 4
+    unbroken, failed, killed = first.twin(), first.twin(), first.twin()
+    unbroken.says("load", "w2.toml", err="w2.toml: Loaded 4")
+    failed.says("load", "w2.toml", err="w2.toml: Loaded 4", limits=with_limits(file_size=size))
+    closes_after(failed, unbroken)
+    breaks.killed_by_size(killed, size, "load", "w2.toml")
+    closes_after(killed, unbroken)
 
 
 def texts_of(vault):

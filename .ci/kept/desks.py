@@ -3,6 +3,7 @@ import contextlib
 import json
 import os
 import pathlib
+import random
 import signal
 import socket
 import struct
@@ -14,7 +15,7 @@ from typing import NamedTuple
 
 from kept.program import CheckFailed, expect
 
-LONGEST_WAIT = 60  # seconds, of a reply or of the desk's start and end
+LONGEST_WAIT = 600  # seconds, of a reply or of the desk's start and end
 LISTENING = "0A"  # the state of a socket, as the system writes it
 PHRASES = {200: "OK", 400: "Bad Request", 404: "Not Found", 405: "Method Not Allowed", 409: "Conflict",
            411: "Length Required", 413: "Payload Too Large", 422: "Unprocessable Entity", 500: "Internal Server Error",
@@ -114,9 +115,12 @@ def post(body, *fields):
 
 
 def free_port():
-    """A port at which nobody listens now."""
-    with socket.create_server(("127.0.0.1", 0)) as listener:
-        return listener.getsockname()[1]
+    """A port at which nobody listens now, of those that the system gives no client, so that none takes it meanwhile."""
+    first = int(pathlib.Path("/proc/sys/net/ipv4/ip_local_port_range").read_text().split()[0])
+    while True:
+        port = random.randrange(min(10_000, first // 2), first)
+        with contextlib.suppress(OSError), socket.create_server(("127.0.0.1", port)):
+            return port
 
 
 def listeners(port):
@@ -208,10 +212,10 @@ class Desk:
                 return int(line.split()[1])
         raise CheckFailed(f"/proc/PID/status has no {name}")
 
-    def seconds(self):
-        """The seconds of a processor that the process took."""
+    def work(self):
+        """Whether the process waits for something, and the seconds of a processor that it took."""
         fields = pathlib.Path(f"/proc/{self.process.pid}/stat").read_text().rpartition(")")[2].split()
-        return (int(fields[11]) + int(fields[12])) / os.sysconf("SC_CLK_TCK")
+        return fields[0] == "S", (int(fields[11]) + int(fields[12])) / os.sysconf("SC_CLK_TCK")
 
     def files_open(self):
         return len(os.listdir(f"/proc/{self.process.pid}/fd"))

@@ -128,15 +128,13 @@ def second_rows(connection):
 
 class Unbroken(NamedTuple):
     """A run that nothing broke off: the vault after its first window, how many rows each window added, the rows of the
-    second one in each raw table, all texts at the end; and of the second load its seconds, and the bytes by which the
-    store's files grow."""
+    second one in each raw table, all texts at the end; and the seconds of the second load."""
 
     after_first: Vault
     added: list
     second_rows: list
     texts: dict
     seconds: float
-    growth: int
 
 
 def seconds_of_second_load(after_first):
@@ -157,12 +155,11 @@ def make(bench):
     added = after_first.loaded("w1.toml")
     vault = after_first.twin()
     added += vault.loaded("w2.toml")
-    growth = vault.store_size() - after_first.store_size()
     with opened_copy(vault) as connection:
         rows = second_rows(connection)
     expect("rows that the second load says", sum(rows), added[1])
     added += vault.loaded("w3.toml")
-    return Unbroken(after_first, added, rows, texts(vault), seconds_of_second_load(after_first), growth)
+    return Unbroken(after_first, added, rows, texts(vault), seconds_of_second_load(after_first))
 
 
 def unbroken_as_tried(bench):

@@ -1,6 +1,6 @@
 """Checks of other processes that hold the file."""
+import contextlib
 import os
-import signal
 import sqlite3
 import subprocess
 import time
@@ -8,7 +8,7 @@ import time
 from kept import history, orders
 from kept.commands import EVERY_COMMAND
 from kept.orders import DATES
-from kept.program import KEEPER_FAULT, LONGEST_RUN, CheckFailed, expect
+from kept.program import KEEPER_FAULT, LONGEST_RUN, expect
 from kept.readmes import block
 from kept.stores import opened
 
@@ -44,32 +44,26 @@ def held_by_a_reader(bench):
     expect("all texts after a reader", orders.texts(orders.kept(bench, 2)), orders.texts(vault))
 
 
-def stopped_load(vault, manifest, seconds):
-    """A load that was stopped after a while; none where it had ended."""
-    process = vault.begin("load", manifest, err_to=subprocess.PIPE)
-    time.sleep(seconds)
-    process.send_signal(signal.SIGSTOP)
-    # Where it had ended, its status was taken before the signal was sent.
-    if process.returncode is None:
-        _, status = os.waitpid(process.pid, os.WUNTRACED)
-        if os.WIFSTOPPED(status):
-            return process
-        process.returncode = os.waitstatus_to_exitcode(status)
-    process.stderr.close()
-    return None
+def opened_to_write(pipe, process):
+    """A named pipe, once a process reads it."""
+    ended = time.monotonic() + LONGEST_RUN
+    while process.poll() is None and time.monotonic() < ended:
+        with contextlib.suppress(OSError):
+            return open(os.open(pipe, os.O_WRONLY | os.O_NONBLOCK), "wb")
+        time.sleep(0.01)
+    expect("whether the load reads its last extract", True, False)
 
 
 def holding_load(made):
-    """A vault of the history and a load of its second window that was stopped while it holds the file."""
-    for share in (0.5, 0.6, 0.4, 0.7, 0.3, 0.8, 0.2, 0.9):
-        vault = made.after_first.twin()
-        process = stopped_load(vault, "w2.toml", made.seconds * share)
-        if process and vault.run("windows").status == 5:
-            return vault, process
-        if process:
-            process.kill()
-            process.communicate()
-    raise CheckFailed("a load that is stopped\n    expected: it holds the file\n    got:      it never did")
+    """A vault of the history, and a load of its second window that holds the file, since it waits for the records of its
+    last extract: the process, where they are awaited, and what they are."""
+    vault = made.after_first.twin()
+    extract = vault.file("w2.toml_care.csv")
+    records = extract.read_bytes()
+    extract.unlink()
+    os.mkfifo(extract)
+    process = vault.begin("load", "w2.toml", err_to=subprocess.PIPE)
+    return vault, process, opened_to_write(extract, process), records
 
 
 def refusal_of_sqlite(vault):
@@ -85,13 +79,15 @@ def refusal_of_sqlite(vault):
 def held_by_a_load(bench):
     """while a load holds the file each other command is a keeper fault, and the load ends as if alone"""
     made = history.make(bench)
-    vault, process = holding_load(made)
+    vault, process, awaited, records = holding_load(made)
     for words in EVERY_COMMAND + (("load", "w2.toml"), ("load", "w3.toml")):
         vault.says(*words, **KEEPER_FAULT)
     expect("what SQLite says while a load holds the file", "database is locked", refusal_of_sqlite(vault))
-    process.send_signal(signal.SIGCONT)
+    os.set_blocking(awaited.fileno(), True)
+    with awaited:
+        awaited.write(records)
     _, err = process.communicate(timeout=LONGEST_RUN)
-    expect("the load that was stopped", (0, f"w2.toml: Loaded {made.added[1]}\n".encode()), (process.returncode, err))
+    expect("the load that waited", (0, f"w2.toml: Loaded {made.added[1]}\n".encode()), (process.returncode, err))
     history.goes_on_as_unbroken(made, vault)
 
 

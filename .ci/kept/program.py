@@ -4,11 +4,13 @@ import pathlib
 import resource
 import signal
 import subprocess
+import time
 from typing import NamedTuple
 
 TOP = pathlib.Path(__file__).resolve().parents[2]
 BUILT = TOP / "crates/vaultdesk/out/vaultdesk"
-LONGEST_RUN = 300  # seconds
+LONGEST_RUN = 900  # seconds
+PLAIN_WORK = 0.2  # seconds, see `slowness`
 
 KEEPER_FAULT = {"status": 5, "err": "vaultdesk: keeper fault"}
 NO_MAPPING = {"status": 3, "err": "vaultdesk: mapping none"}
@@ -73,6 +75,18 @@ def with_limits(file_size=None, memory=None):
     return begin
 
 
+def killed_past(file_size):
+    """What a process does first that the system kills where it writes a file past a size: at that very byte, on each
+    machine."""
+
+    def begin():
+        signal.signal(signal.SIGXFSZ, signal.SIG_DFL)
+        resource.setrlimit(resource.RLIMIT_CORE, (0, 0))
+        resource.setrlimit(resource.RLIMIT_FSIZE, (file_size, file_size))
+
+    return begin
+
+
 def run(program, folder, words, out_to=subprocess.PIPE, err_to=subprocess.PIPE, limits=None):
     """Runs the program in a folder to its end."""
     done = subprocess.run([program, *words], cwd=folder, stdin=subprocess.DEVNULL, stdout=out_to, stderr=err_to,
@@ -84,3 +98,27 @@ def begin(program, folder, words, err_to=subprocess.DEVNULL):
     """A process of the program, which goes on in a folder."""
     return subprocess.Popen([program, *words], cwd=folder, stdin=subprocess.DEVNULL, stdout=subprocess.DEVNULL,
                             stderr=err_to)
+
+
+def slowness():
+    """How many times as long as on the machine for which the checks say seconds some work takes on this one; 1 at least."""
+    begun = time.process_time()
+    sum(number * number for number in range(2_000_000))
+    return max(1.0, (time.process_time() - begun) / PLAIN_WORK)
+
+
+def all_end(session):
+    """Waits until no process of a session runs: what a killed program has begun ends with it, but a moment later."""
+    ended = time.monotonic() + LONGEST_RUN
+    while any(runs_in(session, folder) for folder in pathlib.Path("/proc").glob("[0-9]*")):
+        expect("whether what a killed program has begun ends with it", True, time.monotonic() < ended)
+        time.sleep(0.01)
+
+
+def runs_in(session, folder):
+    """Whether a process, by its folder in /proc, runs and is of a session."""
+    try:
+        state, _, _, number, *_ = (folder / "stat").read_text(errors="replace").rpartition(")")[2].split()
+    except OSError:
+        return False
+    return state not in "ZX" and int(number) == session

@@ -125,9 +125,9 @@ def killed_snapshots(bench):
     unbroken.says("snapshot", date, err=f"snapshot: Stored {rows}")
     taken = time.perf_counter() - begun
     whole = texts(unbroken, date)
-    for seconds in breaks.spread(0, 1.1 * taken, KILLS):
+    for kill, moment in breaks.moments(made.after_first, taken, KILLS // 2, KILLS // 2, "snapshot", date):
         vault = made.after_first.twin()
-        breaks.killed_by_time(vault, seconds, "snapshot", date)
+        kill(vault, moment, "snapshot", date)
         is_stored = vault.run("pit", "customer", date).status == 0
         vault.says("snapshot", date, err="snapshot: Repeated" if is_stored else f"snapshot: Stored {rows}")
         expect("what is stored, after a kill", whole, texts(vault, date))

@@ -11,13 +11,13 @@ import threading
 import time
 
 from kept import history, orders
-from kept.breaks import spread
+from kept.breaks import sizes, spread
 from kept.desk import ByClient, each_is, limit_files
 from kept.desks import (BAD_REQUEST, KEEPER, LONGEST_WAIT, NOT_FOUND, REPEATED, all_of, free_port, get, heads, listeners,
-                        loaded, post, refused, reset, serving, text, window, window_of)
+                        loaded, post, refused, reset, serving, text, window, window_of, Desk)
 from kept.locks import refusal_of_sqlite
 from kept.orders import DATES
-from kept.program import KEEPER_FAULT, NO_MAPPING, USAGE, expect, with_limits
+from kept.program import KEEPER_FAULT, NO_MAPPING, USAGE, expect, killed_past, with_limits
 from kept.stores import change_row, contents, opened
 
 WARM, CONNECTIONS = 100, 1_000
@@ -239,10 +239,11 @@ def clients_that_do_not_read(bench):
 
 
 def rests(desk):
-    """Waits until the desk takes no more of a processor, which it does not take then for half a second."""
-    ended, taken = time.monotonic() + LONGEST_WAIT, -1.0
-    while taken != (taken := desk.seconds()):
+    """Waits until the desk waits itself, and takes no more of a processor for half a second."""
+    ended, before = time.monotonic() + LONGEST_WAIT, None
+    while (now := desk.work()) != before or not now[0]:
         expect("whether the desk comes to rest", True, time.monotonic() < ended)
+        before = now
         time.sleep(0.5)
 
 
@@ -308,6 +309,26 @@ def reads_nothing(desk, targets):
     expect("the bytes that were read of files", before, desk.bytes_read())
 
 
+def killed_after(vault, seconds, posted):
+    """Kills a desk a while after a window was sent."""
+    with serving(vault, ending=signal.SIGKILL) as desk, desk.connected() as link:
+        link.sendall(posted)
+        time.sleep(seconds)
+
+
+def killed_at(vault, size, posted):
+    """Has a desk killed that writes a file past so many bytes, as it loads a window."""
+    desk = Desk(vault, limits=killed_past(resource.RLIM_INFINITY))
+    try:
+        desk.wait_until_it_listens()
+        resource.prlimit(desk.process.pid, resource.RLIMIT_FSIZE, (size, size))
+        with desk.connected() as link:
+            link.sendall(posted)
+            expect(f"the end of a desk that may write {size} bytes", -signal.SIGXFSZ, desk.process.wait(timeout=LONGEST_WAIT))
+    finally:
+        desk.leave()
+
+
 def killed_desks(bench):
     """a desk that is killed while it loads, at some moments, leaves the window absent, open or sealed: it comes again and ends
     as unbroken"""
@@ -317,11 +338,11 @@ def killed_desks(bench):
     unbroken = vault.twin()
     added = loaded(unbroken.loaded("w2.toml")[0])
     request, taken = ("POST", "/windows", window_of(vault, "w2.toml")), seconds_of_post(vault)
-    for seconds in spread(0, 1.1 * taken, KILLS):
+    kills = [(killed_after, seconds) for seconds in spread(0, 1.1 * taken, KILLS // 2)]
+    kills += [(killed_at, size) for size in sizes(vault, KILLS // 2, "load", "w2.toml")]
+    for kill, moment in kills:
         tried = vault.twin()
-        with serving(tried, ending=signal.SIGKILL) as desk, desk.connected() as link:
-            link.sendall(post(request[2]))
-            time.sleep(seconds)
+        kill(tried, moment, post(request[2]))
         with serving(tried) as desk:
             is_sealed = history.DATES[1].encode() in desk.told(WINDOWS).partition(b'"windows":')[2]
             each_is(desk, [(request, REPEATED if is_sealed else added), (request, REPEATED)], [ByClient])

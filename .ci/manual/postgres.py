@@ -25,7 +25,7 @@ def started():
     data = folder / "data"
     options = f"-c listen_addresses='' -c unix_socket_directories='{folder}' -c fsync=off"
     for words in (["initdb", "-U", "postgres", "-A", "trust", "-E", "UTF8", "--no-locale", "-D", data],
-                  ["pg_ctl", "-w", "-D", data, "-o", options, "-l", folder / "log", "start"]):
+                  ["pg_ctl", "-w", "-t", "600", "-D", data, "-o", options, "-l", folder / "log", "start"]):
         if as_postgres(*map(str, words), cwd="/").returncode:
             return None
     atexit.register(as_postgres, "pg_ctl", "-D", str(data), "-m", "immediate", "stop", cwd="/")

@@ -7,7 +7,7 @@ import subprocess
 import sys
 import time
 
-from kept.program import CheckFailed, expect, with_limits
+from kept.program import CheckFailed, expect, slowness, with_limits
 from manual.pages import examples_of
 from packing.checkouts import NOBODY, append, flip, make_path, write
 from packing.releases import sum_of
@@ -43,8 +43,9 @@ def used_seconds():
 
 
 def expect_at_most(what, most, seconds):
+    most *= slowness()
     if seconds > most:
-        raise CheckFailed(f"{what} took {seconds:.2f} seconds, and may take {most}")
+        raise CheckFailed(f"{what} took {seconds:.2f} seconds, and may take {most:.1f}")
 
 
 def answers_at_once(trial):

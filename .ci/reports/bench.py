@@ -8,7 +8,7 @@ from kept import vaults, worlds
 from kept.program import TOP, Answer, CheckFailed, expect
 
 TOOL = TOP / "tools" / "vaultdesk-report"
-LONGEST_RUN = 600  # seconds
+LONGEST_RUN = 3600  # seconds
 BETWEEN = "2024-04-15T12:00:00"
 
 

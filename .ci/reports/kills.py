@@ -2,10 +2,11 @@
 does all."""
 import pathlib
 import signal
+import subprocess
 import sys
 
-from kept.program import expect
-from reports.bench import Answer, subprocess
+from kept.program import Answer, all_end, expect
+from reports.bench import LONGEST_RUN
 from reports.refused import contents
 
 KILL_AT = pathlib.Path(__file__).resolve().parent / "kill_at.py"
@@ -14,10 +15,12 @@ BEFORE, AFTER = "2024-03-01T02:00:00", "2024-04-01T02:00:00"
 
 
 def killed(vault, step, words):
-    """Runs the tool, and kills it at a step."""
-    done = subprocess.run([sys.executable, str(KILL_AT), str(step), *words], cwd=vault.folder, stdin=subprocess.DEVNULL,
-                          capture_output=True, timeout=600)
-    return Answer(done.returncode, done.stdout, done.stderr)
+    """Runs the tool, and kills it at a step. Its desk ends with it."""
+    process = subprocess.Popen([sys.executable, str(KILL_AT), str(step), *words], cwd=vault.folder, stdin=subprocess.DEVNULL,
+                               stdout=subprocess.PIPE, stderr=subprocess.PIPE, start_new_session=True)
+    out, err = process.communicate(timeout=LONGEST_RUN)
+    all_end(process.pid)
+    return Answer(process.returncode, out, err)
 
 
 def steps_of(bench, vault, words):

@@ -8,6 +8,7 @@ import tempfile
 
 from kept.program import CheckFailed
 
+LONGEST_WAIT = 600  # seconds
 OPTIONS = "-c listen_addresses='' -c unix_socket_directories='{folder}' -c fsync=off -c shared_buffers=64MB -c max_connections=40"
 
 
@@ -43,7 +44,7 @@ class Server:
         as_postgres(tools / "initdb", "-U", "postgres", "-A", "trust", "-E", "UTF8", "--no-locale", "--wal-segsize=1", "-D",
                     self.data)
         options = OPTIONS.format(folder=self.folder) + more
-        as_postgres(tools / "pg_ctl", "-w", "-D", self.data, "-o", options, "-l", self.folder / "log", "start",
+        as_postgres(tools / "pg_ctl", "-w", "-t", LONGEST_WAIT, "-D", self.data, "-o", options, "-l", self.folder / "log", "start",
                     preexec_fn=limits)
 
     def connection(self):
@@ -60,7 +61,7 @@ class Server:
 
     def stop(self):
         try:
-            as_postgres(self.tools / "pg_ctl", "-D", self.data, "-m", "immediate", "stop")
+            as_postgres(self.tools / "pg_ctl", "-t", LONGEST_WAIT, "-D", self.data, "-m", "immediate", "stop")
         finally:
             shutil.rmtree(self.folder, ignore_errors=True)
 

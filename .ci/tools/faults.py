@@ -6,7 +6,7 @@ import random
 import re
 import resource
 
-from kept.program import TOP, CheckFailed, expect
+from kept.program import TOP, CheckFailed, expect, slowness
 from manual.pages import examples_of
 from tools.bench import CHECK, FIRST_DATE, expect_faults, in_case, told
 from tools.changes import changed
@@ -146,7 +146,7 @@ def large_extract(bench):
     for number in numbers:
         place = f"e.csv:{number + 1}:{len(lines[number - 1]) - 3}: W12 Ragged feed=customers row_no={number}.".encode()
         expect(f"record {number}", True, place in found[0].out)
-    if seconds > 20 * one_run + 2:
+    if seconds > 20 * one_run + 2 * slowness():
         raise CheckFailed(f"{seconds:.1f} seconds, where a run takes {one_run:.2f}")
 
 
