@@ -19,7 +19,7 @@ pub struct HashedExtract<'a> {
 // The hash key of a reference list that is no longer than those of staged rows.
 fn hash<H: KeyDigest>(digest: &H, refs: &[Key], room: &mut Room) -> Digest
     requires { IsTrue (fits.refs_fit refs.now) }
-    ensures { result ≡ (hashes_of H.digest_of H.size).hash refs.now }
+    ensures { result ≡ (hashes_of H.function).hash refs.now }
 {
     hash_key(digest, refs, room)
 }
@@ -27,7 +27,7 @@ fn hash<H: KeyDigest>(digest: &H, refs: &[Key], room: &mut Room) -> Digest
 // The hash keys of the reference lists of rows.
 fn hash_keys<H: KeyDigest>(alloc: Global, digest: &H, rows: &[NRow]) -> Result<List<Digest>, Memory>
     requires { IsTrue (list_all (λ row. fits.refs_fit row.refs) rows.now) }
-    ensures { IfOk result (λ keys. keys ≡ map (λ row. (hashes_of H.digest_of H.size).hash row.refs) rows.now) }
+    ensures { IfOk result (λ keys. keys ≡ map (λ row. (hashes_of H.function).hash row.refs) rows.now) }
 {
     let mut room = Room::new(alloc)?;
     let mut keys = List::with_room(alloc, rows.len())?;
@@ -47,7 +47,7 @@ impl<'a> HashedExtract<'a> {
     ) -> Result<HashedExtract<'a>, Memory>
         requires { IsTrue (list_all (λ row. fits.refs_fit row.refs) staged.now.rows) }
         ensures staged { IfOk result (λ extract. extract.staged.now ≡ staged.now) }
-        ensures keys { IfOk result (HasKeys (hashes_of H.digest_of H.size)) }
+        ensures keys { IfOk result (HasKeys (hashes_of H.function)) }
     {
         let keys = hash_keys(alloc, digest, staged.rows.items())?;
         Ok(HashedExtract { staged, keys })

@@ -40,7 +40,7 @@ fn put_keys(room: &mut Room, refs: &[Key])
 /// texts, joined by semicolons. Takes no memory.
 pub fn hash_key<H: KeyDigest>(d: &H, refs: &[Key], room: &mut Room) -> Digest
     requires { length (refs_text refs.now) ≤ ROOM_SIZE }
-    ensures { result ≡ (hashes_of H.digest_of H.size).hash refs.now }
+    ensures { result ≡ (hashes_of H.function).hash refs.now }
 {
     if are_missing(refs) {
         return Digest::zero(d.width());
@@ -53,7 +53,7 @@ pub fn hash_key<H: KeyDigest>(d: &H, refs: &[Key], room: &mut Room) -> Digest
 /// The hash difference of attributes: the digest of them, joined by semicolons. Takes no memory.
 pub fn hash_diff<H: KeyDigest>(d: &H, attrs: &List<Text>, room: &mut Room) -> Digest
     requires { length (joined attrs.now) ≤ ROOM_SIZE }
-    ensures { result ≡ (hashes_of H.digest_of H.size).diff attrs.now }
+    ensures { result ≡ (hashes_of H.function).diff attrs.now }
 {
     room.clear();
     put_texts(room, attrs.items());

@@ -11,13 +11,9 @@ use md5::Md5;
 pub struct Md5Keys;
 
 impl KeyDigest for Md5Keys {
-    ghost digest_of = { md5 };
+    ghost function = { record { digest = md5; width = 16; sized = length-md5 } };
 
-    ghost size = { 16 };
-
-    ghost sized = { length-md5 };
-
-    ghost known_size = { inl refl };
+    ghost known_width = { inl refl };
 
     fn width(&self) -> u8 {
         16

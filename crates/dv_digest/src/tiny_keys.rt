@@ -10,13 +10,9 @@ use dv_text::{Digest, KeyDigest};
 pub struct TinyKeys;
 
 impl KeyDigest for TinyKeys {
-    ghost digest_of = { tiny };
+    ghost function = { record { digest = tiny; width = 16; sized = length-tiny } };
 
-    ghost size = { 16 };
-
-    ghost sized = { length-tiny };
-
-    ghost known_size = { inl refl };
+    ghost known_width = { inl refl };
 
     fn width(&self) -> u8 {
         16

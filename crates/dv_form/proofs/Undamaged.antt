@@ -28,6 +28,7 @@ use Rattle.dv_form.proofs.SoundSats.{sound_sat}
 use Rattle.dv_form.proofs.SoundSnapshots.{sound_snapshots}
 use Rattle.dv_form.proofs.SoundStatuses.{sound_status}
 use Rattle.dv_form.proofs.Splits.{item_in}
+use Rattle.dv_text.specs.Keys.{DigestFunction}
 use Rattle.dv_form.proofs.Widths.{AreOfWidth, of_width}
 
 module _ (mapping : Mapping) (hashes : Hashes) (width : ℕ) (store : Store) (windows : List Window) (mapping_valid : is_valid mapping ≡ true) (wide : AreOfWidth hashes width) (valid : are_windows_valid mapping hashes windows ≡ true)
@@ -114,9 +115,9 @@ module _ (mapping : Mapping) (hashes : Hashes) (width : ℕ) (mapping_valid : is
       (sound_tables mapping hashes width store (sealed ++ window ∷ []) mapping_valid wide valid holds (all_headed (Some window) stage)) no_snap
 
 -- a store that stands for a state has no damage, where the mapping is valid
-pub undamaged_if_valid : (mapping : Mapping) (digest : List ℕ → List ℕ) (size : ℕ) → ((text : List ℕ) → length (digest text) ≡ size) → is_valid mapping ≡ true → (state : State) (store : Store) → Stands mapping (hashes_of digest size) state store
-    → form_damage mapping (hashes_of digest size) size store ≡ None
-undamaged_if_valid mapping digest size is mapping_valid state store stands =
-    let hashes = hashes_of digest size in
+pub undamaged_if_valid : (mapping : Mapping) (function : DigestFunction) → is_valid mapping ≡ true → (state : State) (store : Store) → Stands mapping (hashes_of function) state store
+    → form_damage mapping (hashes_of function) function.width store ≡ None
+undamaged_if_valid mapping function mapping_valid state store stands =
+    let hashes = hashes_of function in
     let (valid, dates) = and_parts (are_windows_valid mapping hashes (all_windows state)) (are_dates_valid mapping hashes state) stands.valid in
-    sound_store mapping hashes size mapping_valid (of_width digest size is) store state.sealed stands.windows (no_snapshot mapping hashes state store dates stands.windows stands.snapshots) state.begun stands.stage valid stands.tables_stand
+    sound_store mapping hashes function.width mapping_valid (of_width function) store state.sealed stands.windows (no_snapshot mapping hashes state store dates stands.windows stands.snapshots) state.begun stands.stage valid stands.tables_stand

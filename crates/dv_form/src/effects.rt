@@ -85,8 +85,8 @@ pub fn checked_effect<H: KeyDigest>(
 ) -> Result<Checked<EffectTable>, Fault>
     ensures rows { IfOk result (λ made. made.table.rows ≡ rows) }
     ensures weight { IfOk result (λ made. made.weight ≡ known.now.weight + rows_weight (rows_of.Effects rows)) }
-    ensures clear { (read : spec.Known) → IsKnown (hashes_of H.digest_of H.size) H.size known.now read → IfOk result (λ made. flaw_in read (tables.Effect feed) (rows_of.Effects rows) ≡ None) }
-    ensures flawed { (read : spec.Known) → IsKnown (hashes_of H.digest_of H.size) H.size known.now read → IfErr result (λ fault. TellsFlaw fault (flaw_in read (tables.Effect feed) (rows_of.Effects rows))) }
+    ensures clear { (read : spec.Known) → IsKnown (hashes_of H.function) H.function.width known.now read → IfOk result (λ made. flaw_in read (tables.Effect feed) (rows_of.Effects rows) ≡ None) }
+    ensures flawed { (read : spec.Known) → IsKnown (hashes_of H.function) H.function.width known.now read → IfErr result (λ fault. TellsFlaw fault (flaw_in read (tables.Effect feed) (rows_of.Effects rows))) }
 {
     let alloc = known.catalog.allocator();
     let rules = EffectRules {

@@ -25,7 +25,7 @@ pub(crate) enum Hashed<'a> {
 /// Whether a hash that stands in a row is what it has to be. Condition: what is hashed fits the room. Takes no memory.
 pub(crate) fn is_hashed<H: KeyDigest>(asked: Hashed<'_>, digest: &H, room: &mut Room) -> bool
     requires { IsTrue (spec.hashed_fits asked) }
-    ensures { result ≡ spec.is_hashed (hashes_of H.digest_of H.size) asked.entry }
+    ensures { result ≡ spec.is_hashed (hashes_of H.function) asked.entry }
 {
     match asked {
         Hashed::Nothing => true,

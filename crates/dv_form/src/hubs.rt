@@ -105,8 +105,8 @@ pub fn checked_hub<H: KeyDigest>(
 ) -> Result<Checked<HubTable>, Fault>
     ensures rows { IfOk result (λ made. made.table.rows ≡ rows) }
     ensures weight { IfOk result (λ made. made.weight ≡ known.now.weight + rows_weight (rows_of.Hubs rows)) }
-    ensures clear { (read : spec.Known) → IsKnown (hashes_of H.digest_of H.size) H.size known.now read → IfOk result (λ made. flaw_in read (tables.Hub hub) (rows_of.Hubs rows) ≡ None) }
-    ensures flawed { (read : spec.Known) → IsKnown (hashes_of H.digest_of H.size) H.size known.now read → IfErr result (λ fault. TellsFlaw fault (flaw_in read (tables.Hub hub) (rows_of.Hubs rows))) }
+    ensures clear { (read : spec.Known) → IsKnown (hashes_of H.function) H.function.width known.now read → IfOk result (λ made. flaw_in read (tables.Hub hub) (rows_of.Hubs rows) ≡ None) }
+    ensures flawed { (read : spec.Known) → IsKnown (hashes_of H.function) H.function.width known.now read → IfErr result (λ fault. TellsFlaw fault (flaw_in read (tables.Hub hub) (rows_of.Hubs rows))) }
 {
     let alloc = known.catalog.allocator();
     let rules = rules_of(known, hub)?;

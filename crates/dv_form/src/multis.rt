@@ -91,8 +91,8 @@ pub fn checked_multi<H: KeyDigest>(
 ) -> Result<Checked<MultiTable>, Fault>
     ensures rows { IfOk result (λ made. made.table.rows ≡ rows) }
     ensures weight { IfOk result (λ made. made.weight ≡ known.now.weight + rows_weight (rows_of.Multis rows)) }
-    ensures clear { (read : spec.Known) → IsKnown (hashes_of H.digest_of H.size) H.size known.now read → IfOk result (λ made. flaw_in read (tables.Multi feed) (rows_of.Multis rows) ≡ None) }
-    ensures flawed { (read : spec.Known) → IsKnown (hashes_of H.digest_of H.size) H.size known.now read → IfErr result (λ fault. TellsFlaw fault (flaw_in read (tables.Multi feed) (rows_of.Multis rows))) }
+    ensures clear { (read : spec.Known) → IsKnown (hashes_of H.function) H.function.width known.now read → IfOk result (λ made. flaw_in read (tables.Multi feed) (rows_of.Multis rows) ≡ None) }
+    ensures flawed { (read : spec.Known) → IsKnown (hashes_of H.function) H.function.width known.now read → IfErr result (λ fault. TellsFlaw fault (flaw_in read (tables.Multi feed) (rows_of.Multis rows))) }
 {
     let alloc = known.catalog.allocator();
     let rules = MultiRules {

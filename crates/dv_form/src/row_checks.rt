@@ -85,8 +85,8 @@ pub(crate) fn checked_turns<R: Placed + Weighed, T: RowRules<R>, S: Succession<R
 ) -> Result<Checked<IndexedRows<R>>, Fault>
     ensures rows { IfOk result (λ made. made.table.rows ≡ rows) }
     ensures weight { IfOk result (λ made. made.weight ≡ weight + sum_by R.weight_of rows) }
-    ensures clear { IfOk result (λ made. AreClear (turning_rule R.place T.order (own_of (T.early rules.now) T.hashed (T.late rules.now) (hashes_of H.digest_of H.size) H.size) (S.fits turns.now) rule R.weight_of weight) rows (length rows)) }
-    ensures flawed { IfErr result (λ fault. TellsFlaw fault (first_flaw (turning_rule R.place T.order (own_of (T.early rules.now) T.hashed (T.late rules.now) (hashes_of H.digest_of H.size) H.size) (S.fits turns.now) rule R.weight_of weight) rows)) }
+    ensures clear { IfOk result (λ made. AreClear (turning_rule R.place T.order (own_of (T.early rules.now) T.hashed (T.late rules.now) (hashes_of H.function) H.function.width) (S.fits turns.now) rule R.weight_of weight) rows (length rows)) }
+    ensures flawed { IfErr result (λ fault. TellsFlaw fault (first_flaw (turning_rule R.place T.order (own_of (T.early rules.now) T.hashed (T.late rules.now) (hashes_of H.function) H.function.width) (S.fits turns.now) rule R.weight_of weight) rows)) }
 {
     match walk(rules, rows.items(), weight, digest, room) {
         Walked::Whole { weight } => {
@@ -118,8 +118,8 @@ pub(crate) fn checked_rows<R: Placed + Weighed, T: RowRules<R>, H: KeyDigest>(
 ) -> Result<Checked<IndexedRows<R>>, Fault>
     ensures rows { IfOk result (λ made. made.table.rows ≡ rows) }
     ensures weight { IfOk result (λ made. made.weight ≡ weight + sum_by R.weight_of rows) }
-    ensures clear { IfOk result (λ made. AreClear (plain_rule R.place T.order (own_of (T.early rules.now) T.hashed (T.late rules.now) (hashes_of H.digest_of H.size) H.size) R.weight_of weight) rows (length rows)) }
-    ensures flawed { IfErr result (λ fault. TellsFlaw fault (first_flaw (plain_rule R.place T.order (own_of (T.early rules.now) T.hashed (T.late rules.now) (hashes_of H.digest_of H.size) H.size) R.weight_of weight) rows)) }
+    ensures clear { IfOk result (λ made. AreClear (plain_rule R.place T.order (own_of (T.early rules.now) T.hashed (T.late rules.now) (hashes_of H.function) H.function.width) R.weight_of weight) rows (length rows)) }
+    ensures flawed { IfErr result (λ fault. TellsFlaw fault (first_flaw (plain_rule R.place T.order (own_of (T.early rules.now) T.hashed (T.late rules.now) (hashes_of H.function) H.function.width) R.weight_of weight) rows)) }
 {
     match walk(rules, rows.items(), weight, digest, room) {
         Walked::Whole { weight } => {

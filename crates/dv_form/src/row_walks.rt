@@ -108,7 +108,7 @@ fn own_rule<R: Placed + Weighed, T: RowRules<R>, H: KeyDigest>(
     digest: &H,
     room: &mut Room,
 ) -> Option<u8>
-    ensures { result ≡ own_of (T.early rules.now) T.hashed (T.late rules.now) (hashes_of H.digest_of H.size) H.size row.now behind }
+    ensures { result ≡ own_of (T.early rules.now) T.hashed (T.late rules.now) (hashes_of H.function) H.function.width row.now behind }
 {
     let width = digest.width();
     if let Some(rule) = rules.early(row, behind, width) {
@@ -128,7 +128,7 @@ pub(crate) fn walk<R: Placed + Weighed, T: RowRules<R>, H: KeyDigest>(
     digest: &H,
     room: &mut Room,
 ) -> Walked
-    ensures { IsWalked R.place T.order (own_of (T.early rules.now) T.hashed (T.late rules.now) (hashes_of H.digest_of H.size) H.size) R.weight_of weight rows.now result }
+    ensures { IsWalked R.place T.order (own_of (T.early rules.now) T.hashed (T.late rules.now) (hashes_of H.function) H.function.width) R.weight_of weight rows.now result }
 {
     let mut sum = weight;
     for place in 0..rows.len() {

@@ -87,8 +87,8 @@ pub fn checked_status<H: KeyDigest>(
 ) -> Result<Checked<StatusTable>, Fault>
     ensures rows { IfOk result (λ made. made.table.rows ≡ rows) }
     ensures weight { IfOk result (λ made. made.weight ≡ known.now.weight + rows_weight (rows_of.Statuses rows)) }
-    ensures clear { (read : spec.Known) → IsKnown (hashes_of H.digest_of H.size) H.size known.now read → IfOk result (λ made. flaw_in read (tables.Status feed) (rows_of.Statuses rows) ≡ None) }
-    ensures flawed { (read : spec.Known) → IsKnown (hashes_of H.digest_of H.size) H.size known.now read → IfErr result (λ fault. TellsFlaw fault (flaw_in read (tables.Status feed) (rows_of.Statuses rows))) }
+    ensures clear { (read : spec.Known) → IsKnown (hashes_of H.function) H.function.width known.now read → IfOk result (λ made. flaw_in read (tables.Status feed) (rows_of.Statuses rows) ≡ None) }
+    ensures flawed { (read : spec.Known) → IsKnown (hashes_of H.function) H.function.width known.now read → IfErr result (λ fault. TellsFlaw fault (flaw_in read (tables.Status feed) (rows_of.Statuses rows))) }
 {
     let alloc = known.catalog.allocator();
     let rules = StatusRules {

@@ -67,7 +67,7 @@ fn add_hashed<'a, H: KeyDigest>(
     room: &mut Room,
 ) -> Result<(), Fail>
     ensures items { OnOk result (delivered made.new ≡ delivered made.old ++ delivery.now ∷ []) }
-    ensures hashed { OnOk result (AreHashed (hashes_of H.digest_of H.size) made.old → AreHashed (hashes_of H.digest_of H.size) made.new) }
+    ensures hashed { OnOk result (AreHashed (hashes_of H.function) made.old → AreHashed (hashes_of H.function) made.new) }
 {
     let refs = delivery.refs.items();
     if !refs_fit(refs) {
@@ -90,7 +90,7 @@ pub(crate) fn hashed<'a, H: KeyDigest>(
     digest: &H,
 ) -> Result<List<HashedDelivery<'a>>, Fail>
     ensures items { IfOk result (λ made. delivered made ≡ items.now) }
-    ensures hashed { IfOk result (λ made. AreHashed (hashes_of H.digest_of H.size) made) }
+    ensures hashed { IfOk result (λ made. AreHashed (hashes_of H.function) made) }
 {
     let mut room = Room::new(alloc)?;
     let mut made = List::new(alloc);

@@ -180,13 +180,9 @@ impl KeyDigest for ZeroKeys {
     ghost use Rattle.std.specs.Prelude.{replicate, refl};
     ghost use Rattle.std.proofs.Common.{inl};
 
-    ghost digest_of = { λ bytes. replicate 16 0 };
+    ghost function = { record { digest = λ bytes. replicate 16 0; width = 16; sized = λ bytes. refl } };
 
-    ghost size = { 16 };
-
-    ghost sized = { λ bytes. refl };
-
-    ghost known_size = { inl refl };
+    ghost known_width = { inl refl };
 
     fn width(&self) -> u8 {
         16

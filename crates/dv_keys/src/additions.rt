@@ -48,8 +48,8 @@ fn brought_lists<'a, H: KeyDigest>(
 ) -> Result<List<LentList<'a>>, Memory>
     requires missing { missing.now ≡ missing_of catalog.now (delivered items.now) }
     requires items { AreItems catalog.now (delivered items.now) }
-    requires hashed { AreHashed (hashes_of H.digest_of H.size) items.now }
-    ensures { IfOk result (λ lists. map told lists ≡ hashing.brought_lists catalog.now (hashes_of H.digest_of H.size) (delivered items.now)) }
+    requires hashed { AreHashed (hashes_of H.function) items.now }
+    ensures { IfOk result (λ lists. map told lists ≡ hashing.brought_lists catalog.now (hashes_of H.function) (delivered items.now)) }
 {
     catalog.note_valid();
     let Some(first) = items.first() else {
@@ -120,12 +120,12 @@ pub(crate) fn new_lists<'a, T: HoldsLists, H: KeyDigest>(
     requires held { IsTrue (are_held_apart (T.held table.now)) }
     requires missing { missing.now ≡ missing_of catalog.now (delivered items.now) }
     requires items { AreItems catalog.now (delivered items.now) }
-    requires hashed { AreHashed (hashes_of H.digest_of H.size) items.now }
-    ensures apart { IfOk result (λ lists. HasNoClash (all_hashed catalog.now (hashes_of H.digest_of H.size) (T.held table.now) (delivered items.now))) }
-    ensures lists { IfOk result (λ lists. map told lists ≡ spec.new_lists (hashes_of H.digest_of H.size) (T.held table.now) (delivered items.now)) }
+    requires hashed { AreHashed (hashes_of H.function) items.now }
+    ensures apart { IfOk result (λ lists. HasNoClash (all_hashed catalog.now (hashes_of H.function) (T.held table.now) (delivered items.now))) }
+    ensures lists { IfOk result (λ lists. map told lists ≡ spec.new_lists (hashes_of H.function) (T.held table.now) (delivered items.now)) }
     ensures feeds { IfOk result (λ lists. IsTrue (list_all (λ list. nat_lt list.feed (length catalog.now.feeds)) lists)) }
     ensures fits { IfOk result (λ lists. IsTrue (list_all (λ list. refs_fit list.refs.now) lists)) }
-    ensures collision { IfCollides result (IsLeastClash (all_hashed catalog.now (hashes_of H.digest_of H.size) (T.held table.now) (delivered items.now))) }
+    ensures collision { IfCollides result (IsLeastClash (all_hashed catalog.now (hashes_of H.function) (T.held table.now) (delivered items.now))) }
 {
     catalog.note_valid();
     let lists = brought_lists(alloc, missing, items.items(), catalog, digest)?;

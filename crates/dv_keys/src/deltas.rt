@@ -35,12 +35,12 @@ pub(crate) fn lists_for<'a, R: Placed, L: TellsLists<R>, H: KeyDigest>(
 ) -> Result<List<LentList<'a>>, DeltaFault>
     requires missing { missing.now ≡ missing_of catalog.now (delivered items.now) }
     requires items { AreItems catalog.now (delivered items.now) }
-    requires hashed { AreHashed (hashes_of H.digest_of H.size) items.now }
-    ensures apart { IfOk result (λ made. HasNoClash (all_hashed catalog.now (hashes_of H.digest_of H.size) (lists_of R.place (L.list lists.now) rows.now.rows) (delivered items.now))) }
-    ensures lists { IfOk result (λ made. map told made ≡ spec.new_lists (hashes_of H.digest_of H.size) (lists_of R.place (L.list lists.now) rows.now.rows) (delivered items.now)) }
+    requires hashed { AreHashed (hashes_of H.function) items.now }
+    ensures apart { IfOk result (λ made. HasNoClash (all_hashed catalog.now (hashes_of H.function) (lists_of R.place (L.list lists.now) rows.now.rows) (delivered items.now))) }
+    ensures lists { IfOk result (λ made. map told made ≡ spec.new_lists (hashes_of H.function) (lists_of R.place (L.list lists.now) rows.now.rows) (delivered items.now)) }
     ensures feeds { IfOk result (λ made. IsTrue (list_all (λ list. nat_lt list.feed (length catalog.now.feeds)) made)) }
     ensures fits { IfOk result (λ made. IsTrue (list_all (λ list. refs_fit list.refs.now) made)) }
-    ensures collision { IfCollides result (IsLeastClash (all_hashed catalog.now (hashes_of H.digest_of H.size) (lists_of R.place (L.list lists.now) rows.now.rows) (delivered items.now))) }
+    ensures collision { IfCollides result (IsLeastClash (all_hashed catalog.now (hashes_of H.function) (lists_of R.place (L.list lists.now) rows.now.rows) (delivered items.now))) }
     ensures kept { IsTrue (are_placed_rows R.place rows.now.rows) }
 {
     rows.note_rows();

@@ -58,7 +58,7 @@ fn add_missing<'a, H: KeyDigest>(
     digest: &H,
 ) -> Result<(), Memory>
     requires { IsTrue (refs_fit refs.now) }
-    ensures { OnOk result (map spec.told made.new.items ≡ map spec.told made.old.items ++ spec.hashed_list (hashes_of H.digest_of H.size) refs.now feed ∷ []) }
+    ensures { OnOk result (map spec.told made.new.items ≡ map spec.told made.old.items ++ spec.hashed_list (hashes_of H.function) refs.now feed ∷ []) }
 {
     let mut room = Room::new(alloc)?;
     let digest = hash_key(digest, refs, &mut room);
@@ -107,8 +107,8 @@ pub(crate) fn hashed_lists<'a, H: KeyDigest>(
     digest: &H,
 ) -> Result<List<LentList<'a>>, Memory>
     requires missing { IsTrue (refs_fit missing.now) }
-    requires hashed { AreHashed (hashes_of H.digest_of H.size) items.now }
-    ensures { IfOk result (λ made. map spec.told made ≡ spec.hashed_lists (hashes_of H.digest_of H.size) missing.now feed (delivered items.now)) }
+    requires hashed { AreHashed (hashes_of H.function) items.now }
+    ensures { IfOk result (λ made. map spec.told made ≡ spec.hashed_lists (hashes_of H.function) missing.now feed (delivered items.now)) }
 {
     let mut made = Vec::new(alloc);
     add_missing(alloc, &mut made, missing.items(), feed, digest)?;

@@ -122,14 +122,14 @@ impl HubTable {
     ) -> Result<List<HubRow>, DeltaFault>
         requires dated { IsTrue (list_all (λ row. nat_le row.load load) self.now.rows) }
         requires items { AreHubItems catalog.now (delivered items.now) }
-        requires hashed { AreHashed (hashes_of H.digest_of H.size) items.now }
-        ensures apart { IfOk result (λ made. HasNoClash (hub_hashed catalog.now (hashes_of H.digest_of H.size) self.now.rows (delivered items.now))) }
-        ensures rows { IfOk result (λ made. made ≡ hub_delta catalog.now (hashes_of H.digest_of H.size) load self.now.rows (delivered items.now)) }
-        ensures collision { IfCollides result (IsLeastClash (hub_hashed catalog.now (hashes_of H.digest_of H.size) self.now.rows (delivered items.now))) }
+        requires hashed { AreHashed (hashes_of H.function) items.now }
+        ensures apart { IfOk result (λ made. HasNoClash (hub_hashed catalog.now (hashes_of H.function) self.now.rows (delivered items.now))) }
+        ensures rows { IfOk result (λ made. made ≡ hub_delta catalog.now (hashes_of H.function) load self.now.rows (delivered items.now)) }
+        ensures collision { IfCollides result (IsLeastClash (hub_hashed catalog.now (hashes_of H.function) self.now.rows (delivered items.now))) }
         ensures whole { IfOk result (λ made. IsTrue (are_hub_rows (self.now.rows ++ made))) }
-        ensures batch { (hub : ℕ) (older : list_of Window) (window : Window) → IsNext catalog.now (hashes_of H.digest_of H.size) hub older window self.now.rows load (delivered items.now)
-            → Answers result (collision_in catalog.now (hashes_of H.digest_of H.size) (reverse (window ∷ older)) (parents.Hub hub)) (hub_batch catalog.now (hashes_of H.digest_of H.size) hub older window) }
-        ensures held { (hub : ℕ) (older : list_of Window) (window : Window) → IsHeld catalog.now (hashes_of H.digest_of H.size) hub older window self.now.rows (delivered items.now)
+        ensures batch { (hub : ℕ) (older : list_of Window) (window : Window) → IsNext catalog.now (hashes_of H.function) hub older window self.now.rows load (delivered items.now)
+            → Answers result (collision_in catalog.now (hashes_of H.function) (reverse (window ∷ older)) (parents.Hub hub)) (hub_batch catalog.now (hashes_of H.function) hub older window) }
+        ensures held { (hub : ℕ) (older : list_of Window) (window : Window) → IsHeld catalog.now (hashes_of H.function) hub older window self.now.rows (delivered items.now)
             → Answers result None [] }
     {
         let alloc = self.held.allocator();

@@ -18,7 +18,7 @@ use std::slice::from_ref;
 // The hash key of a key alone.
 fn key_hash<H: KeyDigest>(key: &Key, digest: &H, room: &mut Room) -> Digest
     requires { IsTrue (refs_fit (key.now ∷ [])) }
-    ensures { result ≡ (hashes_of H.digest_of H.size).hash (key.now ∷ []) }
+    ensures { result ≡ (hashes_of H.function).hash (key.now ∷ []) }
 {
     hash_key(digest, from_ref(key), room)
 }
@@ -31,7 +31,7 @@ fn each_key_hash<H: KeyDigest>(
     room: &mut Room,
 ) -> Result<List<Digest>, Memory>
     requires { IsTrue (list_all (λ key. refs_fit (key ∷ [])) refs.now) }
-    ensures { IfOk result (λ made. made ≡ each_hash (hashes_of H.digest_of H.size) refs.now) }
+    ensures { IfOk result (λ made. made ≡ each_hash (hashes_of H.function) refs.now) }
 {
     let mut made = List::with_room(alloc, refs.len())?;
     for key in refs {
@@ -51,7 +51,7 @@ fn row_of<H: KeyDigest>(
 ) -> Result<LinkRow, Memory>
     requires feed { list.now.feed < length catalog.now.feeds }
     requires fits { IsTrue (refs_fit list.now.refs.now) }
-    ensures { IfOk result (λ row. row ≡ link_row catalog.now (hashes_of H.digest_of H.size) load (told list.now)) }
+    ensures { IfOk result (λ row. row ≡ link_row catalog.now (hashes_of H.function) load (told list.now)) }
 {
     let hubs = each_key_hash(alloc, list.refs, digest, room)?;
     let source = record_source(alloc, catalog.feed(list.feed))?;
@@ -73,7 +73,7 @@ pub(crate) fn link_rows<H: KeyDigest>(
 ) -> Result<List<LinkRow>, Memory>
     requires feeds { IsTrue (list_all (λ list. nat_lt list.feed (length catalog.now.feeds)) lists.now) }
     requires fits { IsTrue (list_all (λ list. refs_fit list.refs.now) lists.now) }
-    ensures { IfOk result (λ made. made ≡ map (λ list. link_row catalog.now (hashes_of H.digest_of H.size) load (told list)) lists.now) }
+    ensures { IfOk result (λ made. made ≡ map (λ list. link_row catalog.now (hashes_of H.function) load (told list)) lists.now) }
 {
     let mut room = Room::new(alloc)?;
     let mut rows = List::with_room(alloc, lists.len())?;

@@ -144,14 +144,14 @@ impl LinkTable {
     ) -> Result<List<LinkRow>, DeltaFault>
         requires dated { IsTrue (list_all (λ row. nat_le row.load load) self.now.rows) }
         requires items { AreLinkItems catalog.now (delivered items.now) }
-        requires hashed { AreHashed (hashes_of H.digest_of H.size) items.now }
-        ensures apart { IfOk result (λ made. HasNoClash (link_hashed catalog.now (hashes_of H.digest_of H.size) (N.names names.now) self.now.rows (delivered items.now))) }
-        ensures rows { IfOk result (λ made. made ≡ link_delta catalog.now (hashes_of H.digest_of H.size) load self.now.rows (delivered items.now)) }
-        ensures collision { IfCollides result (IsLeastClash (link_hashed catalog.now (hashes_of H.digest_of H.size) (N.names names.now) self.now.rows (delivered items.now))) }
+        requires hashed { AreHashed (hashes_of H.function) items.now }
+        ensures apart { IfOk result (λ made. HasNoClash (link_hashed catalog.now (hashes_of H.function) (N.names names.now) self.now.rows (delivered items.now))) }
+        ensures rows { IfOk result (λ made. made ≡ link_delta catalog.now (hashes_of H.function) load self.now.rows (delivered items.now)) }
+        ensures collision { IfCollides result (IsLeastClash (link_hashed catalog.now (hashes_of H.function) (N.names names.now) self.now.rows (delivered items.now))) }
         ensures whole { IfOk result (λ made. IsTrue (are_link_rows (self.now.rows ++ made))) }
-        ensures batch { (link : ℕ) (older : list_of Window) (window : Window) → IsNext catalog.now (hashes_of H.digest_of H.size) (N.names names.now) link older window self.now.rows load (delivered items.now)
-            → Answers result (collision_in catalog.now (hashes_of H.digest_of H.size) (reverse (window ∷ older)) (parents.Link link)) (link_batch catalog.now (hashes_of H.digest_of H.size) link older window) }
-        ensures held { (link : ℕ) (older : list_of Window) (window : Window) → IsHeld catalog.now (hashes_of H.digest_of H.size) (N.names names.now) link older window self.now.rows (delivered items.now)
+        ensures batch { (link : ℕ) (older : list_of Window) (window : Window) → IsNext catalog.now (hashes_of H.function) (N.names names.now) link older window self.now.rows load (delivered items.now)
+            → Answers result (collision_in catalog.now (hashes_of H.function) (reverse (window ∷ older)) (parents.Link link)) (link_batch catalog.now (hashes_of H.function) link older window) }
+        ensures held { (link : ℕ) (older : list_of Window) (window : Window) → IsHeld catalog.now (hashes_of H.function) (N.names names.now) link older window self.now.rows (delivered items.now)
             → Answers result None [] }
     {
         let alloc = self.held.allocator();

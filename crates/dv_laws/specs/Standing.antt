@@ -1,7 +1,7 @@
 -- What the storing of a mapping, and of a snapshot, makes of what a store stands for; and that a store that stands for a
 -- state has no damage.
 use Rattle.std.specs.Prelude.{◌≡◌, ◌≢◌, ◌⊎◌, ℕ, true, List, None, Ok, length}
-use Rattle.dv_text.specs.Keys.{Hashes, hashes_of}
+use Rattle.dv_text.specs.Keys.{DigestFunction, Hashes, hashes_of}
 use Rattle.dv_catalog.specs.Entries.{Mapping}
 use Rattle.dv_catalog.specs.MappingFiles.{read_mapping}
 use Rattle.dv_records.specs.declared.answers.InitAnswer.{InitAnswer}
@@ -60,8 +60,8 @@ SnapshotKeepsForm = (snap : Snap) (store : Store) → is_well_formed store ≡ t
 -- ---- damage
 
 -- a store that stands for a state has no damage of its sealed windows, its open window, its raw tables and its snapshots,
--- under each function whose digests have one width
+-- under each digest function
 abbrev pub StandingSound : Type 0
 StandingSound =
-    (mapping : Mapping) (digest : List ℕ → List ℕ) (size : ℕ) → ((text : List ℕ) → length (digest text) ≡ size)
-    → (state : State) (store : Store) → Stands mapping (hashes_of digest size) state store → form_damage mapping (hashes_of digest size) size store ≡ None
+    (mapping : Mapping) (function : DigestFunction) (state : State) (store : Store)
+    → Stands mapping (hashes_of function) state store → form_damage mapping (hashes_of function) function.width store ≡ None

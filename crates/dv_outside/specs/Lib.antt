@@ -12,3 +12,4 @@ pub mod RealFolders
 pub mod RealLinks
 pub mod RealStreams
 pub mod Seen
+pub mod Worlds

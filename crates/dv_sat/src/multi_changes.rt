@@ -75,9 +75,9 @@ pub(crate) fn change<H: KeyDigest>(
     room: &mut Room,
 ) -> Result<Option<MultiRow>, Memory>
     requires ascending { IsStrictlySortedBy row_cmp staged.now }
-    requires key { parent.now ≡ (hashes_of H.digest_of H.size).hash row.now.refs }
+    requires key { parent.now ≡ (hashes_of H.function).hash row.now.refs }
     requires attrs_fit { IsTrue (fits.attrs_fit row.now.attrs) }
-    ensures { IfOk result (λ made. made ≡ multi_change_from (hashes_of H.digest_of H.size) source.now valid.now load staged.now row.now) }
+    ensures { IfOk result (λ made. made ≡ multi_change_from (hashes_of H.function) source.now valid.now load staged.now row.now) }
 {
     if are_described(valid, &row.refs, rows_of_list(staged, &row.refs)) {
         return Ok(None);

@@ -51,11 +51,11 @@ impl MultiTable {
     ) -> Result<Rows, Memory>
         requires feed { feed < length catalog.now.feeds }
         requires staged { IfSome extract (λ extract. extract.now.staged.now.feed ≡ feed) }
-        requires keys { IfSome extract (λ extract. HasKeys (hashes_of H.digest_of H.size) extract.now) }
+        requires keys { IfSome extract (λ extract. HasKeys (hashes_of H.function) extract.now) }
         requires ascending { IfSome extract (λ extract. IsStrictlySortedBy row_cmp extract.now.staged.now.rows) }
         requires attrs_fit { IfSome extract (λ extract. IsTrue (list_all (λ row. fits.attrs_fit row.attrs) extract.now.staged.now.rows)) }
         requires not_later { IsTrue (is_up_to load (rows_of.Multis self.now.rows)) }
-        ensures rows { IfOk result (λ rows. rows ≡ extract_added (multi.multis_added (hashes_of H.digest_of H.size) (source catalog.now feed) (rows_of.Multis self.now.rows)) (rows_of.Multis []) (option_map (λ extract. extract_at load extract.now.staged.now) extract.entry)) }
+        ensures rows { IfOk result (λ rows. rows ≡ extract_added (multi.multis_added (hashes_of H.function) (source catalog.now feed) (rows_of.Multis self.now.rows)) (rows_of.Multis []) (option_map (λ extract. extract_at load extract.now.staged.now) extract.entry)) }
         ensures stamped { IfOk result (AreOfLoad load) }
         ensures follow { IfOk result (multi.Follow (rows_of.Multis self.now.rows)) }
     {

@@ -156,9 +156,9 @@ impl MultiTable {
         digest: &H,
     ) -> Result<Vec<MultiRow>, Memory>
         requires ascending { IsStrictlySortedBy row_cmp rows.now }
-        requires keys { keys.now ≡ map (λ row. (hashes_of H.digest_of H.size).hash row.refs) rows.now }
+        requires keys { keys.now ≡ map (λ row. (hashes_of H.function).hash row.refs) rows.now }
         requires attrs_fit { IsTrue (list_all (λ row. fits.attrs_fit row.attrs) rows.now) }
-        ensures { IfOk result (λ made. made.items ≡ filter_map (multi_change (hashes_of H.digest_of H.size) source.now self.now.rows load rows.now) rows.now) }
+        ensures { IfOk result (λ made. made.items ≡ filter_map (multi_change (hashes_of H.function) source.now self.now.rows load rows.now) rows.now) }
     {
         let found = self.each_last(keys, load)?;
         let mut room = Room::new(self.allocator())?;
@@ -186,14 +186,14 @@ impl MultiTable {
         digest: &H,
     ) -> Result<List<MultiRow>, Memory>
         requires feed { extract.now.staged.now.feed < length catalog.now.feeds }
-        requires keys { HasKeys (hashes_of H.digest_of H.size) extract.now }
+        requires keys { HasKeys (hashes_of H.function) extract.now }
         requires ascending { IsStrictlySortedBy row_cmp extract.now.staged.now.rows }
         requires attrs_fit { IsTrue (list_all (λ row. fits.attrs_fit row.attrs) extract.now.staged.now.rows) }
         requires not_later { IsTrue (are_up_to self.now.rows load) }
-        ensures delta { IfOk result (λ rows. rows ≡ multi_delta (hashes_of H.digest_of H.size) (source catalog.now extract.now.staged.now.feed) self.now.rows load extract.now.staged.now.rows) }
+        ensures delta { IfOk result (λ rows. rows ≡ multi_delta (hashes_of H.function) (source catalog.now extract.now.staged.now.feed) self.now.rows load extract.now.staged.now.rows) }
         ensures stamped { IfOk result (All (λ row. row.load ≡ load)) }
         ensures follows { IfOk result (λ rows. IsStrictlySortedBy multi_order (self.now.rows ++ rows)) }
-        ensures batch { IfOk result (IsMultiBatchAfter (hashes_of H.digest_of H.size) (source catalog.now extract.now.staged.now.feed) self.now.rows (record { load = load; rows = extract.now.staged.now.rows })) }
+        ensures batch { IfOk result (IsMultiBatchAfter (hashes_of H.function) (source catalog.now extract.now.staged.now.feed) self.now.rows (record { load = load; rows = extract.now.staged.now.rows })) }
     {
         let rows = self.delta_rows(load, extract, catalog, digest)?;
         Ok(rows)
@@ -207,11 +207,11 @@ impl MultiTable {
         digest: &H,
     ) -> Result<List<MultiRow>, Memory>
         requires feed { extract.now.staged.now.feed < length catalog.now.feeds }
-        requires keys { HasKeys (hashes_of H.digest_of H.size) extract.now }
+        requires keys { HasKeys (hashes_of H.function) extract.now }
         requires ascending { IsStrictlySortedBy row_cmp extract.now.staged.now.rows }
         requires attrs_fit { IsTrue (list_all (λ row. fits.attrs_fit row.attrs) extract.now.staged.now.rows) }
         requires not_later { IsTrue (are_up_to self.now.rows load) }
-        ensures value { IfOk result (λ rows. rows ≡ multi_delta (hashes_of H.digest_of H.size) (source catalog.now extract.now.staged.now.feed) self.now.rows load extract.now.staged.now.rows) }
+        ensures value { IfOk result (λ rows. rows ≡ multi_delta (hashes_of H.function) (source catalog.now extract.now.staged.now.feed) self.now.rows load extract.now.staged.now.rows) }
         ensures order { IsStrictlySortedBy multi_order self.now.rows }
     {
         if self.has_load(load) {

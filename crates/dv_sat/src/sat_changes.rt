@@ -13,7 +13,7 @@ use dv_text::{Digest, Duplicate, KeyDigest, List, Memory, NRow, Stamp, Text};
 /// The hash difference of attributes that are no longer than those of staged rows.
 pub(crate) fn diff<H: KeyDigest>(digest: &H, attrs: &List<Text>, room: &mut Room) -> Digest
     requires { IsTrue (fits.attrs_fit attrs.now) }
-    ensures { result ≡ (hashes_of H.digest_of H.size).diff attrs.now }
+    ensures { result ≡ (hashes_of H.function).diff attrs.now }
 {
     hash_diff(digest, attrs, room)
 }
@@ -60,9 +60,9 @@ pub(crate) fn change<H: KeyDigest>(
     digest: &H,
     room: &mut Room,
 ) -> Result<Option<SatRow>, Memory>
-    requires key { parent.now ≡ (hashes_of H.digest_of H.size).hash row.now.refs }
+    requires key { parent.now ≡ (hashes_of H.function).hash row.now.refs }
     requires attrs_fit { IsTrue (fits.attrs_fit row.now.attrs) }
-    ensures { IfOk result (λ made. made ≡ sat_change_from (hashes_of H.digest_of H.size) source.now (option_map (λ row. row.now) valid.entry) load row.now) }
+    ensures { IfOk result (λ made. made ≡ sat_change_from (hashes_of H.function) source.now (option_map (λ row. row.now) valid.entry) load row.now) }
 {
     if has_attrs(valid, &row.attrs) {
         return Ok(None);

@@ -148,9 +148,9 @@ impl SatTable {
         keys: &[Digest],
         digest: &H,
     ) -> Result<Vec<SatRow>, Memory>
-        requires keys { keys.now ≡ map (λ row. (hashes_of H.digest_of H.size).hash row.refs) rows.now }
+        requires keys { keys.now ≡ map (λ row. (hashes_of H.function).hash row.refs) rows.now }
         requires attrs_fit { IsTrue (list_all (λ row. fits.attrs_fit row.attrs) rows.now) }
-        ensures { IfOk result (λ made. made.items ≡ filter_map (sat_change (hashes_of H.digest_of H.size) source.now self.now.rows load) rows.now) }
+        ensures { IfOk result (λ made. made.items ≡ filter_map (sat_change (hashes_of H.function) source.now self.now.rows load) rows.now) }
     {
         let found = self.each_at(keys, load)?;
         let mut room = Room::new(self.allocator())?;
@@ -177,13 +177,13 @@ impl SatTable {
         digest: &H,
     ) -> Result<List<SatRow>, Memory>
         requires feed { extract.now.staged.now.feed < length catalog.now.feeds }
-        requires keys { HasKeys (hashes_of H.digest_of H.size) extract.now }
+        requires keys { HasKeys (hashes_of H.function) extract.now }
         requires attrs_fit { IsTrue (list_all (λ row. fits.attrs_fit row.attrs) extract.now.staged.now.rows) }
         requires not_later { IsTrue (are_up_to self.now.rows load) }
-        ensures delta { IfOk result (λ rows. rows ≡ sat_delta (hashes_of H.digest_of H.size) (source catalog.now extract.now.staged.now.feed) self.now.rows load extract.now.staged.now.rows) }
+        ensures delta { IfOk result (λ rows. rows ≡ sat_delta (hashes_of H.function) (source catalog.now extract.now.staged.now.feed) self.now.rows load extract.now.staged.now.rows) }
         ensures stamped { IfOk result (All (λ row. row.load ≡ load)) }
         ensures follows { IfOk result (λ rows. IsStrictlySortedBy sat_order (self.now.rows ++ rows)) }
-        ensures batch { IfOk result (IsSatBatchAfter (hashes_of H.digest_of H.size) (source catalog.now extract.now.staged.now.feed) self.now.rows (record { load = load; rows = extract.now.staged.now.rows })) }
+        ensures batch { IfOk result (IsSatBatchAfter (hashes_of H.function) (source catalog.now extract.now.staged.now.feed) self.now.rows (record { load = load; rows = extract.now.staged.now.rows })) }
     {
         let rows = self.delta_rows(load, extract, catalog, digest)?;
         Ok(rows)
@@ -197,10 +197,10 @@ impl SatTable {
         digest: &H,
     ) -> Result<List<SatRow>, Memory>
         requires feed { extract.now.staged.now.feed < length catalog.now.feeds }
-        requires keys { HasKeys (hashes_of H.digest_of H.size) extract.now }
+        requires keys { HasKeys (hashes_of H.function) extract.now }
         requires attrs_fit { IsTrue (list_all (λ row. fits.attrs_fit row.attrs) extract.now.staged.now.rows) }
         requires not_later { IsTrue (are_up_to self.now.rows load) }
-        ensures value { IfOk result (λ rows. rows ≡ sat_delta (hashes_of H.digest_of H.size) (source catalog.now extract.now.staged.now.feed) self.now.rows load extract.now.staged.now.rows) }
+        ensures value { IfOk result (λ rows. rows ≡ sat_delta (hashes_of H.function) (source catalog.now extract.now.staged.now.feed) self.now.rows load extract.now.staged.now.rows) }
         ensures order { IsStrictlySortedBy sat_order self.now.rows }
     {
         if self.has_load(load) {

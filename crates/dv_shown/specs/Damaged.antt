@@ -3,7 +3,7 @@ use Rattle.std.specs.Prelude.{◌≡◌, ℕ, ◌+◌, List, [], ◌∷◌, ◌+
 use Rattle.dv_text.specs.declared.rows.Staged.{Staged}
 use Rattle.dv_text.specs.declared.rows.Window.{Window}
 use Rattle.dv_text.specs.declared.rows.WindowHead.{WindowHead}
-use Rattle.dv_text.specs.Keys.{Hashes, hashes_of}
+use Rattle.dv_text.specs.Keys.{Hashes, hashes_by}
 use Rattle.dv_text.specs.Stamps.{open_end}
 use Rattle.dv_catalog.specs.declared.tables.TableId.{TableId}
 use Rattle.dv_catalog.specs.declared.tables.TableId.TheVariants.{Hub, Link, Sat, Multi, Status, Effect}
@@ -38,7 +38,7 @@ abbrev pub dotted : List ℕ → List ℕ
 dotted text = take 8 (text ++ replicate 8 46)
 
 abbrev pub wide : Hashes
-wide = hashes_of dotted 8
+wide = hashes_by dotted 8
 
 -- ---- stores, and what is damaged in them
 

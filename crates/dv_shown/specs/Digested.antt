@@ -1,7 +1,7 @@
 -- Tables under MD5 (RFC 1321).
 use Rattle.std.specs.Prelude.{◌≡◌, true, false, [], ◌∷◌, Some, None, codes, replicate, reverse}
 use Rattle.md5.specs.Md5.{md5}
-use Rattle.dv_text.specs.Keys.{Hashes, hashes_of}
+use Rattle.dv_text.specs.Keys.{Hashes, hashes_by}
 use Rattle.dv_catalog.specs.declared.tables.TableId.TheVariants.{Link, Sat, Status}
 use Rattle.dv_records.specs.declared.raw_rows.Code.TheVariants.{I, D}
 use Rattle.dv_records.specs.declared.stores.Rows.TheVariants.{Links, Sats, Statuses}
@@ -13,7 +13,7 @@ use Rattle.dv_shown.specs.Words.{day, key, unhex}
 use Rattle.dv_records.specs.Backwards.{backwards}
 
 abbrev pub md5_hashes : Hashes
-md5_hashes = hashes_of md5 16
+md5_hashes = hashes_by md5 16
 
 -- the hash key of the key 1, and the hash difference of the attribute abc
 abbrev pub SatelliteDigested : Type 0

@@ -5,7 +5,7 @@ use Rattle.dv_text.specs.declared.rows.Key.{Key}
 use Rattle.dv_text.specs.declared.rows.NRow.{NRow}
 use Rattle.dv_text.specs.declared.rows.Staged.{Staged}
 use Rattle.dv_text.specs.declared.rows.Window.{Window}
-use Rattle.dv_text.specs.Keys.{Hashes, hashes_of}
+use Rattle.dv_text.specs.Keys.{Hashes, hashes_by}
 use Rattle.dv_records.specs.declared.raw_rows.Code.{Code}
 use Rattle.dv_records.specs.declared.raw_rows.EffectRow.{EffectRow}
 use Rattle.dv_records.specs.declared.raw_rows.HubRow.{HubRow}
@@ -71,7 +71,7 @@ window n extracts = record { load = day n; extracts = extracts }
 
 -- the text in place of its digest, with a zero key of one byte
 abbrev pub plain : Hashes
-plain = hashes_of (λ text. text) 1
+plain = hashes_by (λ text. text) 1
 
 -- the text's first byte and fifteen bytes 1, or sixteen bytes 1
 abbrev pub first_byte : List ℕ → List ℕ
@@ -79,18 +79,18 @@ first_byte [] = replicate 16 1
 first_byte (b ∷ text) = b ∷ replicate 15 1
 
 abbrev pub tiny : Hashes
-tiny = hashes_of first_byte 16
+tiny = hashes_by first_byte 16
 
 -- the text backwards, so that hash keys have another order than keys
 abbrev pub mirrored : Hashes
-mirrored = hashes_of (λ text. reverse text) 1
+mirrored = hashes_by (λ text. reverse text) 1
 
 -- the zero key for each text with a semicolon, and the text in place of its digest for any other
 abbrev pub zero_if_joined : List ℕ → List ℕ
 zero_if_joined text = if list_any (λ b. b == 59) text then 0 ∷ [] else text
 
 abbrev pub joined_alike : Hashes
-joined_alike = hashes_of zero_if_joined 1
+joined_alike = hashes_by zero_if_joined 1
 
 -- the value of a hexadecimal digit, and the bytes that two digits each stand for
 abbrev pub hex_value : ℕ → ℕ

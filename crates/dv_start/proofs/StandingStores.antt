@@ -2,6 +2,7 @@
 use Rattle.dv_form.proofs.Vocabulary.{Contains, Hashes, List, Mapping, None, Ok, Option, Some, Store, TableId, TableRows, Window, [], and_parts, ap, append-nil, are_windows_valid, arith, backwards, drop, hashes_of, head_of}
 use Rattle.dv_form.proofs.Vocabulary.{is_window, length, length-append, length-map, map, map-append, map-map, map_member, most_weight, most_windows, nat_le, nat_lt, nat_tests, option_to_list, passes_at, refl, inl, inr, reverse, same_Some}
 use Rattle.dv_form.proofs.Vocabulary.{false, load_order, reverse-append, reverse_member, subst, sym, table_entry, tables, take, take-append-drop, true, vault, vault_weight, ℕ, ◌++◌, ◌+◌, ◌<◌, ◌∙◌, ◌∷◌, ◌≡◌, ◌≤◌}
+use Rattle.dv_text.specs.Keys.{DigestFunction}
 use Rattle.dv_catalog.specs.MappingFiles.{read_mapping}
 use Rattle.dv_catalog.specs.Mappings.{is_valid}
 use Rattle.dv_mapfile.proofs.ReadMappings.{read_valid}
@@ -195,24 +196,24 @@ never_unread mapping hashes state store stands damage unread =
     let text : here.text ≡ unread.text = same_Some here.text unread.text (sym here.stored_is ∙ unread.stored_is) in
     unread.refused mapping (ap read_mapping (sym text) ∙ here.reads)
 
-module _ (mapping : Mapping) (digest : List ℕ → List ℕ) (size : ℕ) (sized : (text : List ℕ) → length (digest text) ≡ size) (state : State) (store : Store) (stands : Stands mapping (hashes_of digest size) state store) where
+module _ (mapping : Mapping) (function : DigestFunction) (state : State) (store : Store) (stands : Stands mapping (hashes_of function) state store) where
   -- it is in form
-  pub in_form : IsInForm (hashes_of digest size) size mapping store
+  pub in_form : IsInForm (hashes_of function) function.width mapping store
   in_form = record {
-    undamaged = undamaged_if_valid mapping digest size sized (valid_mapping mapping (hashes_of digest size) state store stands) state store stands;
-    goes_on = keeps_f15 mapping (hashes_of digest size) state store stands;
+    undamaged = undamaged_if_valid mapping function (valid_mapping mapping (hashes_of function) state store stands) state store stands;
+    goes_on = keeps_f15 mapping (hashes_of function) state store stands;
   }
 
   -- so none of the rules behind that of the mapping is broken
-  pub none_broken : (damage : Damage) → BreaksRule (hashes_of digest size) size mapping store damage → ⊥
+  pub none_broken : (damage : Damage) → BreaksRule (hashes_of function) function.width mapping store damage → ⊥
   none_broken damage (inl broken) =
       let none : None ≡ Some damage = sym in_form.undamaged ∙ broken in
       cc
   none_broken damage (inr broken) = broken.stops in_form.goes_on
 
   -- and nothing in it is its first damage
-  pub never_damaged : (damage : Damage) → IsFirstDamage (hashes_of digest size) size store damage → ⊥
-  never_damaged damage (inl unread) = never_unread mapping (hashes_of digest size) state store stands damage unread
+  pub never_damaged : (damage : Damage) → IsFirstDamage (hashes_of function) function.width store damage → ⊥
+  never_damaged damage (inl unread) = never_unread mapping (hashes_of function) state store stands damage unread
   never_damaged damage (inr (other, other_read, broken)) =
       let same = same_mapping other mapping store other_read stands.mapped in
-      none_broken damage (subst (λ (read : Mapping). BreaksRule (hashes_of digest size) size read store damage) same broken)
+      none_broken damage (subst (λ (read : Mapping). BreaksRule (hashes_of function) function.width read store damage) same broken)

@@ -29,8 +29,8 @@ fn hub_table<H: KeyDigest>(
 ) -> Result<Checked<Table>, Fault>
     ensures entry { IfOk result (λ made. entry_of made.table ≡ record { table = ids.Hub hub; rows = rows_of.Hubs rows }) }
     ensures weight { IfOk result (λ made. made.weight ≡ known.now.weight + rows_weight (rows_of.Hubs rows)) }
-    ensures clear { (read : spec.Known) → IsKnown (hashes_of H.digest_of H.size) H.size known.now read → IfOk result (λ made. flaw_in read (ids.Hub hub) (rows_of.Hubs rows) ≡ None) }
-    ensures flawed { (read : spec.Known) → IsKnown (hashes_of H.digest_of H.size) H.size known.now read → IfErr result (λ fault. TellsFlaw fault (flaw_in read (ids.Hub hub) (rows_of.Hubs rows))) }
+    ensures clear { (read : spec.Known) → IsKnown (hashes_of H.function) H.function.width known.now read → IfOk result (λ made. flaw_in read (ids.Hub hub) (rows_of.Hubs rows) ≡ None) }
+    ensures flawed { (read : spec.Known) → IsKnown (hashes_of H.function) H.function.width known.now read → IfErr result (λ fault. TellsFlaw fault (flaw_in read (ids.Hub hub) (rows_of.Hubs rows))) }
 {
     let made = checked_hub(known, hub, rows, digest)?;
     let table = Table::Hub {
@@ -52,8 +52,8 @@ fn link_table<H: KeyDigest>(
 ) -> Result<Checked<Table>, Fault>
     ensures entry { IfOk result (λ made. entry_of made.table ≡ record { table = ids.Link link; rows = rows_of.Links rows }) }
     ensures weight { IfOk result (λ made. made.weight ≡ known.now.weight + rows_weight (rows_of.Links rows)) }
-    ensures clear { (read : spec.Known) → IsKnown (hashes_of H.digest_of H.size) H.size known.now read → IfOk result (λ made. flaw_in read (ids.Link link) (rows_of.Links rows) ≡ None) }
-    ensures flawed { (read : spec.Known) → IsKnown (hashes_of H.digest_of H.size) H.size known.now read → IfErr result (λ fault. TellsFlaw fault (flaw_in read (ids.Link link) (rows_of.Links rows))) }
+    ensures clear { (read : spec.Known) → IsKnown (hashes_of H.function) H.function.width known.now read → IfOk result (λ made. flaw_in read (ids.Link link) (rows_of.Links rows) ≡ None) }
+    ensures flawed { (read : spec.Known) → IsKnown (hashes_of H.function) H.function.width known.now read → IfErr result (λ fault. TellsFlaw fault (flaw_in read (ids.Link link) (rows_of.Links rows))) }
 {
     let made = checked_link(known, link, rows, digest)?;
     let table = Table::Link {
@@ -75,8 +75,8 @@ fn sat_table<H: KeyDigest>(
 ) -> Result<Checked<Table>, Fault>
     ensures entry { IfOk result (λ made. entry_of made.table ≡ record { table = ids.Sat feed; rows = rows_of.Sats rows }) }
     ensures weight { IfOk result (λ made. made.weight ≡ known.now.weight + rows_weight (rows_of.Sats rows)) }
-    ensures clear { (read : spec.Known) → IsKnown (hashes_of H.digest_of H.size) H.size known.now read → IfOk result (λ made. flaw_in read (ids.Sat feed) (rows_of.Sats rows) ≡ None) }
-    ensures flawed { (read : spec.Known) → IsKnown (hashes_of H.digest_of H.size) H.size known.now read → IfErr result (λ fault. TellsFlaw fault (flaw_in read (ids.Sat feed) (rows_of.Sats rows))) }
+    ensures clear { (read : spec.Known) → IsKnown (hashes_of H.function) H.function.width known.now read → IfOk result (λ made. flaw_in read (ids.Sat feed) (rows_of.Sats rows) ≡ None) }
+    ensures flawed { (read : spec.Known) → IsKnown (hashes_of H.function) H.function.width known.now read → IfErr result (λ fault. TellsFlaw fault (flaw_in read (ids.Sat feed) (rows_of.Sats rows))) }
 {
     let made = checked_sat(known, feed, rows, digest)?;
     let table = Table::Sat {
@@ -98,8 +98,8 @@ fn multi_table<H: KeyDigest>(
 ) -> Result<Checked<Table>, Fault>
     ensures entry { IfOk result (λ made. entry_of made.table ≡ record { table = ids.Multi feed; rows = rows_of.Multis rows }) }
     ensures weight { IfOk result (λ made. made.weight ≡ known.now.weight + rows_weight (rows_of.Multis rows)) }
-    ensures clear { (read : spec.Known) → IsKnown (hashes_of H.digest_of H.size) H.size known.now read → IfOk result (λ made. flaw_in read (ids.Multi feed) (rows_of.Multis rows) ≡ None) }
-    ensures flawed { (read : spec.Known) → IsKnown (hashes_of H.digest_of H.size) H.size known.now read → IfErr result (λ fault. TellsFlaw fault (flaw_in read (ids.Multi feed) (rows_of.Multis rows))) }
+    ensures clear { (read : spec.Known) → IsKnown (hashes_of H.function) H.function.width known.now read → IfOk result (λ made. flaw_in read (ids.Multi feed) (rows_of.Multis rows) ≡ None) }
+    ensures flawed { (read : spec.Known) → IsKnown (hashes_of H.function) H.function.width known.now read → IfErr result (λ fault. TellsFlaw fault (flaw_in read (ids.Multi feed) (rows_of.Multis rows))) }
 {
     let made = checked_multi(known, feed, rows, digest)?;
     let table = Table::Multi {
@@ -121,8 +121,8 @@ fn status_table<H: KeyDigest>(
 ) -> Result<Checked<Table>, Fault>
     ensures entry { IfOk result (λ made. entry_of made.table ≡ record { table = ids.Status feed; rows = rows_of.Statuses rows }) }
     ensures weight { IfOk result (λ made. made.weight ≡ known.now.weight + rows_weight (rows_of.Statuses rows)) }
-    ensures clear { (read : spec.Known) → IsKnown (hashes_of H.digest_of H.size) H.size known.now read → IfOk result (λ made. flaw_in read (ids.Status feed) (rows_of.Statuses rows) ≡ None) }
-    ensures flawed { (read : spec.Known) → IsKnown (hashes_of H.digest_of H.size) H.size known.now read → IfErr result (λ fault. TellsFlaw fault (flaw_in read (ids.Status feed) (rows_of.Statuses rows))) }
+    ensures clear { (read : spec.Known) → IsKnown (hashes_of H.function) H.function.width known.now read → IfOk result (λ made. flaw_in read (ids.Status feed) (rows_of.Statuses rows) ≡ None) }
+    ensures flawed { (read : spec.Known) → IsKnown (hashes_of H.function) H.function.width known.now read → IfErr result (λ fault. TellsFlaw fault (flaw_in read (ids.Status feed) (rows_of.Statuses rows))) }
 {
     let made = checked_status(known, feed, rows, digest)?;
     let table = Table::Status {
@@ -144,8 +144,8 @@ fn effect_table<H: KeyDigest>(
 ) -> Result<Checked<Table>, Fault>
     ensures entry { IfOk result (λ made. entry_of made.table ≡ record { table = ids.Effect feed; rows = rows_of.Effects rows }) }
     ensures weight { IfOk result (λ made. made.weight ≡ known.now.weight + rows_weight (rows_of.Effects rows)) }
-    ensures clear { (read : spec.Known) → IsKnown (hashes_of H.digest_of H.size) H.size known.now read → IfOk result (λ made. flaw_in read (ids.Effect feed) (rows_of.Effects rows) ≡ None) }
-    ensures flawed { (read : spec.Known) → IsKnown (hashes_of H.digest_of H.size) H.size known.now read → IfErr result (λ fault. TellsFlaw fault (flaw_in read (ids.Effect feed) (rows_of.Effects rows))) }
+    ensures clear { (read : spec.Known) → IsKnown (hashes_of H.function) H.function.width known.now read → IfOk result (λ made. flaw_in read (ids.Effect feed) (rows_of.Effects rows) ≡ None) }
+    ensures flawed { (read : spec.Known) → IsKnown (hashes_of H.function) H.function.width known.now read → IfErr result (λ fault. TellsFlaw fault (flaw_in read (ids.Effect feed) (rows_of.Effects rows))) }
 {
     let made = checked_effect(known, feed, rows, digest)?;
     let table = Table::Effect {
@@ -169,8 +169,8 @@ pub(crate) fn checked_table<H: KeyDigest>(
     requires { IsTrue (is_of_kind id rows) }
     ensures entry { IfOk result (λ made. entry_of made.table ≡ record { table = id; rows = rows }) }
     ensures weight { IfOk result (λ made. made.weight ≡ known.now.weight + rows_weight rows) }
-    ensures clear { (read : spec.Known) → IsKnown (hashes_of H.digest_of H.size) H.size known.now read → IfOk result (λ made. flaw_in read id rows ≡ None) }
-    ensures flawed { (read : spec.Known) → IsKnown (hashes_of H.digest_of H.size) H.size known.now read → IfErr result (λ fault. TellsFlaw fault (flaw_in read id rows)) }
+    ensures clear { (read : spec.Known) → IsKnown (hashes_of H.function) H.function.width known.now read → IfOk result (λ made. flaw_in read id rows ≡ None) }
+    ensures flawed { (read : spec.Known) → IsKnown (hashes_of H.function) H.function.width known.now read → IfErr result (λ fault. TellsFlaw fault (flaw_in read id rows)) }
 {
     match (id, rows) {
         (TableId::Hub(hub), Rows::Hubs(rows)) => hub_table(known, hub, rows, digest),

@@ -89,10 +89,10 @@ fn is_full(weight: u64, heads: &[WindowHead]) -> Result<bool, Memory>
 fn added<H: KeyDigest>(vault: &Vault, window: Window, digest: &H) -> Result<Addition, StoreFault>
     requires later { late_after (last_head vault.now.heads) window.load ≡ None }
     requires window { IsTrue (is_window vault.now.mapping window) }
-    ensures adds { IfOk result (IsAddition (hashes_of H.digest_of H.size) vault.now window) }
+    ensures adds { IfOk result (IsAddition (hashes_of H.function) vault.now window) }
     ensures fits { IfOk result (Fits vault.now) }
     ensures room { IfOk result (λ addition. full_at addition.weight (length vault.now.heads) ≡ None) }
-    ensures damaged { (damage : Damage) → IsErrOf result (StoreFault.Damaged damage) → (damage ≡ broken_window) × (HasPlace (hashes_of H.digest_of H.size) vault.now window → ⊥) }
+    ensures damaged { (damage : Damage) → IsErrOf result (StoreFault.Damaged damage) → (damage ≡ broken_window) × (HasPlace (hashes_of H.function) vault.now window → ⊥) }
     ensures sound { IsErrOf result StoreFault.KeeperFault → ⊥ }
 {
     let heads = vault.heads();
@@ -117,10 +117,10 @@ fn begun<H: KeyDigest>(
     requires later { late_after (last_head vault.now.heads) window.load ≡ None }
     requires window { IsTrue (is_window vault.now.mapping window) }
     requires opened { length opened.now ≡ length vault.now.tables }
-    ensures begun { IfOk result (IsBegunOf (hashes_of H.digest_of H.size) vault.now window) }
+    ensures begun { IfOk result (IsBegunOf (hashes_of H.function) vault.now window) }
     ensures taken { IfOk result (MayBeTaken vault.now) }
     ensures first { IfOk result (λ begun. AreFirst begun.addition.batches opened.now begun.there) }
-    ensures damaged { (damage : Damage) → IsErrOf result (StoreFault.Damaged damage) → (damage ≡ broken_window) × (MayFollow (hashes_of H.digest_of H.size) vault.now window opened.now → ⊥) }
+    ensures damaged { (damage : Damage) → IsErrOf result (StoreFault.Damaged damage) → (damage ≡ broken_window) × (MayFollow (hashes_of H.function) vault.now window opened.now → ⊥) }
     ensures sound { IsErrOf result StoreFault.KeeperFault → ⊥ }
 {
     let addition = added(vault, window, digest)?;
@@ -147,10 +147,10 @@ fn reopened<H: KeyDigest>(
     requires loaded { IsTrue (are_loaded (heads ++ head_of window ∷ []) (map entry_of tables.items)) }
     ensures vault { IfOk result (λ restored. restored.vault ≡ sealed_vault catalog heads (Some window) (map entry_of tables.items)) }
     ensures taken { IfOk result (λ restored. IfSome restored.begun (MayBeTaken restored.vault)) }
-    ensures begun { IfOk result (λ restored. IsBegunAs (hashes_of H.digest_of H.size) restored.vault (Some window) restored.begun) }
+    ensures begun { IfOk result (λ restored. IsBegunAs (hashes_of H.function) restored.vault (Some window) restored.begun) }
     ensures entries { IfOk result (λ restored. map entry_of tables.items ≡ rows_there restored.vault restored.begun) }
-    ensures goes_on { IfOk result (λ restored. MayGoOn (hashes_of H.digest_of H.size) restored.vault (map entry_of tables.items) (Some window)) }
-    ensures damaged { (damage : Damage) → IsErrOf result (StoreFault.Damaged damage) → (damage ≡ broken_window) × (MayGoOn (hashes_of H.digest_of H.size) (sealed_vault catalog heads (Some window) (map entry_of tables.items)) (map entry_of tables.items) (Some window) → ⊥) }
+    ensures goes_on { IfOk result (λ restored. MayGoOn (hashes_of H.function) restored.vault (map entry_of tables.items) (Some window)) }
+    ensures damaged { (damage : Damage) → IsErrOf result (StoreFault.Damaged damage) → (damage ≡ broken_window) × (MayGoOn (hashes_of H.function) (sealed_vault catalog heads (Some window) (map entry_of tables.items)) (map entry_of tables.items) (Some window) → ⊥) }
     ensures sound { IsErrOf result StoreFault.KeeperFault → ⊥ }
 {
     let parts = in_parts(heads.allocator(), tables, window.load, weight)?;
@@ -177,13 +177,13 @@ pub(crate) fn restored<H: KeyDigest>(
     requires stage { IfSome stage (λ window. IsTrue (is_stage catalog heads window)) }
     requires ids { IsVaultOf catalog (map entry_of tables.items) }
     requires weight { weight ≡ tables_weight (map entry_of tables.items) }
-    requires clear { AreInForm (record { mapping = catalog; hashes = hashes_of H.digest_of H.size; width = H.size; heads = heads ++ map head_of (option_to_list stage); tables = [] }) (map entry_of tables.items) }
+    requires clear { AreInForm (record { mapping = catalog; hashes = hashes_of H.function; width = H.function.width; heads = heads ++ map head_of (option_to_list stage); tables = [] }) (map entry_of tables.items) }
     ensures vault { IfOk result (λ restored. restored.vault ≡ sealed_vault catalog heads stage (map entry_of tables.items)) }
     ensures taken { IfOk result (λ restored. IfSome restored.begun (MayBeTaken restored.vault)) }
-    ensures begun { IfOk result (λ restored. IsBegunAs (hashes_of H.digest_of H.size) restored.vault stage restored.begun) }
+    ensures begun { IfOk result (λ restored. IsBegunAs (hashes_of H.function) restored.vault stage restored.begun) }
     ensures entries { IfOk result (λ restored. map entry_of tables.items ≡ rows_there restored.vault restored.begun) }
-    ensures goes_on { IfOk result (λ restored. MayGoOn (hashes_of H.digest_of H.size) restored.vault (map entry_of tables.items) stage) }
-    ensures damaged { (damage : Damage) → IsErrOf result (StoreFault.Damaged damage) → (damage ≡ broken_window) × (MayGoOn (hashes_of H.digest_of H.size) (sealed_vault catalog heads stage (map entry_of tables.items)) (map entry_of tables.items) stage → ⊥) }
+    ensures goes_on { IfOk result (λ restored. MayGoOn (hashes_of H.function) restored.vault (map entry_of tables.items) stage) }
+    ensures damaged { (damage : Damage) → IsErrOf result (StoreFault.Damaged damage) → (damage ≡ broken_window) × (MayGoOn (hashes_of H.function) (sealed_vault catalog heads stage (map entry_of tables.items)) (map entry_of tables.items) stage → ⊥) }
     ensures sound { IsErrOf result StoreFault.KeeperFault → ⊥ }
 {
     if let Some(window) = stage {

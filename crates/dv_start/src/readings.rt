@@ -39,8 +39,8 @@ fn gather<K: Keeper, H: KeyDigest>(
     digest: &H,
 ) -> Result<Gathered, StoreFault>
     requires { ids.now ≡ tables catalog.now }
-    ensures gathered { IfOk result (AreGathered (known_first catalog.now (hashes_of H.digest_of H.size) H.size heads.now) (K.store keeper.old) ids.now (length ids.now)) }
-    ensures damaged { (damage : Damage) → IsErrOf result (StoreFault.Damaged damage) → IsRawDamage (known_first catalog.now (hashes_of H.digest_of H.size) H.size heads.now) (K.store keeper.old) damage }
+    ensures gathered { IfOk result (AreGathered (known_first catalog.now (hashes_of H.function) H.function.width heads.now) (K.store keeper.old) ids.now (length ids.now)) }
+    ensures damaged { (damage : Damage) → IsErrOf result (StoreFault.Damaged damage) → IsRawDamage (known_first catalog.now (hashes_of H.function) H.function.width heads.now) (K.store keeper.old) damage }
     ensures formed { (damage : Damage) → IsErrOf result (StoreFault.Damaged damage) → IsNamed catalog.now damage }
     ensures store { K.store keeper.new ≡ K.store keeper.old }
     ensures cause { IsErrOf result StoreFault.KeeperFault → Rose (K.faults keeper.old) (K.faults keeper.new) }
@@ -68,10 +68,10 @@ pub(crate) fn read_tables<K: Keeper, H: KeyDigest>(
 ) -> Result<Tables, StoreFault>
     ensures ids { IfOk result (λ read. IsVaultOf catalog.now (map entry_of read.tables.items)) }
     ensures weight { IfOk result (λ read. read.weight ≡ tables_weight (map entry_of read.tables.items)) }
-    ensures clear { IfOk result (λ read. AreInForm (record { mapping = catalog.now; hashes = hashes_of H.digest_of H.size; width = H.size; heads = heads.now; tables = [] }) (map entry_of read.tables.items)) }
+    ensures clear { IfOk result (λ read. AreInForm (record { mapping = catalog.now; hashes = hashes_of H.function; width = H.function.width; heads = heads.now; tables = [] }) (map entry_of read.tables.items)) }
     ensures told { IfOk result (λ read. Told (K.store keeper.old) (λ s. map entry_of read.tables.items ≡ stored_entries s (tables catalog.now))) }
-    ensures undamaged { IfOk result (λ read. Told (K.store keeper.old) (λ s. s.windows ++ map head_of (option_to_list s.stage) ≡ heads.now → raw_damage catalog.now (hashes_of H.digest_of H.size) H.size s ≡ None)) }
-    ensures damaged { (damage : Damage) → IsErrOf result (StoreFault.Damaged damage) → Told (K.store keeper.old) (λ s. s.windows ++ map head_of (option_to_list s.stage) ≡ heads.now → raw_damage catalog.now (hashes_of H.digest_of H.size) H.size s ≡ Some damage) }
+    ensures undamaged { IfOk result (λ read. Told (K.store keeper.old) (λ s. s.windows ++ map head_of (option_to_list s.stage) ≡ heads.now → raw_damage catalog.now (hashes_of H.function) H.function.width s ≡ None)) }
+    ensures damaged { (damage : Damage) → IsErrOf result (StoreFault.Damaged damage) → Told (K.store keeper.old) (λ s. s.windows ++ map head_of (option_to_list s.stage) ≡ heads.now → raw_damage catalog.now (hashes_of H.function) H.function.width s ≡ Some damage) }
     ensures formed { (damage : Damage) → IsErrOf result (StoreFault.Damaged damage) → IsNamed catalog.now damage }
     ensures store { K.store keeper.new ≡ K.store keeper.old }
     ensures cause { IsErrOf result StoreFault.KeeperFault → Rose (K.faults keeper.old) (K.faults keeper.new) }

@@ -28,11 +28,6 @@ use dv_text::{Duplicate, KeyDigest, List, Memory, Text, Window, WindowHead};
 use dv_vault::head;
 use std::alloc::Global;
 
-// Does nothing: a call tells a proof that all digests have one width.
-fn note_sized<H: KeyDigest>(_digest: &H)
-    ensures { (text : List ℕ) → length (H.digest_of text) ≡ H.size }
-{}
-
 // A flaw of what stands before the raw tables, or behind them.
 fn damage(alloc: Global, table: &[u8], flaw: Flaw) -> Result<Damage, Memory>
     ensures { IfOk result (λ damage. damage ≡ damage_at table.now flaw) }
@@ -152,17 +147,16 @@ pub fn read_store<K: Keeper, H: KeyDigest>(
     ensures mapping { IfOk result (λ restored. restored.vault.mapping ≡ catalog) }
     ensures kept { IfOk result (λ restored. Told (K.store keeper.old) (HasKept restored.vault restored.begun restored.snapshots)) }
     ensures taken { IfOk result (λ restored. IfSome restored.begun (MayBeTaken restored.vault)) }
-    ensures in_form { IfOk result (λ restored. Told (K.store keeper.old) (IsInForm (hashes_of H.digest_of H.size) H.size catalog)) }
-    ensures stands { IfOk result (λ restored. (state : State) → (store : Store) → K.store keeper.old ≡ Some store → Stands catalog (hashes_of H.digest_of H.size) state store → IsOfState (hashes_of H.digest_of H.size) state restored.vault restored.begun restored.snapshots) }
+    ensures in_form { IfOk result (λ restored. Told (K.store keeper.old) (IsInForm (hashes_of H.function) H.function.width catalog)) }
+    ensures stands { IfOk result (λ restored. (state : State) → (store : Store) → K.store keeper.old ≡ Some store → Stands catalog (hashes_of H.function) state store → IsOfState (hashes_of H.function) state restored.vault restored.begun restored.snapshots) }
     ensures limits { IfOk result (λ restored. KeepLimits restored.snapshots) }
-    ensures damaged { (damage : Damaged) → IsErrOf result (StoreFault.Damaged damage) → Told (K.store keeper.old) (λ s. BreaksRule (hashes_of H.digest_of H.size) H.size catalog s damage) }
-    ensures undamaged { (damage : Damaged) → IsErrOf result (StoreFault.Damaged damage) → (state : State) → (store : Store) → K.store keeper.old ≡ Some store → Stands catalog (hashes_of H.digest_of H.size) state store → ⊥ }
+    ensures damaged { (damage : Damaged) → IsErrOf result (StoreFault.Damaged damage) → Told (K.store keeper.old) (λ s. BreaksRule (hashes_of H.function) H.function.width catalog s damage) }
+    ensures undamaged { (damage : Damaged) → IsErrOf result (StoreFault.Damaged damage) → (state : State) → (store : Store) → K.store keeper.old ≡ Some store → Stands catalog (hashes_of H.function) state store → ⊥ }
     ensures formed { (damage : Damaged) → IsErrOf result (StoreFault.Damaged damage) → IsNamed catalog damage }
     ensures store { K.store keeper.new ≡ K.store keeper.old }
     ensures cause { IsErrOf result StoreFault.KeeperFault → Rose (K.faults keeper.old) (K.faults keeper.new) }
     ensures later { K.faults keeper.old ≤ K.faults keeper.new }
 {
-    note_sized(digest);
     let heads = stored_heads(alloc, keeper, &catalog)?;
     let stage = stored_stage(alloc, keeper, &catalog, heads.items())?;
     let known = all_heads(alloc, &heads, &stage)?;

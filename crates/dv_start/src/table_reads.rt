@@ -73,8 +73,8 @@ fn table_of<H: KeyDigest>(
     ensures told { IfOk result (λ made. read ≡ Read.Rows (entry_of made.table).rows) }
     ensures id { IfOk result (λ made. (entry_of made.table).table ≡ id) }
     ensures weight { IfOk result (λ made. made.weight ≡ known.now.weight + rows_weight (entry_of made.table).rows) }
-    ensures clear { (before : spec.Known) → IsKnown (hashes_of H.digest_of H.size) H.size known.now before → IfOk result (λ made. flaw_in before id (entry_of made.table).rows ≡ None) }
-    ensures damaged { (before : spec.Known) → IsKnown (hashes_of H.digest_of H.size) H.size known.now before → (damage : damages.Damage) → IsErrOf result (StoreFault.Damaged damage)
+    ensures clear { (before : spec.Known) → IsKnown (hashes_of H.function) H.function.width known.now before → IfOk result (λ made. flaw_in before id (entry_of made.table).rows ≡ None) }
+    ensures damaged { (before : spec.Known) → IsKnown (hashes_of H.function) H.function.width known.now before → (damage : damages.Damage) → IsErrOf result (StoreFault.Damaged damage)
         → option_map (damage_at (table_name known.now.catalog.now id)) (flaw_read before id read) ≡ Some damage }
     ensures sound { IsErrOf result StoreFault.KeeperFault → ⊥ }
 {
@@ -103,11 +103,11 @@ pub(crate) fn read_table<K: Keeper, H: KeyDigest>(
     requires { IsTrue (is_table_of known.now.catalog.now id) }
     ensures id { IfOk result (λ made. (entry_of made.table).table ≡ id) }
     ensures weight { IfOk result (λ made. made.weight ≡ known.now.weight + rows_weight (entry_of made.table).rows) }
-    ensures clear { (before : spec.Known) → IsKnown (hashes_of H.digest_of H.size) H.size known.now before → IfOk result (λ made. flaw_in before id (entry_of made.table).rows ≡ None) }
-    ensures told { (before : spec.Known) → IsKnown (hashes_of H.digest_of H.size) H.size known.now before → IfOk result (λ made. Told (K.store keeper.old) (λ s. (entry_of made.table).rows ≡ rows_in id s.tables)) }
-    ensures damaged { (before : spec.Known) → IsKnown (hashes_of H.digest_of H.size) H.size known.now before → (damage : damages.Damage) → IsErrOf result (StoreFault.Damaged damage)
+    ensures clear { (before : spec.Known) → IsKnown (hashes_of H.function) H.function.width known.now before → IfOk result (λ made. flaw_in before id (entry_of made.table).rows ≡ None) }
+    ensures told { (before : spec.Known) → IsKnown (hashes_of H.function) H.function.width known.now before → IfOk result (λ made. Told (K.store keeper.old) (λ s. (entry_of made.table).rows ≡ rows_in id s.tables)) }
+    ensures damaged { (before : spec.Known) → IsKnown (hashes_of H.function) H.function.width known.now before → (damage : damages.Damage) → IsErrOf result (StoreFault.Damaged damage)
         → Told (K.store keeper.old) (λ s. option_map (damage_at (table_name known.now.catalog.now id)) (flaw_in before id (rows_in id s.tables)) ≡ Some damage) }
-    ensures formed { (before : spec.Known) → IsKnown (hashes_of H.digest_of H.size) H.size known.now before → (damage : damages.Damage) → IsErrOf result (StoreFault.Damaged damage) → IsNamed known.now.catalog.now damage }
+    ensures formed { (before : spec.Known) → IsKnown (hashes_of H.function) H.function.width known.now before → (damage : damages.Damage) → IsErrOf result (StoreFault.Damaged damage) → IsNamed known.now.catalog.now damage }
     ensures store { K.store keeper.new ≡ K.store keeper.old }
     ensures cause { IsErrOf result StoreFault.KeeperFault → Rose (K.faults keeper.old) (K.faults keeper.new) }
     ensures later { K.faults keeper.old ≤ K.faults keeper.new }

@@ -1,5 +1,5 @@
 -- Business keys, reference lists, their texts, hash keys and hash differences (Linstedt and Olschimke 2015, chapter 11).
-use Rattle.std.specs.Prelude.{ℕ, ◌==◌, Bool, ◌&&◌, List, map, length, replicate, if◌then◌else◌, nat_eq}
+use Rattle.std.specs.Prelude.{◌≡◌, ℕ, ◌==◌, Bool, ◌&&◌, List, map, length, replicate, if◌then◌else◌, nat_eq}
 use Rattle.std.specs.List.{list_all, join_with_byte}
 use Rattle.std.specs.Cmp.Lexicographic.{pointwise}
 use Rattle.dv_text.specs.declared.rows.Key.{Key}
@@ -43,8 +43,17 @@ pub record Hashes : Type 0 where
   pub diff : List (List ℕ) → List ℕ
 
 -- the hashes by a digest function of a width: the zero key where every key is missing, else the digest of the text
-abbrev pub hashes_of : (List ℕ → List ℕ) → ℕ → Hashes
-hashes_of digest width = record {
+abbrev pub hashes_by : (List ℕ → List ℕ) → ℕ → Hashes
+hashes_by digest width = record {
   hash = λ refs. if list_all is_missing refs then replicate width 0 else digest (refs_text refs);
   diff = λ attrs. digest (joined attrs);
 }
+
+-- a digest function: the digest of each text, and the width that each digest has
+pub record DigestFunction : Type 0 where
+  pub digest : List ℕ → List ℕ
+  pub width : ℕ
+  pub sized : (text : List ℕ) → length (digest text) ≡ width
+
+abbrev pub hashes_of : DigestFunction → Hashes
+hashes_of function = hashes_by function.digest function.width

@@ -75,11 +75,11 @@ pub(crate) fn all_deltas<H: KeyDigest>(
     requires dated { IsTrue (are_up_to window.now.window.now.load (map entry_of tables.now)) }
     requires valid { IsTrue (is_valid catalog.now) }
     requires window { IsTrue (is_window catalog.now window.now.window.now) }
-    requires gathered { IsHashedWindow (hashes_of H.digest_of H.size) window.now }
-    ensures rows { IfOk result (λ batches. batches ≡ map (added_to catalog.now (hashes_of H.digest_of H.size) window.now.window.now) (map entry_of tables.now)) }
-    ensures apart { IfOk result (λ batches. All (λ entry. HasNoClash (hashed_in catalog.now (hashes_of H.digest_of H.size) (names_of_hubs names.now) window.now.window.now entry)) (map entry_of tables.now)) }
+    requires gathered { IsHashedWindow (hashes_of H.function) window.now }
+    ensures rows { IfOk result (λ batches. batches ≡ map (added_to catalog.now (hashes_of H.function) window.now.window.now) (map entry_of tables.now)) }
+    ensures apart { IfOk result (λ batches. All (λ entry. HasNoClash (hashed_in catalog.now (hashes_of H.function) (names_of_hubs names.now) window.now.window.now entry)) (map entry_of tables.now)) }
     ensures follow { IfOk result (spec.FollowAll window.now.window.now.load (map entry_of tables.now)) }
-    ensures clashes { IfErr result (spec.ClashesAt catalog.now (hashes_of H.digest_of H.size) (names_of_hubs names.now) window.now.window.now (map entry_of tables.now)) }
+    ensures clashes { IfErr result (spec.ClashesAt catalog.now (hashes_of H.function) (names_of_hubs names.now) window.now.window.now (map entry_of tables.now)) }
 {
     let mut batches = List::new(alloc);
     for table in tables {

@@ -28,7 +28,7 @@ fn hash_all<'a, H: KeyDigest>(
 ) -> Result<List<HashedExtract<'a>>, Memory>
     requires { IsTrue (list_all (λ staged. list_all (λ row. refs_fit row.refs) staged.rows) extracts.now) }
     ensures extracts { IfOk result (λ made. map (λ extract. extract.staged.now) made ≡ extracts.now) }
-    ensures keys { IfOk result (All (HasKeys (hashes_of H.digest_of H.size))) }
+    ensures keys { IfOk result (All (HasKeys (hashes_of H.function))) }
 {
     let mut made = List::with_room(alloc, extracts.len())?;
     for staged in extracts {
@@ -47,7 +47,7 @@ pub fn gathered<'a, H: KeyDigest>(
     requires valid { IsTrue (is_valid catalog.now) }
     requires window { IsTrue (is_window catalog.now window.now) }
     ensures window { IfOk result (λ made. made.window.now ≡ window.now) }
-    ensures gathered { IfOk result (IsHashedWindow (hashes_of H.digest_of H.size)) }
+    ensures gathered { IfOk result (IsHashedWindow (hashes_of H.function)) }
 {
     let extracts = hash_all(alloc, window.extracts.items(), digest)?;
     Ok(HashedWindow { window, extracts })

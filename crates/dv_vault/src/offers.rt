@@ -39,8 +39,8 @@ fn add<'a, H: KeyDigest>(
     feed: u32,
     told: Option<&'a Digest>,
 ) -> Result<(), Memory>
-    requires { offered.IsKeyOf (hashes_of H.digest_of H.size) (offered.told_by told) refs.now }
-    ensures { OnOk result (map (offered.offered_by (hashes_of H.digest_of H.size)) offers.new.items ≡ map (offered.offered_by (hashes_of H.digest_of H.size)) offers.old.items ++ offered.kept (hashes_of H.digest_of H.size) feed (refs.now ∷ [])) }
+    requires { offered.IsKeyOf (hashes_of H.function) (offered.told_by told) refs.now }
+    ensures { OnOk result (map (offered.offered_by (hashes_of H.function)) offers.new.items ≡ map (offered.offered_by (hashes_of H.function)) offers.old.items ++ offered.kept (hashes_of H.function) feed (refs.now ∷ [])) }
 {
     if !are_missing(refs) {
         offers.push(Offer { refs, feed, told })?;
@@ -57,8 +57,8 @@ fn stands_at(hubs: &[u32], place: usize, hub: u32) -> bool
 
 // The hash key of each key of a reference list: the list's own where it has one key.
 fn told_of_each<'a, H: KeyDigest>(refs: &[Key], told: Option<&'a Digest>) -> Option<&'a Digest>
-    requires { offered.IsKeyOf (hashes_of H.digest_of H.size) (offered.told_by told) refs.now }
-    ensures { (place : ℕ) (key : Key) → slice_get refs.now place ≡ Some key → offered.IsKeyOf (hashes_of H.digest_of H.size) (offered.told_by result) (key ∷ []) }
+    requires { offered.IsKeyOf (hashes_of H.function) (offered.told_by told) refs.now }
+    ensures { (place : ℕ) (key : Key) → slice_get refs.now place ≡ Some key → offered.IsKeyOf (hashes_of H.function) (offered.told_by result) (key ∷ []) }
 {
     if refs.len() == 1 { told } else { None }
 }
@@ -71,8 +71,8 @@ fn add_key<'a, H: KeyDigest>(
     feed: u32,
     told: Option<&'a Digest>,
 ) -> Result<(), Memory>
-    requires { offered.IsKeyOf (hashes_of H.digest_of H.size) (offered.told_by told) (key.now ∷ []) }
-    ensures { OnOk result (map (offered.offered_by (hashes_of H.digest_of H.size)) offers.new.items ≡ map (offered.offered_by (hashes_of H.digest_of H.size)) offers.old.items ++ offered.kept (hashes_of H.digest_of H.size) feed (if stands then (key.now ∷ []) ∷ [] else [])) }
+    requires { offered.IsKeyOf (hashes_of H.function) (offered.told_by told) (key.now ∷ []) }
+    ensures { OnOk result (map (offered.offered_by (hashes_of H.function)) offers.new.items ≡ map (offered.offered_by (hashes_of H.function)) offers.old.items ++ offered.kept (hashes_of H.function) feed (if stands then (key.now ∷ []) ∷ [] else [])) }
 {
     if !stands {
         return Ok(());
@@ -89,8 +89,8 @@ fn add_keys<'a, H: KeyDigest>(
     feed: u32,
     told: Option<&'a Digest>,
 ) -> Result<(), Memory>
-    requires { (place : ℕ) (key : Key) → slice_get refs.now place ≡ Some key → offered.IsKeyOf (hashes_of H.digest_of H.size) (offered.told_by told) (key ∷ []) }
-    ensures { OnOk result (map (offered.offered_by (hashes_of H.digest_of H.size)) offers.new.items ≡ map (offered.offered_by (hashes_of H.digest_of H.size)) offers.old.items ++ offered.kept (hashes_of H.digest_of H.size) feed (offered.single_keys hub hubs.now refs.now)) }
+    requires { (place : ℕ) (key : Key) → slice_get refs.now place ≡ Some key → offered.IsKeyOf (hashes_of H.function) (offered.told_by told) (key ∷ []) }
+    ensures { OnOk result (map (offered.offered_by (hashes_of H.function)) offers.new.items ≡ map (offered.offered_by (hashes_of H.function)) offers.old.items ++ offered.kept (hashes_of H.function) feed (offered.single_keys hub hubs.now refs.now)) }
 {
     for (place, key) in refs.iter().enumerate() {
         add_key::<H>(offers, stands_at(hubs, place, hub), key, feed, told)?;
@@ -105,8 +105,8 @@ fn add_hub_offers<'a, H: KeyDigest>(
     hubs: &[u32],
     extract: &'a HashedExtract<'a>,
 ) -> Result<(), Memory>
-    requires { HasKeys (hashes_of H.digest_of H.size) extract.now }
-    ensures { OnOk result (map (offered.offered_by (hashes_of H.digest_of H.size)) offers.new.items ≡ map (offered.offered_by (hashes_of H.digest_of H.size)) offers.old.items ++ flat_map (λ row. offered.kept (hashes_of H.digest_of H.size) extract.now.staged.now.feed (offered.single_keys hub hubs.now row.refs)) extract.now.staged.now.rows) }
+    requires { HasKeys (hashes_of H.function) extract.now }
+    ensures { OnOk result (map (offered.offered_by (hashes_of H.function)) offers.new.items ≡ map (offered.offered_by (hashes_of H.function)) offers.old.items ++ flat_map (λ row. offered.kept (hashes_of H.function) extract.now.staged.now.feed (offered.single_keys hub hubs.now row.refs)) extract.now.staged.now.rows) }
 {
     let staged = extract.staged;
     for (place, row) in staged.rows.items().iter().enumerate() {
@@ -122,8 +122,8 @@ fn add_link_offers<'a, H: KeyDigest>(
     offers: &mut Vec<Offer<'a>>,
     extract: &'a HashedExtract<'a>,
 ) -> Result<(), Memory>
-    requires { HasKeys (hashes_of H.digest_of H.size) extract.now }
-    ensures { OnOk result (map (offered.offered_by (hashes_of H.digest_of H.size)) offers.new.items ≡ map (offered.offered_by (hashes_of H.digest_of H.size)) offers.old.items ++ flat_map (λ row. offered.kept (hashes_of H.digest_of H.size) extract.now.staged.now.feed (row.refs ∷ [])) extract.now.staged.now.rows) }
+    requires { HasKeys (hashes_of H.function) extract.now }
+    ensures { OnOk result (map (offered.offered_by (hashes_of H.function)) offers.new.items ≡ map (offered.offered_by (hashes_of H.function)) offers.old.items ++ flat_map (λ row. offered.kept (hashes_of H.function) extract.now.staged.now.feed (row.refs ∷ [])) extract.now.staged.now.rows) }
 {
     let staged = extract.staged;
     for (place, row) in staged.rows.items().iter().enumerate() {
@@ -170,8 +170,8 @@ fn add_offers<'a, H: KeyDigest>(
     extract: &'a HashedExtract<'a>,
     parent: Parent,
 ) -> Result<(), Memory>
-    requires { HasKeys (hashes_of H.digest_of H.size) extract.now }
-    ensures { OnOk result (map (offered.offered_by (hashes_of H.digest_of H.size)) offers.new.items ≡ map (offered.offered_by (hashes_of H.digest_of H.size)) offers.old.items ++ offered.kept (hashes_of H.digest_of H.size) extract.now.staged.now.feed (spec.refs_from catalog.now parent extract.now.staged.now)) }
+    requires { HasKeys (hashes_of H.function) extract.now }
+    ensures { OnOk result (map (offered.offered_by (hashes_of H.function)) offers.new.items ≡ map (offered.offered_by (hashes_of H.function)) offers.old.items ++ offered.kept (hashes_of H.function) extract.now.staged.now.feed (spec.refs_from catalog.now parent extract.now.staged.now)) }
 {
     let feed = extract.staged.feed;
     match parent {
@@ -192,8 +192,8 @@ fn all_offers<'b, 'a, H: KeyDigest>(
     window: &'b HashedWindow<'a>,
     parent: Parent,
 ) -> Result<Vec<Offer<'b>>, Memory>
-    requires { IsHashedWindow (hashes_of H.digest_of H.size) window.now }
-    ensures { IfOk result (λ offers. map (offered.offered_by (hashes_of H.digest_of H.size)) offers.items ≡ offered.all_offered (hashes_of H.digest_of H.size) catalog.now parent window.now.window.now.extracts) }
+    requires { IsHashedWindow (hashes_of H.function) window.now }
+    ensures { IfOk result (λ offers. map (offered.offered_by (hashes_of H.function)) offers.items ≡ offered.all_offered (hashes_of H.function) catalog.now parent window.now.window.now.extracts) }
 {
     let mut offers = Vec::new(alloc);
     for extract in window.extracts.items() {
@@ -215,7 +215,7 @@ fn first_offers(offers: Vec<Offer>) -> Result<Vec<Offer>, Memory>
 // The hash key of a reference list: the one that is told, else it is worked out.
 fn key_of<H: KeyDigest>(digest: &H, told: Option<&Digest>, refs: &[Key], room: &mut Room) -> Digest
     requires { IsTrue (fits.refs_fit refs.now) }
-    ensures { result ≡ offered.key_told (hashes_of H.digest_of H.size) (offered.told_by told.entry) refs.now }
+    ensures { result ≡ offered.key_told (hashes_of H.function) (offered.told_by told.entry) refs.now }
 {
     if let Some(key) = told {
         return *key;
@@ -234,7 +234,7 @@ fn add_delivery<'a, H: KeyDigest>(
     room: &mut Room,
 ) -> Result<(), Memory>
     requires { IsTrue (fits.refs_fit offer.now.refs.now) }
-    ensures { OnOk result (map offered.keyed items.new ≡ map offered.keyed items.old ++ offered.delivery_to table (offered.offered_by (hashes_of H.digest_of H.size) offer.now) ∷ []) }
+    ensures { OnOk result (map offered.keyed items.new ≡ map offered.keyed items.old ++ offered.delivery_to table (offered.offered_by (hashes_of H.function) offer.now) ∷ []) }
 {
     let key = key_of(digest, offer.told, offer.refs, room);
     let item = HashedDelivery {
@@ -254,7 +254,7 @@ fn to_deliveries<'a, H: KeyDigest>(
     digest: &H,
 ) -> Result<List<HashedDelivery<'a>>, Memory>
     requires { IsTrue (list_all (λ offer. fits.refs_fit offer.refs.now) offers.now) }
-    ensures { IfOk result (λ items. map offered.keyed items ≡ map (λ offer. offered.delivery_to table (offered.offered_by (hashes_of H.digest_of H.size) offer)) offers.now) }
+    ensures { IfOk result (λ items. map offered.keyed items ≡ map (λ offer. offered.delivery_to table (offered.offered_by (hashes_of H.function) offer)) offers.now) }
 {
     let mut room = Room::new(alloc)?;
     let mut items = List::with_room(alloc, offers.len())?;
@@ -285,9 +285,9 @@ pub fn deliveries<'b, 'a, H: KeyDigest>(
 ) -> Result<List<HashedDelivery<'b>>, Memory>
     requires valid { IsTrue (is_valid catalog.now) }
     requires window { IsTrue (is_window catalog.now window.now.window.now) }
-    requires gathered { IsHashedWindow (hashes_of H.digest_of H.size) window.now }
+    requires gathered { IsHashedWindow (hashes_of H.function) window.now }
     ensures items { IfOk result (λ items. delivered items ≡ spec.deliveries catalog.now parent window.now.window.now) }
-    ensures hashed { IfOk result (AreHashed (hashes_of H.digest_of H.size)) }
+    ensures hashed { IfOk result (AreHashed (hashes_of H.function)) }
 {
     let offers = first_offers(all_offers::<H>(alloc, catalog, window, parent)?)?;
     to_deliveries(alloc, table_of(parent), &offers, digest)

@@ -53,10 +53,10 @@ fn extract_of<'b, 'a, H: KeyDigest>(
 ) -> Option<&'b HashedExtract<'a>>
     requires valid { IsTrue (is_valid catalog.now) }
     requires window { IsTrue (is_window catalog.now window.now.window.now) }
-    requires gathered { IsHashedWindow (hashes_of H.digest_of H.size) window.now }
+    requires gathered { IsHashedWindow (hashes_of H.function) window.now }
     ensures found { option_map (λ extract. extract.now.staged.now) result ≡ spec.staged_of feed window.now.window.now }
     ensures feed { IfSome result (λ extract. extract.now.staged.now.feed ≡ feed) }
-    ensures keys { IfSome result (λ extract. HasKeys (hashes_of H.digest_of H.size) extract.now) }
+    ensures keys { IfSome result (λ extract. HasKeys (hashes_of H.function) extract.now) }
     ensures ascending { IfSome result (λ extract. IsStrictlySortedBy row_cmp extract.now.staged.now.rows) }
     ensures attrs_fit { IfSome result (λ extract. IsTrue (list_all (λ row. attrs_fit row.attrs) extract.now.staged.now.rows)) }
 {
@@ -75,11 +75,11 @@ fn hub_rows<H: KeyDigest>(
     requires hub { hub < length catalog.now.hubs }
     requires valid { IsTrue (is_valid catalog.now) }
     requires window { IsTrue (is_window catalog.now window.now.window.now) }
-    requires gathered { IsHashedWindow (hashes_of H.digest_of H.size) window.now }
+    requires gathered { IsHashedWindow (hashes_of H.function) window.now }
     requires dated { IsTrue (is_up_to window.now.window.now.load (Rows.Hubs table.now.rows)) }
-    ensures rows { IfOk result (λ rows. rows ≡ spec.added catalog.now (hashes_of H.digest_of H.size) window.now.window.now (TableId.Hub hub) (Rows.Hubs table.now.rows)) }
-    ensures apart { IfOk result (λ rows. HasNoClash (spec.hashed catalog.now (hashes_of H.digest_of H.size) [] window.now.window.now (TableId.Hub hub) (Rows.Hubs table.now.rows))) }
-    ensures collision { IfCollides result (IsLeastClash (spec.hashed catalog.now (hashes_of H.digest_of H.size) [] window.now.window.now (TableId.Hub hub) (Rows.Hubs table.now.rows))) }
+    ensures rows { IfOk result (λ rows. rows ≡ spec.added catalog.now (hashes_of H.function) window.now.window.now (TableId.Hub hub) (Rows.Hubs table.now.rows)) }
+    ensures apart { IfOk result (λ rows. HasNoClash (spec.hashed catalog.now (hashes_of H.function) [] window.now.window.now (TableId.Hub hub) (Rows.Hubs table.now.rows))) }
+    ensures collision { IfCollides result (IsLeastClash (spec.hashed catalog.now (hashes_of H.function) [] window.now.window.now (TableId.Hub hub) (Rows.Hubs table.now.rows))) }
     ensures follow { IfOk result (λ rows. Follow (Rows.Hubs table.now.rows) rows) }
     ensures stamped { IfOk result (λ rows. AreOfLoad window.now.window.now.load rows) }
 {
@@ -101,11 +101,11 @@ fn link_rows<H: KeyDigest, N: HubNames>(
     requires link { link < length catalog.now.links }
     requires valid { IsTrue (is_valid catalog.now) }
     requires window { IsTrue (is_window catalog.now window.now.window.now) }
-    requires gathered { IsHashedWindow (hashes_of H.digest_of H.size) window.now }
+    requires gathered { IsHashedWindow (hashes_of H.function) window.now }
     requires dated { IsTrue (is_up_to window.now.window.now.load (Rows.Links table.now.rows)) }
-    ensures rows { IfOk result (λ rows. rows ≡ spec.added catalog.now (hashes_of H.digest_of H.size) window.now.window.now (TableId.Link link) (Rows.Links table.now.rows)) }
-    ensures apart { IfOk result (λ rows. HasNoClash (spec.hashed catalog.now (hashes_of H.digest_of H.size) (N.names names.now) window.now.window.now (TableId.Link link) (Rows.Links table.now.rows))) }
-    ensures collision { IfCollides result (IsLeastClash (spec.hashed catalog.now (hashes_of H.digest_of H.size) (N.names names.now) window.now.window.now (TableId.Link link) (Rows.Links table.now.rows))) }
+    ensures rows { IfOk result (λ rows. rows ≡ spec.added catalog.now (hashes_of H.function) window.now.window.now (TableId.Link link) (Rows.Links table.now.rows)) }
+    ensures apart { IfOk result (λ rows. HasNoClash (spec.hashed catalog.now (hashes_of H.function) (N.names names.now) window.now.window.now (TableId.Link link) (Rows.Links table.now.rows))) }
+    ensures collision { IfCollides result (IsLeastClash (spec.hashed catalog.now (hashes_of H.function) (N.names names.now) window.now.window.now (TableId.Link link) (Rows.Links table.now.rows))) }
     ensures follow { IfOk result (λ rows. Follow (Rows.Links table.now.rows) rows) }
     ensures stamped { IfOk result (λ rows. AreOfLoad window.now.window.now.load rows) }
 {
@@ -240,11 +240,11 @@ impl Table {
         requires table { IsTrue (is_table_of catalog.now (entry_of self.now).table) }
         requires valid { IsTrue (is_valid catalog.now) }
         requires window { IsTrue (is_window catalog.now window.now.window.now) }
-        requires gathered { IsHashedWindow (hashes_of H.digest_of H.size) window.now }
+        requires gathered { IsHashedWindow (hashes_of H.function) window.now }
         requires dated { IsTrue (is_up_to window.now.window.now.load (entry_of self.now).rows) }
-        ensures rows { IfOk result (λ rows. rows ≡ added_to catalog.now (hashes_of H.digest_of H.size) window.now.window.now (entry_of self.now)) }
-        ensures apart { IfOk result (λ rows. HasNoClash (hashed_in catalog.now (hashes_of H.digest_of H.size) (N.names names.now) window.now.window.now (entry_of self.now))) }
-        ensures collision { IfCollides result (IsLeastClash (hashed_in catalog.now (hashes_of H.digest_of H.size) (N.names names.now) window.now.window.now (entry_of self.now))) }
+        ensures rows { IfOk result (λ rows. rows ≡ added_to catalog.now (hashes_of H.function) window.now.window.now (entry_of self.now)) }
+        ensures apart { IfOk result (λ rows. HasNoClash (hashed_in catalog.now (hashes_of H.function) (N.names names.now) window.now.window.now (entry_of self.now))) }
+        ensures collision { IfCollides result (IsLeastClash (hashed_in catalog.now (hashes_of H.function) (N.names names.now) window.now.window.now (entry_of self.now))) }
         ensures follow { IfOk result (λ rows. Follow (entry_of self.now).rows rows) }
         ensures stamped { IfOk result (λ rows. AreOfLoad window.now.window.now.load rows) }
     {

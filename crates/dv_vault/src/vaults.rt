@@ -188,10 +188,10 @@ impl Vault {
     ) -> Result<List<Rows>, AdditionFault>
         requires later { late_after (last_head self.now.heads) window.now.load ≡ None }
         requires window { IsTrue (is_window self.now.mapping window.now) }
-        ensures rows { IfOk result (λ batches. batches ≡ spec.all_added (hashes_of H.digest_of H.size) self.now window.now) }
-        ensures apart { IfOk result (λ batches. spec.AreApart (hashes_of H.digest_of H.size) self.now window.now) }
+        ensures rows { IfOk result (λ batches. batches ≡ spec.all_added (hashes_of H.function) self.now window.now) }
+        ensures apart { IfOk result (λ batches. spec.AreApart (hashes_of H.function) self.now window.now) }
         ensures follow { IfOk result (spec.FollowAll window.now.load self.now.tables) }
-        ensures clashes { IfErr result (spec.Clashes (hashes_of H.digest_of H.size) self.now window.now) }
+        ensures clashes { IfErr result (spec.Clashes (hashes_of H.function) self.now window.now) }
     {
         let alloc = self.heads.allocator();
         let catalog = &self.catalog;
@@ -209,9 +209,9 @@ impl Vault {
     ) -> Result<Addition, AdditionFault>
         requires later { late_after (last_head self.now.heads) window.load ≡ None }
         requires window { IsTrue (is_window self.now.mapping window) }
-        ensures adds { IfOk result (IsAddition (hashes_of H.digest_of H.size) self.now window) }
+        ensures adds { IfOk result (IsAddition (hashes_of H.function) self.now window) }
         ensures fits { IfOk result (Fits self.now) }
-        ensures clashes { IfErr result (spec.Clashes (hashes_of H.digest_of H.size) self.now window) }
+        ensures clashes { IfErr result (spec.Clashes (hashes_of H.function) self.now window) }
     {
         let weight_before = self.weight;
         let batches = self.batches(&window, digest)?;

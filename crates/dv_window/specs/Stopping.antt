@@ -10,8 +10,6 @@ use Rattle.dv_stage.specs.declared.faults.StageFault.{StageFault}
 use Rattle.dv_stage.specs.declared.faults.StageFault.TheVariants as fault
 use Rattle.dv_records.specs.declared.answers.LoadAnswer.{LoadAnswer}
 use Rattle.dv_records.specs.declared.answers.LoadAnswer.TheVariants as answer
-use Rattle.dv_window.specs.declared.faults.StartFault.{StartFault}
-use Rattle.dv_window.specs.declared.faults.StartFault.TheVariants as start
 use Rattle.dv_window.specs.declared.stops.Stop.{Stop}
 use Rattle.dv_window.specs.declared.stops.Stop.TheVariants as stop
 
@@ -43,13 +41,7 @@ resume_answer (Err error.Memory) = resumed.Memory
 
 -- ---- where what a keeper has could not be read
 
--- what that is to a start
-abbrev pub start_fault : StoreFault → StartFault
-start_fault (unread.Damaged damage) = start.Damaged damage
-start_fault unread.KeeperFault = start.KeeperFault
-start_fault unread.Memory = start.Memory
-
--- and what calls answer, whose office could not be refreshed
+-- what calls answer, whose office could not be refreshed
 abbrev pub unrefreshed : StoreFault → LoadAnswer
 unrefreshed (unread.Damaged damage) = answer.Damaged damage
 unrefreshed unread.KeeperFault = answer.KeeperFault

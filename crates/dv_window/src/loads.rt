@@ -26,8 +26,8 @@ impl Office {
     ) -> LoadAnswer
         requires fresh { self.old.stale ≡ false }
         requires agrees { AgreesUnlessStale self.old (K.store keeper.old) }
-        ensures step { (state : State) → IsIn (hashes_of H.digest_of H.size) state self.old (K.store keeper.old) → StepsTo self.old.vault.mapping (hashes_of H.digest_of H.size) state given.now result self.new (K.store keeper.new) }
-        ensures answer { (state : State) → StandsFor (hashes_of H.digest_of H.size) state self.old → StepsTo self.old.vault.mapping (hashes_of H.digest_of H.size) state given.now result self.new None }
+        ensures step { (state : State) → IsIn (hashes_of H.function) state self.old (K.store keeper.old) → StepsTo self.old.vault.mapping (hashes_of H.function) state given.now result self.new (K.store keeper.new) }
+        ensures answer { (state : State) → StandsFor (hashes_of H.function) state self.old → StepsTo self.old.vault.mapping (hashes_of H.function) state given.now result self.new None }
         ensures kept { LeavesOffice result self.old self.new }
         ensures agrees { AgreesUnlessStale self.new (K.store keeper.new) }
         ensures mapping { self.new.vault.mapping ≡ self.old.vault.mapping }
@@ -75,17 +75,17 @@ impl Office {
     ) -> LoadAnswer
         requires agrees { AgreesUnlessStale self.old (K.store keeper.old) }
         requires workers { (1 ≤ workers) × (workers ≤ 64) }
-        ensures step { (state : State) → IsIn (hashes_of H.digest_of H.size) state self.old (K.store keeper.old) → StepsTo self.old.vault.mapping (hashes_of H.digest_of H.size) state given.now result self.new (K.store keeper.new) }
-        ensures answer { self.old.stale ≡ false → (state : State) → StandsFor (hashes_of H.digest_of H.size) state self.old → StepsTo self.old.vault.mapping (hashes_of H.digest_of H.size) state given.now result self.new None }
+        ensures step { (state : State) → IsIn (hashes_of H.function) state self.old (K.store keeper.old) → StepsTo self.old.vault.mapping (hashes_of H.function) state given.now result self.new (K.store keeper.new) }
+        ensures answer { self.old.stale ≡ false → (state : State) → StandsFor (hashes_of H.function) state self.old → StepsTo self.old.vault.mapping (hashes_of H.function) state given.now result self.new None }
         ensures kept { self.old.stale ≡ false → LeavesOffice result self.old self.new }
         ensures agrees { AgreesUnlessStale self.new (K.store keeper.new) }
         ensures mapping { self.new.vault.mapping ≡ self.old.vault.mapping }
-        ensures width { (self.old.stale ≡ false → self.new.width ≡ self.old.width) × (self.old.stale ≡ true → self.new.stale ≡ false → self.new.width ≡ H.size) }
+        ensures width { (self.old.stale ≡ false → self.new.width ≡ self.old.width) × (self.old.stale ≡ true → self.new.stale ≡ false → self.new.width ≡ H.function.width) }
         ensures stale { StaleAfter result self.old.stale self.new.stale }
         ensures store { LeavesStore result (K.store keeper.old) (K.store keeper.new) }
         ensures stays { IsSome (K.store keeper.old) → IsSome (K.store keeper.new) }
-        ensures damaged { (damage : Damage) → result ≡ LoadAnswer.Damaged damage → Told (K.store keeper.old) (λ s. IsDamageFor self.old.vault.mapping (hashes_of H.digest_of H.size) H.size s damage) }
-        ensures undamaged { (damage : Damage) → result ≡ LoadAnswer.Damaged damage → (state : State) → IsIn (hashes_of H.digest_of H.size) state self.old (K.store keeper.old) → ⊥ }
+        ensures damaged { (damage : Damage) → result ≡ LoadAnswer.Damaged damage → Told (K.store keeper.old) (λ s. IsDamageFor self.old.vault.mapping (hashes_of H.function) H.function.width s damage) }
+        ensures undamaged { (damage : Damage) → result ≡ LoadAnswer.Damaged damage → (state : State) → IsIn (hashes_of H.function) state self.old (K.store keeper.old) → ⊥ }
         ensures formed { (damage : Damage) → result ≡ LoadAnswer.Damaged damage → IsNamed self.old.vault.mapping damage }
         ensures cause { result ≡ LoadAnswer.KeeperFault → Rose (K.faults keeper.old) (K.faults keeper.new) }
         ensures later { K.faults keeper.old ≤ K.faults keeper.new }

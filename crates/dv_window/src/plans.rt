@@ -138,8 +138,8 @@ impl Office {
         requires none_open { staged self.now ≡ None }
         requires window { window ≡ window_of self.now.vault.mapping given.now }
         requires whole { IsTrue (is_window self.now.vault.mapping window) }
-        ensures plan { IfOk result (IsPlan (hashes_of H.digest_of H.size) self.now.vault (staged self.now) given.now) }
-        ensures stops { IfErr result (Stops (hashes_of H.digest_of H.size) self.now.vault (staged self.now) given.now) }
+        ensures plan { IfOk result (IsPlan (hashes_of H.function) self.now.vault (staged self.now) given.now) }
+        ensures stops { IfErr result (Stops (hashes_of H.function) self.now.vault (staged self.now) given.now) }
     {
         let addition = addition(&self.vault, window, digest)?;
         let windows = count_windows(self.heads().items())?;
@@ -151,8 +151,8 @@ impl Office {
 
     /// What is decided of a window: what is to be done for it, or why it is not loaded.
     pub(crate) fn plan<H: KeyDigest>(&self, given: &WindowIn, digest: &H) -> Result<Planned, Stop>
-        ensures plan { IfOk result (IsPlanned (hashes_of H.digest_of H.size) self.now given.now) }
-        ensures stops { IfErr result (Stops (hashes_of H.digest_of H.size) self.now.vault (staged self.now) given.now) }
+        ensures plan { IfOk result (IsPlanned (hashes_of H.function) self.now given.now) }
+        ensures stops { IfErr result (Stops (hashes_of H.function) self.now.vault (staged self.now) given.now) }
         ensures valid_mapping { IsTrue (is_valid self.now.vault.mapping) }
     {
         let window = self.window_of(given)?;

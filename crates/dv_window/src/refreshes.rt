@@ -55,12 +55,12 @@ impl Office {
         ensures kept { OnErr result (self.new ≡ self.old) }
         ensures still { self.old.stale ≡ false → (result ≡ Ok tt) × (self.new ≡ self.old) }
         ensures mapping { self.new.vault.mapping ≡ self.old.vault.mapping }
-        ensures width { (self.old.stale ≡ false → self.new.width ≡ self.old.width) × (self.old.stale ≡ true → self.new.stale ≡ false → self.new.width ≡ H.size) }
+        ensures width { (self.old.stale ≡ false → self.new.width ≡ self.old.width) × (self.old.stale ≡ true → self.new.stale ≡ false → self.new.width ≡ H.function.width) }
         ensures agrees { AgreesUnlessStale self.new (K.store keeper.new) }
-        ensures in_form { self.old.stale ≡ true → OnOk result (Told (K.store keeper.old) (IsInForm (hashes_of H.digest_of H.size) H.size self.new.vault.mapping)) }
-        ensures stands { (state : State) → IsIn (hashes_of H.digest_of H.size) state self.old (K.store keeper.old) → OnOk result (IsIn (hashes_of H.digest_of H.size) state self.new (K.store keeper.new)) }
-        ensures damaged { (damage : Damage) → IsErrOf result (StoreFault.Damaged damage) → Told (K.store keeper.old) (λ s. IsDamageFor self.old.vault.mapping (hashes_of H.digest_of H.size) H.size s damage) }
-        ensures undamaged { (damage : Damage) → IsErrOf result (StoreFault.Damaged damage) → (state : State) → IsIn (hashes_of H.digest_of H.size) state self.old (K.store keeper.old) → ⊥ }
+        ensures in_form { self.old.stale ≡ true → OnOk result (Told (K.store keeper.old) (IsInForm (hashes_of H.function) H.function.width self.new.vault.mapping)) }
+        ensures stands { (state : State) → IsIn (hashes_of H.function) state self.old (K.store keeper.old) → OnOk result (IsIn (hashes_of H.function) state self.new (K.store keeper.new)) }
+        ensures damaged { (damage : Damage) → IsErrOf result (StoreFault.Damaged damage) → Told (K.store keeper.old) (λ s. IsDamageFor self.old.vault.mapping (hashes_of H.function) H.function.width s damage) }
+        ensures undamaged { (damage : Damage) → IsErrOf result (StoreFault.Damaged damage) → (state : State) → IsIn (hashes_of H.function) state self.old (K.store keeper.old) → ⊥ }
         ensures formed { (damage : Damage) → IsErrOf result (StoreFault.Damaged damage) → IsNamed self.old.vault.mapping damage }
         ensures store { K.store keeper.new ≡ K.store keeper.old }
         ensures cause { IsErrOf result StoreFault.KeeperFault → Rose (K.faults keeper.old) (K.faults keeper.new) }

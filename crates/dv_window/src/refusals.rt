@@ -41,9 +41,9 @@ pub(crate) fn addition<H: KeyDigest>(
 ) -> Result<Addition, Stop>
     requires later { late_after (last_head vault.now.heads) window.load ≡ None }
     requires window { IsTrue (is_window vault.now.mapping window) }
-    ensures adds { IfOk result (IsAddition (hashes_of H.digest_of H.size) vault.now window) }
+    ensures adds { IfOk result (IsAddition (hashes_of H.function) vault.now window) }
     ensures fits { IfOk result (Fits vault.now) }
-    ensures stops { IfErr result (spec.StopsRows (hashes_of H.digest_of H.size) vault.now window) }
+    ensures stops { IfErr result (spec.StopsRows (hashes_of H.function) vault.now window) }
 {
     match vault.addition(window, digest) {
         Ok(addition) => Ok(addition),

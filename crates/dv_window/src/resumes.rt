@@ -46,16 +46,16 @@ impl Office {
     /// holds, unless this is stale.
     pub fn resume<K: Keeper, H: KeyDigest>(&mut self, keeper: &mut K, digest: &H) -> ResumeAnswer
         requires { AgreesUnlessStale self.old (K.store keeper.old) }
-        ensures step { (state : State) → IsIn (hashes_of H.digest_of H.size) state self.old (K.store keeper.old) → CompletesTo self.old.vault.mapping (hashes_of H.digest_of H.size) state result self.new (K.store keeper.new) }
-        ensures answer { self.old.stale ≡ false → (state : State) → StandsFor (hashes_of H.digest_of H.size) state self.old → CompletesTo self.old.vault.mapping (hashes_of H.digest_of H.size) state result self.new None }
+        ensures step { (state : State) → IsIn (hashes_of H.function) state self.old (K.store keeper.old) → CompletesTo self.old.vault.mapping (hashes_of H.function) state result self.new (K.store keeper.new) }
+        ensures answer { self.old.stale ≡ false → (state : State) → StandsFor (hashes_of H.function) state self.old → CompletesTo self.old.vault.mapping (hashes_of H.function) state result self.new None }
         ensures kept { self.old.stale ≡ false → result ≡ ResumeAnswer.NothingOpen → self.new ≡ self.old }
         ensures agrees { AgreesUnlessStale self.new (K.store keeper.new) }
         ensures mapping { self.new.vault.mapping ≡ self.old.vault.mapping }
-        ensures width { (self.old.stale ≡ false → self.new.width ≡ self.old.width) × (self.old.stale ≡ true → self.new.stale ≡ false → self.new.width ≡ H.size) }
+        ensures width { (self.old.stale ≡ false → self.new.width ≡ self.old.width) × (self.old.stale ≡ true → self.new.stale ≡ false → self.new.width ≡ H.function.width) }
         ensures stale { StaleThen result self.old.stale self.new.stale }
         ensures store { LeavesStill result (K.store keeper.old) (K.store keeper.new) }
-        ensures damaged { (damage : Damage) → result ≡ ResumeAnswer.Damaged damage → Told (K.store keeper.old) (λ s. IsDamageFor self.old.vault.mapping (hashes_of H.digest_of H.size) H.size s damage) }
-        ensures undamaged { (damage : Damage) → result ≡ ResumeAnswer.Damaged damage → (state : State) → IsIn (hashes_of H.digest_of H.size) state self.old (K.store keeper.old) → ⊥ }
+        ensures damaged { (damage : Damage) → result ≡ ResumeAnswer.Damaged damage → Told (K.store keeper.old) (λ s. IsDamageFor self.old.vault.mapping (hashes_of H.function) H.function.width s damage) }
+        ensures undamaged { (damage : Damage) → result ≡ ResumeAnswer.Damaged damage → (state : State) → IsIn (hashes_of H.function) state self.old (K.store keeper.old) → ⊥ }
         ensures formed { (damage : Damage) → result ≡ ResumeAnswer.Damaged damage → IsNamed self.old.vault.mapping damage }
         ensures cause { result ≡ ResumeAnswer.KeeperFault → Rose (K.faults keeper.old) (K.faults keeper.new) }
         ensures later { K.faults keeper.old ≤ K.faults keeper.new }

@@ -11,6 +11,7 @@ ghost use Rattle.dv_records.specs.States.{State, beginning};
 ghost use Rattle.dv_form.specs.SnapshotHeads.{KeepLimits};
 ghost use Rattle.dv_start.specs.Completions.{MayBeTaken};
 ghost use Rattle.dv_start.specs.Damages.{IsFirstDamage, IsInForm, IsNamedBySome};
+ghost use Rattle.dv_start.specs.declared.faults.StoreFault.TheVariants as unread;
 ghost use Rattle.dv_window.specs.Offices.{Agrees, StandsFor};
 
 use crate::faults::StartFault;
@@ -65,17 +66,17 @@ impl Office {
         keeper: &mut K,
         digest: &H,
     ) -> Result<Office, StartFault>
-        ensures stands { IfOk result (λ office. (state : State) → (store : Store) → K.store keeper.old ≡ Some store → Stands office.vault.mapping (hashes_of H.digest_of H.size) state store → StandsFor (hashes_of H.digest_of H.size) state office) }
+        ensures stands { IfOk result (λ office. (state : State) → (store : Store) → K.store keeper.old ≡ Some store → Stands office.vault.mapping (hashes_of H.function) state store → StandsFor (hashes_of H.function) state office) }
         ensures fresh { IfOk result (λ office. office.stale ≡ false) }
-        ensures width { IfOk result (λ office. office.width ≡ H.size) }
+        ensures width { IfOk result (λ office. office.width ≡ H.function.width) }
         ensures agrees { IfOk result (λ office. Told (K.store keeper.new) (Agrees office)) }
-        ensures in_form { IfOk result (λ office. Told (K.store keeper.old) (IsInForm (hashes_of H.digest_of H.size) H.size office.vault.mapping)) }
+        ensures in_form { IfOk result (λ office. Told (K.store keeper.old) (IsInForm (hashes_of H.function) H.function.width office.vault.mapping)) }
         ensures none { IsErrOf result StartFault.NoMapping → Told (K.store keeper.old) (λ s. s.mapping ≡ None) }
-        ensures damaged { (damage : Damage) → IsErrOf result (StartFault.Damaged damage) → Told (K.store keeper.old) (λ s. IsFirstDamage (hashes_of H.digest_of H.size) H.size s damage) }
-        ensures undamaged { (damage : Damage) → IsErrOf result (StartFault.Damaged damage) → (mapping : Mapping) → (state : State) → (store : Store) → K.store keeper.old ≡ Some store → Stands mapping (hashes_of H.digest_of H.size) state store → ⊥ }
-        ensures formed { (damage : Damage) → IsErrOf result (StartFault.Damaged damage) → IsNamedBySome damage }
+        ensures damaged { (damage : Damage) → IsErrOf result (StartFault.Unread (unread.Damaged damage)) → Told (K.store keeper.old) (λ s. IsFirstDamage (hashes_of H.function) H.function.width s damage) }
+        ensures undamaged { (damage : Damage) → IsErrOf result (StartFault.Unread (unread.Damaged damage)) → (mapping : Mapping) → (state : State) → (store : Store) → K.store keeper.old ≡ Some store → Stands mapping (hashes_of H.function) state store → ⊥ }
+        ensures formed { (damage : Damage) → IsErrOf result (StartFault.Unread (unread.Damaged damage)) → IsNamedBySome damage }
         ensures store { K.store keeper.new ≡ K.store keeper.old }
-        ensures cause { IsErrOf result StartFault.KeeperFault → Rose (K.faults keeper.old) (K.faults keeper.new) }
+        ensures cause { IsErrOf result (StartFault.Unread unread.KeeperFault) → Rose (K.faults keeper.old) (K.faults keeper.new) }
         ensures later { K.faults keeper.old ≤ K.faults keeper.new }
     {
         let Some(catalog) = stored_mapping(alloc, keeper)? else {

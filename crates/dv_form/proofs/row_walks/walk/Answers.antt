@@ -8,7 +8,7 @@ returns-in_default-added g c =
     let rows = c.args.rows.now in
     let place = c.loop-place.place in
     let row = c.index-rows-place.result in
-    let own = own_rule g.R.Placed.place g.T.RowRules.order (own_of (g.T.RowRules.early c.args.rules.now) g.T.RowRules.hashed (g.T.RowRules.late c.args.rules.now) (hashes_of g.H.KeyDigest.digest_of g.H.KeyDigest.size) g.H.KeyDigest.size) in
+    let own = own_rule g.R.Placed.place g.T.RowRules.order (own_of (g.T.RowRules.early c.args.rules.now) g.T.RowRules.hashed (g.T.RowRules.late c.args.rules.now) (hashes_of g.H.KeyDigest.function) g.H.KeyDigest.function.width) in
     let there = slice_get-get_or rows place row c.loop-place-test.true ∙ ap Some (sym c.index-rows-place.is) in
     let none : own (take place rows) row ≡ None = rw c.follows-behind.ensures at (sym c.own_rule.ensures ∙ c.in_default.is) in (
       c.loop-place-test.true,
@@ -22,7 +22,7 @@ loop-place-preserved g c =
     let rows = c.args.rows.now in
     let place = c.loop-place.place in
     let row = c.index-rows-place.result in
-    let own = own_rule g.R.Placed.place g.T.RowRules.order (own_of (g.T.RowRules.early c.args.rules.now) g.T.RowRules.hashed (g.T.RowRules.late c.args.rules.now) (hashes_of g.H.KeyDigest.digest_of g.H.KeyDigest.size) g.H.KeyDigest.size) in
+    let own = own_rule g.R.Placed.place g.T.RowRules.order (own_of (g.T.RowRules.early c.args.rules.now) g.T.RowRules.hashed (g.T.RowRules.late c.args.rules.now) (hashes_of g.H.KeyDigest.function) g.H.KeyDigest.function.width) in
     let there = slice_get-get_or rows place row c.loop-place-test.true ∙ ap Some (sym c.index-rows-place.is) in
     let none : own (take place rows) row ≡ None = rw c.follows-behind.ensures at (sym c.own_rule.ensures ∙ c.in_default.is) in
     let (light, weight) = still_light g.R.Weighed.weight_of c.args.weight rows place c.loop-place.sum row c.loop-place.invariant.weight c.in-Some-added.more (sym c.in-Some-added.is ∙ c.added.ensures) there in

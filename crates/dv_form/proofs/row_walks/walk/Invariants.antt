@@ -5,6 +5,6 @@ use Rattle.dv_form.proofs.row_walks.walk.Given as goal
 abbrev pub invariant-loop-place : goal.invariant-loop-place
 invariant-loop-place g l = record {
   weight : l.sum ≡ l.weight + sum_by g.R.Weighed.weight_of (take l.place l.rows);
-  own : AreClear (own_rule g.R.Placed.place g.T.RowRules.order (own_of (g.T.RowRules.early l.rules) g.T.RowRules.hashed (g.T.RowRules.late l.rules) (hashes_of g.H.KeyDigest.digest_of g.H.KeyDigest.size) g.H.KeyDigest.size)) l.rows l.place;
+  own : AreClear (own_rule g.R.Placed.place g.T.RowRules.order (own_of (g.T.RowRules.early l.rules) g.T.RowRules.hashed (g.T.RowRules.late l.rules) (hashes_of g.H.KeyDigest.function) g.H.KeyDigest.function.width)) l.rows l.place;
   light : AreClear (weight_rule g.R.Weighed.weight_of l.weight) l.rows l.place;
 }

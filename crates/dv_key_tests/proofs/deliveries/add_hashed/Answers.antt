@@ -10,5 +10,5 @@ returns-clause-items g c =
 
 pub returns-clause-hashed : goal.returns-clause-hashed
 returns-clause-hashed g c =
-    let hashes = hashes_of g.H.KeyDigest.digest_of g.H.KeyDigest.size in
+    let hashes = hashes_of g.H.KeyDigest.function in
     λ are. subst (AreHashed hashes) (sym c.in_ok-push.ensures.ok) (hashed_more hashes c.args.made.now _ c.hash_key.ensures are)

@@ -13,4 +13,4 @@ hashed_lists-requires-clause-missing g c κs within =
 pub returns : goal.returns
 returns g c =
     c.in_ok-lists.ensures
-    ∙ brought_first c.args.catalog.now (hashes_of g.H.KeyDigest.digest_of g.H.KeyDigest.size) c.args.items.now c.in-Some.first.now (sym c.in-Some.ensures.value) c.args.missing.now c.requires.missing
+    ∙ brought_first c.args.catalog.now (hashes_of g.H.KeyDigest.function) c.args.items.now c.in-Some.first.now (sym c.in-Some.ensures.value) c.args.missing.now c.requires.missing

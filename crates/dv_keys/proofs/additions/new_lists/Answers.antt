@@ -15,14 +15,14 @@ brought_lists-requires-clause-hashed g c κs within = rw c.items.ensures c.requi
 
 pub returns-in-Some-clause-collision : goal.returns-in-Some-clause-collision
 returns-in-Some-clause-collision g c =
-    let hashes = hashes_of g.H.KeyDigest.digest_of g.H.KeyDigest.size in
+    let hashes = hashes_of g.H.KeyDigest.function in
     let held = g.T.HoldsLists.held c.args.table.now in
     let lists = ap (map told) c.items-3.ensures ∙ c.in_ok-lists.ensures ∙ ap (λ l. brought_lists c.args.catalog.now hashes (delivered l)) c.items.ensures in
     some_rival c.args.catalog.now hashes held c.requires.held (delivered c.args.items.now) c.in-Some.rivals (ap (least_rivals held) (sym lists) ∙ sym c.in_ok-rivals.ensures ∙ c.in-Some.is)
 
 pub returns : goal.returns
 returns g c =
-    let hashes = hashes_of g.H.KeyDigest.digest_of g.H.KeyDigest.size in
+    let hashes = hashes_of g.H.KeyDigest.function in
     let held = g.T.HoldsLists.held c.args.table.now in
     let items = delivered c.args.items.now in
     let lists = c.in_ok-lists.ensures ∙ ap (λ l. brought_lists c.args.catalog.now hashes (delivered l)) c.items.ensures in

@@ -4,7 +4,7 @@ use Rattle.dv_keys.proofs.hashed_lists.hashed_lists.Goals as goal
 
 pub returns : goal.returns
 returns g c =
-    let hashes = hashes_of g.H.KeyDigest.digest_of g.H.KeyDigest.size in
+    let hashes = hashes_of g.H.KeyDigest.function in
     ap (map told) c.in_ok-lists.ensures
     ∙ told_in_order hashes c.args.missing.now c.args.feed c.args.items.now c.requires.hashed _
     ((rw c.items.ensures at (c.in_ok-add_items.ensures ∙ ap (λ all. all ++ map list_beside c.args.items.now) c.in_ok-add_missing.ensures))

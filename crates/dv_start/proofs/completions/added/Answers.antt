@@ -7,6 +7,6 @@ pub returns-in-Err-Collision-clause-damaged : goal.returns-in-Err-Collision-clau
 returns-in-Err-Collision-clause-damaged g c = λ damage is. (
   told_damage c.in_ok-broken-in-Err-Collision.field-0 damage (c.in_ok-broken-in-Err-Collision.ensures {u = tt}) is,
   λ place.
-      no_place (hashes_of g.H.KeyDigest.digest_of g.H.KeyDigest.size) c.args.vault.now c.args.window c.in-Err-Collision.field-0-0 c.in-Err-Collision.field-0-1 c.in-Err-Collision.field-0-2
+      no_place (hashes_of g.H.KeyDigest.function) c.args.vault.now c.args.window c.in-Err-Collision.field-0-0 c.in-Err-Collision.field-0-1 c.in-Err-Collision.field-0-2
       (rw c.in-Err-Collision.field-0-is at (c.in-Err-Collision.ensures {u = tt}).clashes) place.apart,
 )

@@ -39,7 +39,7 @@ begun-requires-clause-later g c = λ κs b.
 
 pub returns-in_err-begun-clause-damaged : goal.returns-in_err-begun-clause-damaged
 returns-in_err-begun-clause-damaged g c = λ damage is.
-    let hashes = hashes_of g.H.KeyDigest.digest_of g.H.KeyDigest.size in
+    let hashes = hashes_of g.H.KeyDigest.function in
     let parted = (c.in_ok-parts.ensures {u = tt}).parted in
     let kinds = kinds_of c.args.tables.items in
     let made = c.from_tables-vault.ensures in
@@ -54,7 +54,7 @@ returns-in_err-begun-clause-damaged g c = λ damage is.
 
 pub returns-clause-entries : goal.returns-clause-entries
 returns-clause-entries g c =
-    let hashes = hashes_of g.H.KeyDigest.digest_of g.H.KeyDigest.size in
+    let hashes = hashes_of g.H.KeyDigest.function in
     let parted = (c.in_ok-parts.ensures {u = tt}).parted in
     let kinds = kinds_of c.args.tables.items in
     let made = c.from_tables-vault.ensures in
@@ -66,7 +66,7 @@ returns-clause-entries g c =
 
 pub returns-clause-goes_on : goal.returns-clause-goes_on
 returns-clause-goes_on g c =
-    let hashes = hashes_of g.H.KeyDigest.digest_of g.H.KeyDigest.size in
+    let hashes = hashes_of g.H.KeyDigest.function in
     let parted = (c.in_ok-parts.ensures {u = tt}).parted in
     let kinds = kinds_of c.args.tables.items in
     let made = c.from_tables-vault.ensures in

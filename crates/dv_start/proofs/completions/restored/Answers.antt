@@ -11,12 +11,12 @@ use Rattle.dv_start.proofs.completions.restored.Goals as goal
 
 pub reopened-requires-clause-loaded : goal.reopened-requires-clause-loaded
 reopened-requires-clause-loaded g c = λ κs b.
-    loaded_by c.args.catalog (hashes_of g.H.KeyDigest.digest_of g.H.KeyDigest.size) g.H.KeyDigest.size c.args.heads c.args.stage (Some c.in-Some.window) (map entry_of c.args.tables.items) c.requires.clear (kinds_of c.args.tables.items) c.in-Some.is
+    loaded_by c.args.catalog (hashes_of g.H.KeyDigest.function) g.H.KeyDigest.function.width c.args.heads c.args.stage (Some c.in-Some.window) (map entry_of c.args.tables.items) c.requires.clear (kinds_of c.args.tables.items) c.in-Some.is
 
 pub from_tables-vault-requires-clause-rows : goal.from_tables-vault-requires-clause-rows
 from_tables-vault-requires-clause-rows g c =
     let kinds = kinds_of c.args.tables.items in
-    let loaded = loaded_by c.args.catalog (hashes_of g.H.KeyDigest.digest_of g.H.KeyDigest.size) g.H.KeyDigest.size c.args.heads c.args.stage None (map entry_of c.args.tables.items) c.requires.clear kinds c.in_default.is in
+    let loaded = loaded_by c.args.catalog (hashes_of g.H.KeyDigest.function) g.H.KeyDigest.function.width c.args.heads c.args.stage None (map entry_of c.args.tables.items) c.requires.clear kinds c.in_default.is in
     rows_kept c.args.heads (map entry_of c.args.tables.items) (ends_last c.args.catalog c.args.heads c.requires.heads) kinds
     (subst (λ (heads : List WindowHead). are_loaded heads (map entry_of c.args.tables.items) ≡ true) (append-nil c.args.heads) loaded)
 

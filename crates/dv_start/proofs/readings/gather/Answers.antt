@@ -19,7 +19,7 @@ read_table-requires-after_bounds g c κs within =
 
 pub returns-in_err-made-clause-damaged : goal.returns-in_err-made-clause-damaged
 returns-in_err-made-clause-damaged g c damage e =
-    let first = known_first c.args.catalog.now (hashes_of g.H.KeyDigest.digest_of g.H.KeyDigest.size) g.H.KeyDigest.size c.args.heads.now in
+    let first = known_first c.args.catalog.now (hashes_of g.H.KeyDigest.function) g.H.KeyDigest.function.width c.args.heads.now in
     let i = c.loop-id.id-index in
     let items = c.args.ids.now in
     let id = get_or items i (Hub 0) in
@@ -33,7 +33,7 @@ returns-in_err-made-clause-damaged g c damage e =
 
 pub returns-in_err-made-clause-formed : goal.returns-in_err-made-clause-formed
 returns-in_err-made-clause-formed g c damage e =
-    let first = known_first c.args.catalog.now (hashes_of g.H.KeyDigest.digest_of g.H.KeyDigest.size) g.H.KeyDigest.size c.args.heads.now in
+    let first = known_first c.args.catalog.now (hashes_of g.H.KeyDigest.function) g.H.KeyDigest.function.width c.args.heads.now in
     let p = err_from_is_err_and c.from_residual.result c.from_residual.ensures.1 in
     let fault : c.in_err-made.field-0.0 ≡ Damaged damage = same_fault c.from_residual.result p.0 c.in_err-made.field-0.0 (Damaged damage) p.1 p.2 e in
     subst (λ (m : Mapping). IsNamed m damage) c.known-known.ensures.catalog_is
@@ -41,7 +41,7 @@ returns-in_err-made-clause-formed g c damage e =
 
 pub loop-id-preserved : goal.loop-id-preserved
 loop-id-preserved g c =
-    let first = known_first c.args.catalog.now (hashes_of g.H.KeyDigest.digest_of g.H.KeyDigest.size) g.H.KeyDigest.size c.args.heads.now in
+    let first = known_first c.args.catalog.now (hashes_of g.H.KeyDigest.function) g.H.KeyDigest.function.width c.args.heads.now in
     let i = c.loop-id.id-index in
     let items = c.args.ids.now in
     let id = get_or items i (Hub 0) in

@@ -6,7 +6,7 @@ use Rattle.dv_start.proofs.readings.gather.Given as goal
 -- the tables so far
 abbrev pub invariant-loop-id : goal.invariant-loop-id
 invariant-loop-id g l = record {
-  gathered : AreGathered (known_first l.catalog (hashes_of g.H.KeyDigest.digest_of g.H.KeyDigest.size) g.H.KeyDigest.size l.heads) (g.K.Keeper.store l.initial.keeper) (take l.id-index l.ids) l.id-index l.gathered;
+  gathered : AreGathered (known_first l.catalog (hashes_of g.H.KeyDigest.function) g.H.KeyDigest.function.width l.heads) (g.K.Keeper.store l.initial.keeper) (take l.id-index l.ids) l.id-index l.gathered;
   kept : g.K.Keeper.store l.keeper ≡ g.K.Keeper.store l.initial.keeper;
   later : g.K.Keeper.faults l.initial.keeper ≤ g.K.Keeper.faults l.keeper;
 }

@@ -3,7 +3,7 @@ use Rattle.dv_vault.proofs.hashed_windows.hash_all.Goals as goal
 
 pub loop-staged-preserved : goal.loop-staged-preserved
 loop-staged-preserved g c =
-    let keys = HasKeys (hashes_of g.H.KeyDigest.digest_of g.H.KeyDigest.size) in
+    let keys = HasKeys (hashes_of g.H.KeyDigest.function) in
     let made = c.loop-staged.made in
     let extract = c.in_ok-of.field-0 in
     let pushed = c.in_ok-push.ensures.ok in

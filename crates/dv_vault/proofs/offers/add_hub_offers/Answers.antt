@@ -3,7 +3,7 @@ use Rattle.dv_vault.proofs.offers.add_hub_offers.Goals as goal
 
 pub loop-place-preserved : goal.loop-place-preserved
 loop-place-preserved g c =
-    let hashes = hashes_of g.H.KeyDigest.digest_of g.H.KeyDigest.size in
+    let hashes = hashes_of g.H.KeyDigest.function in
     let rows = c.args.extract.now.staged.now.rows in
     let place = c.loop-place.place in
     let row = c.row-item.result in

@@ -3,5 +3,5 @@ use Rattle.dv_vault.proofs.offers.all_offers.Given as goal
 
 abbrev pub invariant-loop-extract : goal.invariant-loop-extract
 invariant-loop-extract g l =
-    let hashes = hashes_of g.H.KeyDigest.digest_of g.H.KeyDigest.size in
+    let hashes = hashes_of g.H.KeyDigest.function in
     map (offered_by hashes) l.offers.items ≡ all_offered hashes l.catalog l.parent (map (λ extract. extract.staged.now) (take l.extract-index l.extract-items))

@@ -5,11 +5,11 @@ use Rattle.dv_vault.proofs.offers.deliveries.Goals as goal
 pub to_deliveries-requires-after_bounds : goal.to_deliveries-requires-after_bounds
 to_deliveries-requires-after_bounds g c κs within =
     rw (c.deref.ensures.value, c.in_ok-offers.ensures)
-    (offers_fit c.args.catalog.now c.args.parent c.args.window.now.window.now c.requires.valid c.requires.window (hashes_of g.H.KeyDigest.digest_of g.H.KeyDigest.size) c.in_ok-all_offers.field-0.items c.in_ok-all_offers.ensures)
+    (offers_fit c.args.catalog.now c.args.parent c.args.window.now.window.now c.requires.valid c.requires.window (hashes_of g.H.KeyDigest.function) c.in_ok-all_offers.field-0.items c.in_ok-all_offers.ensures)
 
 pub returns : goal.returns
 returns g c =
-    let hashes = hashes_of g.H.KeyDigest.digest_of g.H.KeyDigest.size in
+    let hashes = hashes_of g.H.KeyDigest.function in
     let window = c.args.window.now.window.now in
     let (items, hashed) = all_hashed hashes (deliveries c.args.catalog.now c.args.parent window) c.to_deliveries.result
     (subst (λ (all : List Keyed). IfOk c.to_deliveries.result (λ items. map keyed items ≡ all))

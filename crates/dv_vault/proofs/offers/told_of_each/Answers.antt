@@ -3,4 +3,4 @@ use Rattle.dv_vault.proofs.SortedOffers.{only_key}
 use Rattle.dv_vault.proofs.offers.told_of_each.Goals as goal
 
 pub returns-then-refs-eq1 : goal.returns-then-refs-eq1
-returns-then-refs-eq1 g c = only_key (hashes_of g.H.KeyDigest.digest_of g.H.KeyDigest.size) (told_by c.args.told) c.args.refs.now c.requires c.if-refs-eq1.true
+returns-then-refs-eq1 g c = only_key (hashes_of g.H.KeyDigest.function) (told_by c.args.told) c.args.refs.now c.requires c.if-refs-eq1.true

@@ -9,14 +9,14 @@ delta-requires-clause-items g c κs within =
 
 pub returns-clause-apart : goal.returns-clause-apart
 returns-clause-apart g c =
-    subst (λ items. HasNoClash (link_hashed c.args.catalog.now (hashes_of g.H.KeyDigest.digest_of g.H.KeyDigest.size) (g.N.HubNames.names c.args.names.now) c.args.table.now.rows items))
+    subst (λ items. HasNoClash (link_hashed c.args.catalog.now (hashes_of g.H.KeyDigest.function) (g.N.HubNames.names c.args.names.now) c.args.table.now.rows items))
     (c.in_ok-items.ensures {u = tt}).items ((c.in_ok-rows.ensures {u = tt}).apart)
 
 pub returns-clause-stamped : goal.returns-clause-stamped
 returns-clause-stamped g c =
     All-map (λ load. load ≡ c.args.window.now.window.now.load) (λ (row : LinkRow). row.load) c.in_ok-rows.rows
     (subst (All (λ (row : LinkRow). row.load ≡ c.args.window.now.window.now.load)) (sym ((c.in_ok-rows.ensures {u = tt}).rows))
-    (link_delta_load c.args.catalog.now (hashes_of g.H.KeyDigest.digest_of g.H.KeyDigest.size) c.args.window.now.window.now.load c.args.table.now.rows (delivered c.in_ok-items.items)))
+    (link_delta_load c.args.catalog.now (hashes_of g.H.KeyDigest.function) c.args.window.now.window.now.load c.args.table.now.rows (delivered c.in_ok-items.items)))
 
 pub delta-requires-clause-dated : goal.delta-requires-clause-dated
 delta-requires-clause-dated g c κs within = sym (list_all-map (λ load. nat_le load c.args.window.now.window.now.load) (λ (row : LinkRow). row.load) c.args.table.now.rows) ∙ c.requires.dated

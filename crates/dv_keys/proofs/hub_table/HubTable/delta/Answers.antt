@@ -10,7 +10,7 @@ lists_for-requires-clause-items g c κs within = are_items c.args.catalog.now (d
 
 pub returns-in_err-lists : goal.returns-in_err-lists
 returns-in_err-lists g c =
-    let hashes = hashes_of g.H.KeyDigest.digest_of g.H.KeyDigest.size in
+    let hashes = hashes_of g.H.KeyDigest.function in
     let p = err_from_is_err_and c.from_residual-in_err-lists.result c.from_residual-in_err-lists.ensures.1 in
     let rows = c.self.inside.held.rows in
     let clash = fault_collides (List LentList) (List HubRow) c.in_err-lists.field-0.0 (IsLeastClash (hub_hashed c.args.catalog.now hashes rows (delivered c.args.items.now))) c.in_err-lists.ensures.collision in
@@ -26,7 +26,7 @@ returns-in_err-lists g c =
 
 pub returns : goal.returns
 returns g c =
-    let hashes = hashes_of g.H.KeyDigest.digest_of g.H.KeyDigest.size in
+    let hashes = hashes_of g.H.KeyDigest.function in
     let rows = c.self.inside.held.rows in
     let made =
     made_are hub_place (λ row. row.key ∷ []) hashes (hub_row_of c.args.catalog.now c.args.load) c.args.load

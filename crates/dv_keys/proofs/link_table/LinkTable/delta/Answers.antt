@@ -12,7 +12,7 @@ lists_for-requires-clause-items g c κs within = are_items c.args.catalog.now (d
 
 pub returns-in_err-lists : goal.returns-in_err-lists
 returns-in_err-lists g c =
-    let hashes = hashes_of g.H.KeyDigest.digest_of g.H.KeyDigest.size in
+    let hashes = hashes_of g.H.KeyDigest.function in
     let names = g.N.HubNames.names c.args.names.now in
     let p = err_from_is_err_and c.from_residual-in_err-lists.result c.from_residual-in_err-lists.ensures.1 in
     let rows = c.self.inside.held.rows in
@@ -32,7 +32,7 @@ returns-in_err-lists g c =
 
 pub returns : goal.returns
 returns g c =
-    let hashes = hashes_of g.H.KeyDigest.digest_of g.H.KeyDigest.size in
+    let hashes = hashes_of g.H.KeyDigest.function in
     let names = g.N.HubNames.names c.args.names.now in
     let rows = c.self.inside.held.rows in
     let row_of = link_row c.args.catalog.now hashes c.args.load in

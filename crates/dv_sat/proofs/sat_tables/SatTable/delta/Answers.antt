@@ -5,17 +5,17 @@ use Rattle.dv_sat.proofs.sat_tables.SatTable.delta.Goals as goal
 
 pub returns-clause-stamped : goal.returns-clause-stamped
 returns-clause-stamped g c =
-    let change = sat_change (hashes_of g.H.KeyDigest.digest_of g.H.KeyDigest.size) (source c.args.catalog.now c.args.extract.now.staged.now.feed) c.args.self.now.rows c.args.load in
+    let change = sat_change (hashes_of g.H.KeyDigest.function) (source c.args.catalog.now c.args.extract.now.staged.now.feed) c.args.self.now.rows c.args.load in
     rw c.in_ok-rows.ensures.value
     (delta_stamped (λ (row : SatRow). row.load) sat_cmp c.args.load c.args.self.now.rows (batch_of sat_cmp change c.args.extract.now.staged.now.rows)
-    (made_stamped (hashes_of g.H.KeyDigest.digest_of g.H.KeyDigest.size) (source c.args.catalog.now c.args.extract.now.staged.now.feed) c.args.self.now.rows c.args.load c.args.extract.now.staged.now.rows))
+    (made_stamped (hashes_of g.H.KeyDigest.function) (source c.args.catalog.now c.args.extract.now.staged.now.feed) c.args.self.now.rows c.args.load c.args.extract.now.staged.now.rows))
 
 pub returns-clause-follows : goal.returns-clause-follows
 returns-clause-follows g c =
-    let change = sat_change (hashes_of g.H.KeyDigest.digest_of g.H.KeyDigest.size) (source c.args.catalog.now c.args.extract.now.staged.now.feed) c.args.self.now.rows c.args.load in
+    let change = sat_change (hashes_of g.H.KeyDigest.function) (source c.args.catalog.now c.args.extract.now.staged.now.feed) c.args.self.now.rows c.args.load in
     rw c.in_ok-rows.ensures.value
     (delta_follows (λ (row : SatRow). row.load) sat_cmp c.args.load c.args.self.now.rows (batch_of sat_cmp change c.args.extract.now.staged.now.rows)
-    (made_stamped (hashes_of g.H.KeyDigest.digest_of g.H.KeyDigest.size) (source c.args.catalog.now c.args.extract.now.staged.now.feed) c.args.self.now.rows c.args.load c.args.extract.now.staged.now.rows)
+    (made_stamped (hashes_of g.H.KeyDigest.function) (source c.args.catalog.now c.args.extract.now.staged.now.feed) c.args.self.now.rows c.args.load c.args.extract.now.staged.now.rows)
     (ascending-sorted_by sat_cmp sat_total (filter_map change c.args.extract.now.staged.now.rows)) c.in_ok-rows.ensures.order c.requires.not_later)
 
 pub returns-clause-batch : goal.returns-clause-batch
@@ -23,4 +23,4 @@ returns-clause-batch g c =
     let staged = c.args.extract.now.staged.now in
     λ older order apart plain table.
     c.in_ok-rows.ensures.value
-    ∙ rw table (delta_is_batch (hashes_of g.H.KeyDigest.digest_of g.H.KeyDigest.size) (source c.args.catalog.now staged.feed) older (record { load = c.args.load; rows = staged.rows }) order apart plain)
+    ∙ rw table (delta_is_batch (hashes_of g.H.KeyDigest.function) (source c.args.catalog.now staged.feed) older (record { load = c.args.load; rows = staged.rows }) order apart plain)

@@ -13,7 +13,7 @@ returns-in-Link-clause-apart g c = rw c.in-Link.is c.link_rows.ensures.apart
 
 pub returns-in_ok-additions-in-Status-clause-rows : goal.returns-in_ok-additions-in-Status-clause-rows
 returns-in_ok-additions-in-Status-clause-rows g c =
-    let hashes = hashes_of g.H.KeyDigest.digest_of g.H.KeyDigest.size in
+    let hashes = hashes_of g.H.KeyDigest.function in
     let extract = c.extract_of-extract-in-Status in
     let same = same_extract c.args.window.now.window.now c.in-Status.feed extract.result extract.ensures.found in
     rw c.in-Status.is
@@ -22,7 +22,7 @@ returns-in_ok-additions-in-Status-clause-rows g c =
 
 pub returns-in_ok-additions-in-Multi-clause-rows : goal.returns-in_ok-additions-in-Multi-clause-rows
 returns-in_ok-additions-in-Multi-clause-rows g c =
-    let hashes = hashes_of g.H.KeyDigest.digest_of g.H.KeyDigest.size in
+    let hashes = hashes_of g.H.KeyDigest.function in
     let extract = c.extract_of-extract-in-Multi in
     let same = same_extract c.args.window.now.window.now c.in-Multi.feed extract.result extract.ensures.found in
     rw c.in-Multi.is
@@ -31,7 +31,7 @@ returns-in_ok-additions-in-Multi-clause-rows g c =
 
 pub returns-in_ok-additions-in-Effect-clause-rows : goal.returns-in_ok-additions-in-Effect-clause-rows
 returns-in_ok-additions-in-Effect-clause-rows g c =
-    let hashes = hashes_of g.H.KeyDigest.digest_of g.H.KeyDigest.size in
+    let hashes = hashes_of g.H.KeyDigest.function in
     let extract = c.extract_of-extract-in-Effect in
     let same = same_extract c.args.window.now.window.now c.in-Effect.feed extract.result extract.ensures.found in
     rw c.in-Effect.is

@@ -16,7 +16,7 @@ all_deltas-requires-clause-dated g c κs within =
 
 pub returns-clause-apart : goal.returns-clause-apart
 returns-clause-apart g c =
-    subst (λ (raw : RawVault). IfOk c.all_deltas.result (λ batches. AreApart (hashes_of g.H.KeyDigest.digest_of g.H.KeyDigest.size) raw c.args.window.now)) c.self.view_is
-    (named_apart c.all_deltas.result c.self.inside.catalog (hashes_of g.H.KeyDigest.digest_of g.H.KeyDigest.size) (rows_of_hubs c.in_ok-names.names) (hubs_in c.self.inside.catalog (entries_of c.self.inside.raw))
+    subst (λ (raw : RawVault). IfOk c.all_deltas.result (λ batches. AreApart (hashes_of g.H.KeyDigest.function) raw c.args.window.now)) c.self.view_is
+    (named_apart c.all_deltas.result c.self.inside.catalog (hashes_of g.H.KeyDigest.function) (rows_of_hubs c.in_ok-names.names) (hubs_in c.self.inside.catalog (entries_of c.self.inside.raw))
     c.in_ok-hashed.hashed.window.now c.args.window.now
     (map entry_of c.deref.result.now) (entries_of c.self.inside.raw) (c.in_ok-names.ensures {u = tt}) (c.in_ok-hashed.ensures {u = tt}).window (ap (map entry_of) c.deref.ensures.value) c.all_deltas.ensures.apart)

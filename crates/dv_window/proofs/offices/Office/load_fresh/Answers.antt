@@ -6,12 +6,12 @@ use Rattle.dv_window.proofs.offices.Office.load_fresh.Goals as goal
 
 pub carry_out-requires-clause-told : goal.carry_out-requires-clause-told
 carry_out-requires-clause-told g c = λ store at.
-    let plan = subst (IsPlanned (hashes_of g.H.KeyDigest.digest_of g.H.KeyDigest.size) c.args.self.now c.args.given.now) c.in-Ok-New.field-0-is c.in-Ok-New.ensures.plan in
+    let plan = subst (IsPlanned (hashes_of g.H.KeyDigest.function) c.args.self.now c.args.given.now) c.in-Ok-New.field-0-is c.in-Ok-New.ensures.plan in
     agrees_closed c.args.self.now store (c.requires.agrees c.requires.fresh store at) (none_staged c.args.self.now plan.none_open)
 
 pub returns-in-Ok-New-clause-step : goal.returns-in-Ok-New-clause-step
 returns-in-Ok-New-clause-step g c state is_in =
-    let hashes = hashes_of g.H.KeyDigest.digest_of g.H.KeyDigest.size in
+    let hashes = hashes_of g.H.KeyDigest.function in
     let after = g.K.Keeper.store c.carry_out.new.keeper in
     let plan = subst (IsPlanned hashes c.args.self.now c.args.given.now) c.in-Ok-New.field-0-is c.in-Ok-New.ensures.plan in
     subst (λ answer. StepsTo c.args.self.now.vault.mapping hashes state c.args.given.now answer c.carry_out.new.self after) (sym c.load_answer.ensures)
@@ -20,13 +20,13 @@ returns-in-Ok-New-clause-step g c state is_in =
 
 pub returns-in-Ok-New-clause-agrees : goal.returns-in-Ok-New-clause-agrees
 returns-in-Ok-New-clause-agrees g c =
-    let plan = subst (IsPlanned (hashes_of g.H.KeyDigest.digest_of g.H.KeyDigest.size) c.args.self.now c.args.given.now) c.in-Ok-New.field-0-is c.in-Ok-New.ensures.plan in
+    let plan = subst (IsPlanned (hashes_of g.H.KeyDigest.function) c.args.self.now c.args.given.now) c.in-Ok-New.field-0-is c.in-Ok-New.ensures.plan in
     agrees_then c.args.self.now c.in-Ok-New.addition None c.carry_out.new.self (g.K.Keeper.store c.args.keeper.now) (g.K.Keeper.store c.carry_out.new.keeper) (c.requires.agrees c.requires.fresh)
     (λ e. none_staged c.args.self.now plan.none_open) c.carry_out.result c.carry_out.ensures.came
 
 pub returns-in-Some-clause-step : goal.returns-in-Some-clause-step
 returns-in-Some-clause-step g c state is_in =
-    let hashes = hashes_of g.H.KeyDigest.digest_of g.H.KeyDigest.size in
+    let hashes = hashes_of g.H.KeyDigest.function in
     let after = g.K.Keeper.store c.complete.new.keeper in
     let plan = subst (IsPlanned hashes c.args.self.now c.args.given.now) c.in-Ok-Open.field-0-is c.in-Ok-Open.ensures.plan in
     subst (λ answer. StepsTo c.args.self.now.vault.mapping hashes state c.args.given.now answer c.complete.new.self after) (sym c.load_answer-in-Some.ensures)
@@ -41,7 +41,7 @@ returns-in-Some-clause-agrees g c =
 
 pub returns-in-Err-clause-step : goal.returns-in-Err-clause-step
 returns-in-Err-clause-step g c state is_in =
-    let hashes = hashes_of g.H.KeyDigest.digest_of g.H.KeyDigest.size in
+    let hashes = hashes_of g.H.KeyDigest.function in
     let before = g.K.Keeper.store c.args.keeper.now in
     subst (λ answer. StepsTo c.args.self.now.vault.mapping hashes state c.args.given.now answer c.args.self.now before) (sym c.from.ensures)
     (stopped_step hashes state c.args.self.now c.plan.ensures.valid_mapping before c.requires.fresh is_in c.args.given.now c.in-Err.stop c.in-Err.ensures.stops before refl)
@@ -50,7 +50,7 @@ returns-in-Err-clause-step g c state is_in =
 
 pub returns-in-Ok-New-clause-answer : goal.returns-in-Ok-New-clause-answer
 returns-in-Ok-New-clause-answer g c state stands =
-    let hashes = hashes_of g.H.KeyDigest.digest_of g.H.KeyDigest.size in
+    let hashes = hashes_of g.H.KeyDigest.function in
     let held = c.args.self.now in
     let plan = subst (IsPlanned hashes held c.args.given.now) c.in-Ok-New.field-0-is c.in-Ok-New.ensures.plan in
     let came = untold None c.in-Ok-New.addition held c.carry_out.new.self (g.K.Keeper.store c.args.keeper.now) (g.K.Keeper.store c.carry_out.new.keeper) c.carry_out.result c.carry_out.ensures.came in
@@ -60,7 +60,7 @@ returns-in-Ok-New-clause-answer g c state stands =
 
 pub returns-in-Some-clause-answer : goal.returns-in-Some-clause-answer
 returns-in-Some-clause-answer g c state stands =
-    let hashes = hashes_of g.H.KeyDigest.digest_of g.H.KeyDigest.size in
+    let hashes = hashes_of g.H.KeyDigest.function in
     let held = c.args.self.now in
     let plan = subst (IsPlanned hashes held c.args.given.now) c.in-Ok-Open.field-0-is c.in-Ok-Open.ensures.plan in
     let came = untold_open held c.complete.new.self (g.K.Keeper.store c.args.keeper.now) (g.K.Keeper.store c.complete.new.keeper) c.in-Some.completed (c.in-Some.ensures {u = tt}).some in
@@ -70,7 +70,7 @@ returns-in-Some-clause-answer g c state stands =
 
 pub returns-in-Err-clause-answer : goal.returns-in-Err-clause-answer
 returns-in-Err-clause-answer g c state stands =
-    let hashes = hashes_of g.H.KeyDigest.digest_of g.H.KeyDigest.size in
+    let hashes = hashes_of g.H.KeyDigest.function in
     let held = c.args.self.now in
     subst (λ answer. StepsTo held.vault.mapping hashes state c.args.given.now answer held None) (sym c.from.ensures)
     (stopped_step hashes state held c.plan.ensures.valid_mapping None c.requires.fresh (untold_in hashes state held stands c.requires.fresh) c.args.given.now c.in-Err.stop c.in-Err.ensures.stops None refl)

@@ -11,7 +11,7 @@ addition-requires-clause-later g c κs within =
 pub returns-in-Some-clause-stops : goal.returns-in-Some-clause-stops
 returns-in-Some-clause-stops g c =
     let raw = c.args.self.now.vault in
-    let hashes = hashes_of g.H.KeyDigest.digest_of g.H.KeyDigest.size in
+    let hashes = hashes_of g.H.KeyDigest.function in
     let adds : IsAddition hashes raw c.args.window c.in_ok-addition.addition = subst (λ (held : Held). IsAddition hashes held.vault c.args.window c.in_ok-addition.addition) c.self.view_is (c.in_ok-addition.ensures {u = tt}).adds in
     let here = subst (λ (window : Window). IsAddition hashes raw window c.in_ok-addition.addition) c.requires.window adds in
     let count = c.in_ok-windows.ensures {u = tt} ∙ ap length (c.items.ensures ∙ c.heads.ensures.value) in

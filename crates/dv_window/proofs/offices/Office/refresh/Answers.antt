@@ -5,25 +5,25 @@ use Rattle.dv_window.proofs.offices.Office.refresh.Goals as goal
 
 pub returns-in_err-catalog-clause-damaged : goal.returns-in_err-catalog-clause-damaged
 returns-in_err-catalog-clause-damaged g c damage is = λ store at.
-    mapping_for c.args.self.now.vault.mapping (hashes_of g.H.KeyDigest.digest_of g.H.KeyDigest.size) g.H.KeyDigest.size store damage (c.same_mapping.ensures.damaged damage (search rules) store at)
+    mapping_for c.args.self.now.vault.mapping (hashes_of g.H.KeyDigest.function) g.H.KeyDigest.function.width store damage (c.same_mapping.ensures.damaged damage (search rules) store at)
 
 pub returns-in_err-catalog-clause-undamaged : goal.returns-in_err-catalog-clause-undamaged
 returns-in_err-catalog-clause-undamaged g c damage is state is_in =
     let stale : c.args.self.now.stale ≡ true = ap (λ (held : Held). held.stale) (sym c.self.view_is) ∙ c.if-not-self.false in
     let (store, at) = is_in.told stale in
-    not_damaged c.args.self.now.vault.mapping (hashes_of g.H.KeyDigest.digest_of g.H.KeyDigest.size) state store (is_in.store_stands store at) damage
+    not_damaged c.args.self.now.vault.mapping (hashes_of g.H.KeyDigest.function) state store (is_in.store_stands store at) damage
     (c.same_mapping.ensures.damaged damage (search rules) store at)
 
 pub returns-in_err-restored-clause-damaged : goal.returns-in_err-restored-clause-damaged
 returns-in_err-restored-clause-damaged g c damage is = λ store at.
-    let hashes = hashes_of g.H.KeyDigest.digest_of g.H.KeyDigest.size in
+    let hashes = hashes_of g.H.KeyDigest.function in
     let broken = c.read_store.ensures.damaged damage (search rules) store (c.same_mapping.ensures.store ∙ at) in
-    rule_for c.args.self.now.vault.mapping hashes g.H.KeyDigest.size store damage (subst (λ (m : Mapping). IsReadAs m store) c.in_ok-catalog.ensures.same (c.in_ok-catalog.ensures.read store at))
-    (subst (λ (m : Mapping). BreaksRule hashes g.H.KeyDigest.size m store damage) c.in_ok-catalog.ensures.same broken)
+    rule_for c.args.self.now.vault.mapping hashes g.H.KeyDigest.function.width store damage (subst (λ (m : Mapping). IsReadAs m store) c.in_ok-catalog.ensures.same (c.in_ok-catalog.ensures.read store at))
+    (subst (λ (m : Mapping). BreaksRule hashes g.H.KeyDigest.function.width m store damage) c.in_ok-catalog.ensures.same broken)
 
 pub returns-in_err-restored-clause-undamaged : goal.returns-in_err-restored-clause-undamaged
 returns-in_err-restored-clause-undamaged g c damage is state is_in =
-    let hashes = hashes_of g.H.KeyDigest.digest_of g.H.KeyDigest.size in
+    let hashes = hashes_of g.H.KeyDigest.function in
     let stale : c.args.self.now.stale ≡ true = ap (λ (held : Held). held.stale) (sym c.self.view_is) ∙ c.if-not-self.false in
     let (store, at) = is_in.told stale in
     c.read_store.ensures.undamaged damage (search rules) state store (c.same_mapping.ensures.store ∙ at)
@@ -40,7 +40,7 @@ returns-clause-agrees g c = λ fresh store at.
 
 pub returns-clause-stands : goal.returns-clause-stands
 returns-clause-stands g c state is_in =
-    let hashes = hashes_of g.H.KeyDigest.digest_of g.H.KeyDigest.size in
+    let hashes = hashes_of g.H.KeyDigest.function in
     let stale : c.args.self.now.stale ≡ true = ap (λ (held : Held). held.stale) (sym c.self.view_is) ∙ c.if-not-self.false in
     let (store, at) = is_in.told stale in
     let here = subst (λ (mapping : Mapping). Stands mapping hashes state store) (sym c.in_ok-catalog.ensures.same) (is_in.store_stands store at) in
@@ -55,6 +55,6 @@ returns-clause-stands g c state is_in =
 
 pub returns-clause-in_form : goal.returns-clause-in_form
 returns-clause-in_form g c was = λ store at.
-    let hashes = hashes_of g.H.KeyDigest.digest_of g.H.KeyDigest.size in
-    subst (λ (held : Held). IsInForm hashes g.H.KeyDigest.size held.vault.mapping store) (sym (c.change_to.ensures ∙ c.of_restored.ensures))
-    (subst (λ (mapping : Mapping). IsInForm hashes g.H.KeyDigest.size mapping store) (sym c.in_ok-restored.ensures.mapping) (c.in_ok-restored.ensures.in_form store (c.same_mapping.ensures.store ∙ at)))
+    let hashes = hashes_of g.H.KeyDigest.function in
+    subst (λ (held : Held). IsInForm hashes g.H.KeyDigest.function.width held.vault.mapping store) (sym (c.change_to.ensures ∙ c.of_restored.ensures))
+    (subst (λ (mapping : Mapping). IsInForm hashes g.H.KeyDigest.function.width mapping store) (sym c.in_ok-restored.ensures.mapping) (c.in_ok-restored.ensures.in_form store (c.same_mapping.ensures.store ∙ at)))

@@ -4,7 +4,7 @@ use Rattle.dv_window.proofs.offices.Office.resume.Goals as goal
 
 pub returns-in-Err-clause-step : goal.returns-in-Err-clause-step
 returns-in-Err-clause-step g c state is_in =
-    let hashes = hashes_of g.H.KeyDigest.digest_of g.H.KeyDigest.size in
+    let hashes = hashes_of g.H.KeyDigest.function in
     let after = g.K.Keeper.store c.refresh.new.keeper in
     let held_same = (c.in-Err.ensures {u = tt}).kept in
     let left : IsLeftIn hashes state c.refresh.new.self after = subst (λ (held : Held). IsLeftIn hashes state held after) (sym held_same)
@@ -28,7 +28,7 @@ returns-in-Err-clause-kept g c fresh is = absurd (not_err c.in-Err.fault (sym (c
 
 pub returns-clause-answer : goal.returns-clause-answer
 returns-clause-answer g c fresh state stands =
-    let hashes = hashes_of g.H.KeyDigest.digest_of g.H.KeyDigest.size in
+    let hashes = hashes_of g.H.KeyDigest.function in
     let same = (c.refresh.ensures.still fresh).1 in
     subst (λ (held : Held). CompletesTo held.vault.mapping hashes state c.resume_fresh.result c.resume_fresh.new.self None) same
     (c.resume_fresh.ensures.answer hashes state (subst (λ (held : Held). StandsFor hashes state held) (sym same) stands))

@@ -5,7 +5,7 @@ use Rattle.dv_window.proofs.offices.Office.start.Goals as goal
 
 pub returns-in_err-catalog-clause-undamaged : goal.returns-in_err-catalog-clause-undamaged
 returns-in_err-catalog-clause-undamaged g c damage is mapping state store at stands =
-    never_unread mapping (hashes_of g.H.KeyDigest.digest_of g.H.KeyDigest.size) state store stands damage (c.stored_mapping.ensures.damaged damage (search rules) store at)
+    never_unread mapping (hashes_of g.H.KeyDigest.function) state store stands damage (c.stored_mapping.ensures.damaged damage (search rules) store at)
 
 pub returns-in_default-clause-none : goal.returns-in_default-clause-none
 returns-in_default-clause-none g c is = λ store at. none_stored c.in_ok-catalog.field-0 store (c.in_ok-catalog.ensures.read store at) c.in_default.not-Some
@@ -16,7 +16,7 @@ returns-in_err-restored-clause-damaged g c damage is = λ store at.
 
 pub returns-in_err-restored-clause-undamaged : goal.returns-in_err-restored-clause-undamaged
 returns-in_err-restored-clause-undamaged g c damage is mapping state store at stands =
-    let hashes = hashes_of g.H.KeyDigest.digest_of g.H.KeyDigest.size in
+    let hashes = hashes_of g.H.KeyDigest.function in
     let read = read_as c.in_ok-catalog.field-0 store (c.in_ok-catalog.ensures.read store at) c.in-Some.catalog c.in-Some.is in
     let same : mapping ≡ c.in-Some.catalog = same_mapping mapping c.in-Some.catalog store stands.mapped read in
     c.read_store.ensures.undamaged damage (search rules) state store (c.stored_mapping.ensures.store ∙ at) (subst (λ (mapping : Mapping). Stands mapping hashes state store) same stands)
@@ -32,6 +32,6 @@ returns-clause-agrees g c = λ store at.
 
 pub returns-clause-in_form : goal.returns-clause-in_form
 returns-clause-in_form g c = λ store at.
-    let hashes = hashes_of g.H.KeyDigest.digest_of g.H.KeyDigest.size in
-    subst (λ (held : Held). IsInForm hashes g.H.KeyDigest.size held.vault.mapping store) (sym c.of_restored.ensures)
-    (subst (λ (mapping : Mapping). IsInForm hashes g.H.KeyDigest.size mapping store) (sym c.in_ok-restored.ensures.mapping) (c.in_ok-restored.ensures.in_form store (c.stored_mapping.ensures.store ∙ at)))
+    let hashes = hashes_of g.H.KeyDigest.function in
+    subst (λ (held : Held). IsInForm hashes g.H.KeyDigest.function.width held.vault.mapping store) (sym c.of_restored.ensures)
+    (subst (λ (mapping : Mapping). IsInForm hashes g.H.KeyDigest.function.width mapping store) (sym c.in_ok-restored.ensures.mapping) (c.in_ok-restored.ensures.in_form store (c.stored_mapping.ensures.store ∙ at)))
