@@ -1,91 +1,41 @@
--- How the line of an ending ends the command.
-use Rattle.dv_try.proofs.Vocabulary.{Bool, List, Option, ap, arith, false, inl, inr, refl, subst, sym, true, ℕ, ◌++◌, ◌∙◌, ◌≡◌, ◌≤◌, ◌⊎◌, Ok, Err, Result, ⊎_elim, Ends, line_of, Rose, after, IfOk, IfErr, OnErr, EndsOrMemory, IsReadCause, IsStopCause, StopsBy, line_of_ending, status_of}
-use Rattle.dv_try.proofs.Vocabulary.{absent_line, query_line, read_fault_line, refused_mapping_line, memory_line, HasEnd, HasLines, TryStops, WroteLines, Faults, HasLast, IsCaused, CutShort, Gives, Heard, IsCutLines, IsEnded, Trial, TrySays, tried_of, Tried, ended, status_for}
-use Rattle.dv_try.proofs.Vocabulary.{Ending, Absent, BadMapping, BadQuery, Memory, Unread, Stop, Ended, Unwritten, after-after, after-nil, got_behind, got_nothing, Status}
+-- How what came of `try` ends the command.
+use Rattle.dv_try.proofs.Vocabulary.{Bool, List, Option, ap, false, inl, inr, refl, subst, sym, true, ℕ, ◌++◌, ◌∙◌, ◌≡◌, ◌≤◌, ◌⊎◌, Err, Ok, arith, ⊎_elim, Ends, NamedFile, Rose, Seen, Status, DigestFunction, after, after-after, after-nil, got_behind, got_nothing}
+use Rattle.dv_try.proofs.Vocabulary.{Absent, BadMapping, BadQuery, Ending, EndsBy, EndsOrMemory, Gives, HasLast, IsReadCause, Memory, Tried, Unread, Unwritten, absent_line, ended, line_of_ending, memory_line, query_line, read_fault_line, refused_mapping_line, status_for, status_of}
+use Rattle.dv_try.proofs.Vocabulary.{CutShort, EndsBehind, EndsEarly, IsCaused, IsCutLines, IsEnded, TextCut, Trial, TrialSays, TriesAll, TrySays, Wanted, trial_of, tried_of}
+use Rattle.dv_given.proofs.EndSteps.{ends_or, rose_later}
+use Rattle.dv_given.proofs.ReadSteps.{between}
+use Rattle.dv_given.specs.Worlds.{Sight}
 use Rattle.dv_outside.specs.declared.statuses.Status.TheVariants as statuses
 
--- a line with a text that is printed, or the one for memory
-pub printed_ends : {E : Type 0} (text : Result (List ℕ) E) (made want front : List ℕ) (status : Status) (old new : Option (List ℕ)) (before now : ℕ) (result : Status)
-    → IfOk text (λ t. t ≡ made) → made ≡ want → IfOk text (λ t. Ends status (line_of front t) old new before now result) → OnErr text (Ends statuses.Memory memory_line old new before now result)
-    → EndsOrMemory status (line_of front want) old new before now result
-printed_ends (Ok t) made want front status old new before now result is same ends memory =
-    inl (subst (λ l. Ends status l old new before now result) (ap (line_of front) (is ∙ same)) ends)
-printed_ends (Err e) made want front status old new before now result is same ends memory = inr memory
+-- ---- where all was written
 
--- what holds of an error
-pub if_err_so : {T E : Type 0} {P Q : E → Type 0} → ((e : E) → P e → Q e) → (r : Result T E) → IfErr r P → IfErr r Q
-if_err_so so (Ok x) none = none
-if_err_so so (Err e) is = so e is
+module _ (function : DigestFunction) (w : Wanted) (s : Sight) where
+  says_at_end : (t : Trial) (refused : Bool) → Gives (tried_of t) s.out s.err (status_for refused) → TrialSays t s (status_for refused)
+  says_at_end t true gives = gives
+  says_at_end t false gives = gives
 
-pub if_ok_so : {T E : Type 0} {P Q : T → Type 0} → ((x : T) → P x → Q x) → (r : Result T E) → IfOk r P → IfOk r Q
-if_ok_so so (Ok x) is = so x is
-if_ok_so so (Err e) none = none
+  pub all_says : (refused : Bool) (result : Status) → result ≡ status_for refused → TriesAll function w s (Ok refused) → TrySays function w s result
+  all_says refused result is all files told = subst (TrialSays (trial_of function w files) s) (sym is) (says_at_end (trial_of function w files) refused (all.gives files told))
 
--- what holds of a cause
-module _ (before then now : ℕ) (later : before ≤ then) where
-  pub rose_later : Rose then now → Rose before now
-  rose_later rose = omega (arith, later, rose)
+  caused_at_end : (refused : Bool) → TriesAll function w s (Ok refused) → IsCaused s (status_for refused)
+  caused_at_end true all = let wrote = all.refusal refl in (wrote.0, inr wrote.1, wrote.2)
+  caused_at_end false all = tt
 
-  pub read_cause_so : (ending : Ending) → IsReadCause then now ending → IsReadCause before now ending
-  read_cause_so (Unread file) rose = rose_later rose
-  read_cause_so ending any = any
+  pub all_caused : (refused : Bool) (result : Status) → result ≡ status_for refused → TriesAll function w s (Ok refused) → IsCaused s result
+  all_caused refused result is all = subst (IsCaused s) (sym is) (caused_at_end refused all)
 
-  pub stop_cause_so : (W P W' P' : Type 0) → (W → W') → (P → P') → (stop : Stop) → IsStopCause then now W P stop → IsStopCause before now W' P' stop
-  stop_cause_so W P W' P' w p (Ended ending) cause = (read_cause_so ending cause.0, p cause.1)
-  stop_cause_so W P W' P' w p Unwritten cause = w cause
+-- ---- where it ends early
 
--- ---- whatever the folder and the sinks tell
-
-module _ (f : Faults) (said says : Option (List ℕ)) (mid : Option (List ℕ)) (then : ℕ) (later : f.err_before ≤ then) (result : Status) where
-  abbrev IsSo : Status → Type 0
-  IsSo = IsCaused f said says
-
-  behind : (line : List ℕ) (has : HasLines said mid) → says ≡ after mid line → says ≡ after said (has.0 ++ line)
-  behind line has is = is ∙ ap (λ o. after o line) has.1 ∙ after-after said has.0 line
-
-  by_line : (status : Status) (line : List ℕ) → HasLines said mid → ((text : List ℕ) → HasLast line text → says ≡ after said text → IsSo status)
-      → Ends status line mid says then f.err result → IsSo result
-  by_line status line has own (inl said) = subst IsSo (sym said.status_is) (own (has.0 ++ line) (has.0, refl) (behind line has said.is))
-  by_line status line has own (inr cut) = subst IsSo (sym cut.status_is) (inr (omega (arith, later, cut.rose)))
-
-  by_either : (status : Status) (line : List ℕ) → HasLines said mid → ((text : List ℕ) → HasLast line text → says ≡ after said text → IsSo status)
-      → EndsOrMemory status line mid says then f.err result → IsSo result
-  by_either status line has own (inl ends) = by_line status line has own ends
-  by_either status line has own (inr ends) = by_line statuses.Memory memory_line has (λ text last is. (text, last, is)) ends
-
-  ending_caused : (ending : Ending) → IsReadCause f.folder_before f.folder ending → HasLines said mid
-      → EndsOrMemory (status_of ending) (line_of_ending ending) mid says then f.err result → IsCaused f said says result
-  ending_caused (BadMapping e) cause has ends = by_either statuses.Mapping (refused_mapping_line e) has (λ text last is. (text, (e, last), is)) ends
-  ending_caused (BadQuery rule) cause has ends = by_either statuses.Refused (query_line rule) has (λ text last is. (text, inl (rule, last), is)) ends
-  ending_caused (Absent file) cause has ends = by_either statuses.ReadFault (absent_line file) has (λ text last is. (text, (file, inl last), is)) ends
-  ending_caused (Unread file) cause has ends = by_either statuses.ReadFault (read_fault_line file) has (λ text last is. (text, (file, inr (last, cause)), is)) ends
-  ending_caused Memory cause has ends = by_either statuses.Memory memory_line has (λ text last is. (text, last, is)) ends
-
-  pub stop_caused : then ≤ f.err → (stop : Stop) → IsStopCause f.folder_before f.folder (Rose f.out_before f.out ⊎ Rose f.err_before then) (HasLines said mid) stop
-      → StopsBy stop mid says then f.err result → IsCaused f said says result
-  stop_caused le (Ended ending) cause ends = ending_caused ending cause.0 cause.1 ends
-  stop_caused le Unwritten rose ends = subst IsSo (sym ends.0) (⊎_elim (λ r. inl r) (λ r. inr (omega (arith, le, r))) rose)
-
--- where all was written
-module _ (f : Faults) (said says : Option (List ℕ)) where
-  caused_at_end : (refused : Bool) → WroteLines refused said says → IsCaused f said says (status_for refused)
-  caused_at_end true wrote = (wrote.lines, inr (wrote.refusal refl), wrote.said_is)
-  caused_at_end false wrote = tt
-
-  pub done_caused : (result : Status) (refused : Bool) → result ≡ status_for refused → WroteLines refused said says → IsCaused f said says result
-  done_caused result refused is wrote = subst (IsCaused f said says) (sym is) (caused_at_end refused wrote)
-
--- ---- by the folder's files
-
-module _ (t : Trial) (before now : ℕ) (heard : Heard) (quiet : heard.out ≡ heard.out_old) where
-  whole : (status : Status) (text : List ℕ) → tried_of t ≡ ended status text → heard.err ≡ after heard.err_old text → Gives (tried_of t) heard status
+-- what is said of the folder's files
+module _ (t : Trial) (s : Sight) (quiet : s.out.new ≡ s.out.old) where
+  whole : (status : Status) (text : List ℕ) → tried_of t ≡ ended status text → s.err.new ≡ after s.err.old text → Gives (tried_of t) s.out s.err status
   whole status text is said = record {
-    out = quiet ∙ sym (after-nil heard.out_old) ∙ ap (λ (r : Tried). after heard.out_old r.out) (sym is);
-    err = said ∙ ap (λ (r : Tried). after heard.err_old r.err) (sym is);
+    text = quiet ∙ sym (after-nil s.out.old) ∙ ap (λ (r : Tried). after s.out.old r.out) (sym is);
+    lines = said ∙ ap (λ (r : Tried). after s.err.old r.err) (sym is);
     status_is = ap (λ (r : Tried). r.status) is;
   }
 
-  said_says : (status : Status) (text : List ℕ) → IsEnded t before now status text → heard.err ≡ after heard.err_old text → TrySays t before now heard status
+  said_says : (status : Status) (text : List ℕ) → IsEnded t s.folder.before s.folder.now status text → s.err.new ≡ after s.err.old text → TrialSays t s status
   said_says statuses.ReadFault text (inl is) said = inl (whole statuses.ReadFault text is said)
   said_says statuses.ReadFault text (inr failed) said = inr (record { out = quiet; text = text; is_text = failed.0; err = said }, failed.1)
   said_says statuses.Memory text memory said = record { out = quiet; text = text; is_text = memory; err = said }
@@ -93,36 +43,73 @@ module _ (t : Trial) (before now : ℕ) (heard : Heard) (quiet : heard.out ≡ h
   said_says statuses.Refused text is said = whole statuses.Refused text is said
   said_says status text none said = absurd none
 
-  module _ (mid : Option (List ℕ)) (err_before err_now : ℕ) (result : Status) where
-    line_says : (lines : List ℕ) → mid ≡ after heard.err_old lines → (status : Status) (line : List ℕ) → IsEnded t before now status (lines ++ line)
-        → Ends status line mid heard.err err_before err_now result → TrySays t before now heard result
-    line_says lines so_far status line may (inl said) = subst (TrySays t before now heard) (sym said.status_is)
-        (said_says status (lines ++ line) may (said.is ∙ ap (λ o. after o line) so_far ∙ after-after heard.err_old lines line))
-    line_says lines so_far status line may (inr cut) = subst (TrySays t before now heard) (sym cut.status_is) (record {
-      out = got_nothing heard.out_old heard.out _ quiet;
+  module _ (lines : List ℕ) (heard : Option (List ℕ)) (then : ℕ) (so_far : heard ≡ after s.err.old lines) (result : Status) where
+    line_says : (status : Status) (line : List ℕ) → IsEnded t s.folder.before s.folder.now status (lines ++ line) → Ends status line heard s.err.new then s.err.now result → TrialSays t s result
+    line_says status line may (inl said) = subst (TrialSays t s) (sym said.status_is)
+        (said_says status (lines ++ line) may (said.is ∙ ap (λ o. after o line) so_far ∙ after-after s.err.old lines line))
+    line_says status line may (inr cut) = subst (TrialSays t s) (sym cut.status_is) (record {
+      out = got_nothing s.out.old s.out.new _ quiet;
       text = lines ++ line;
       is_text = inr (status, may);
-      err = got_behind heard.err_old mid heard.err lines line so_far cut.got;
+      err = got_behind s.err.old heard s.err.new lines line so_far cut.got;
     })
 
-    ending_says : (ending : Ending) → HasEnd t before now heard.err_old mid ending
-        → EndsOrMemory (status_of ending) (line_of_ending ending) mid heard.err err_before err_now result → TrySays t before now heard result
-    ending_says ending has (inl ends) = line_says has.lines has.said_is (status_of ending) (line_of_ending ending) has.ended ends
-    ending_says ending has (inr ends) = line_says has.lines has.said_is statuses.Memory memory_line has.memory ends
+    early_says : (ending : Ending) → EndsBehind t s.folder.before s.folder.now lines ending → EndsOrMemory (status_of ending) (line_of_ending ending) (between heard s.err.new then s.err.now) result → TrialSays t s result
+    early_says ending is (inl ends) = line_says (status_of ending) (line_of_ending ending) is.ended ends
+    early_says ending is (inr ends) = line_says statuses.Memory memory_line is.memory ends
 
-module _ (t : Trial) (before now : ℕ) where
-  pub stop_says : (out_old out err_old mid err : Option (List ℕ)) (err_before err_now : ℕ) (result : Status) (stop : Stop)
-      → TryStops t before now (record { out_old = out_old; out = out; err_old = err_old; err = mid }) stop → StopsBy stop mid err err_before err_now result
-      → TrySays t before now (record { out_old = out_old; out = out; err_old = err_old; err = err }) result
-  stop_says out_old out err_old mid err err_before err_now result (Ended ending) stops ends =
-      ending_says t before now (record { out_old = out_old; out = out; err_old = err_old; err = err }) stops.0 mid err_before err_now result ending stops.1 ends
-  stop_says out_old out err_old mid err err_before err_now result Unwritten cut ends =
-      subst (TrySays t before now (record { out_old = out_old; out = out; err_old = err_old; err = err })) (sym ends.0)
-      (subst (λ e. CutShort (tried_of t) (record { out_old = out_old; out = out; err_old = err_old; err = e }) (IsCutLines t before now)) (sym ends.1) cut)
+-- whatever the folder and the sinks tell
+module _ (s : Sight) (lines : List ℕ) (heard : Option (List ℕ)) (then : ℕ) (so_far : heard ≡ after s.err.old lines) (later : s.err.before ≤ then) (result : Status) where
+  by_line : (status : Status) (line : List ℕ) → ((text : List ℕ) → HasLast line text → s.err.new ≡ after s.err.old text → IsCaused s status) → Ends status line heard s.err.new then s.err.now result → IsCaused s result
+  by_line status line own (inl said) = subst (IsCaused s) (sym said.status_is)
+      (own (lines ++ line) (lines, refl) (said.is ∙ ap (λ o. after o line) so_far ∙ after-after s.err.old lines line))
+  by_line status line own (inr cut) = subst (IsCaused s) (sym cut.status_is) (inr (rose_later s.err.before then s.err.now later cut.rose))
 
-  says_at_end : (heard : Heard) (refused : Bool) → Gives (tried_of t) heard (status_for refused) → TrySays t before now heard (status_for refused)
-  says_at_end heard true gives = gives
-  says_at_end heard false gives = gives
+  by_either : (status : Status) (line : List ℕ) → ((text : List ℕ) → HasLast line text → s.err.new ≡ after s.err.old text → IsCaused s status)
+      → EndsOrMemory status line (between heard s.err.new then s.err.now) result → IsCaused s result
+  by_either status line own (inl ends) = by_line status line own ends
+  by_either status line own (inr ends) = by_line statuses.Memory memory_line (λ text last is. (text, last, is)) ends
 
-  pub done_says : (heard : Heard) (result : Status) (refused : Bool) → result ≡ status_for refused → Gives (tried_of t) heard (status_for refused) → TrySays t before now heard result
-  done_says heard result refused is gives = subst (TrySays t before now heard) (sym is) (says_at_end heard refused gives)
+  early_caused : (ending : Ending) → IsReadCause s.folder.before s.folder.now ending → EndsOrMemory (status_of ending) (line_of_ending ending) (between heard s.err.new then s.err.now) result → IsCaused s result
+  early_caused (BadMapping e) cause ends = by_either statuses.Mapping (refused_mapping_line e) (λ text last is. (text, (e, last), is)) ends
+  early_caused (BadQuery rule) cause ends = by_either statuses.Refused (query_line rule) (λ text last is. (text, inl (rule, last), is)) ends
+  early_caused (Absent file) cause ends = by_either statuses.ReadFault (absent_line file) (λ text last is. (text, (file, inl last), is)) ends
+  early_caused (Unread file) cause ends = by_either statuses.ReadFault (read_fault_line file) (λ text last is. (text, (file, inr (last, cause)), is)) ends
+  early_caused Memory cause ends = by_either statuses.Memory memory_line (λ text last is. (text, last, is)) ends
+  early_caused ending none ends = absurd none
+
+-- ---- where it does not come to its end
+
+module _ (function : DigestFunction) (w : Wanted) (folder : Seen (List NamedFile)) (out : Seen (List ℕ)) (said heard says : Option (List ℕ)) (before then now : ℕ) (sooner : before ≤ then) (later : then ≤ now) (result : Status) (ending : Ending)
+    (tries : TriesAll function w (record { folder = folder; out = out; err = between said heard before then }) (Err ending)) (ends : EndsBy ending (between heard says then now) result) where
+  abbrev s : Sight
+  s = record { folder = folder; out = out; err = between said says before now }
+
+  abbrev mid : Sight
+  mid = record { folder = folder; out = out; err = between said heard before then }
+
+  -- nothing more is written
+  unwritten : ending ≡ Unwritten → (result ≡ statuses.WriteFault) × (says ≡ heard)
+  unwritten is = subst (λ e. EndsBy e (between heard says then now) result) is ends
+
+  says_by : (EndsEarly function w mid ending ⊎ TextCut function w mid ending) → TrySays function w s result
+  says_by (inl early) files told =
+      early_says (trial_of function w files) s early.out early.lines heard then early.said_is result ending (early.ends files told) (ends_or folder.before folder.now _ result ending early.cause ends)
+  says_by (inr cut) files told =
+      let more = unwritten cut.unwritten in
+      subst (TrialSays (trial_of function w files) s) (sym more.0)
+      (subst (λ e. CutShort (tried_of (trial_of function w files)) (record { folder = folder; out = out; err = between said e before now }) (IsCutLines (trial_of function w files) folder.before folder.now)) (sym more.1)
+      (let short = cut.cut files told in record { out = short.out; text = short.text; is_text = short.is_text; err = short.err }))
+
+  caused_by : (EndsEarly function w mid ending ⊎ TextCut function w mid ending) → IsCaused s result
+  caused_by (inl early) = early_caused s early.lines heard then early.said_is sooner result ending early.cause (ends_or folder.before folder.now _ result ending early.cause ends)
+  caused_by (inr cut) = subst (IsCaused s) (sym (unwritten cut.unwritten).0) (⊎_elim (λ r. inl r) (λ r. inr (rose_more r)) cut.rose)
+    where
+      rose_more : Rose before then → Rose before now
+      rose_more rose = omega (arith, later, rose)
+
+  pub early_or_cut_says : TrySays function w s result
+  early_or_cut_says = says_by tries
+
+  pub early_or_cut_caused : IsCaused s result
+  early_or_cut_caused = caused_by tries

@@ -1,8 +1,6 @@
 pub mod EndSteps
-pub mod ExtractSteps
-pub mod MappingSteps
-pub mod OfficeSteps
+pub mod LineSteps
 pub mod RunSteps
 pub mod TrySteps
 pub mod Vocabulary
-pub mod WholeSteps
+pub mod WindowSteps

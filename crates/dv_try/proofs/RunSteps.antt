@@ -1,38 +1,9 @@
 -- The run over manifests, so far.
-use Rattle.dv_try.proofs.Vocabulary.{Bool, List, Option, Some, [], ap, append_assoc, false, get_or, length, refl, subst, sym, take, true, ℕ, ◌++◌, ◌+◌, ◌<◌, ◌||◌, ◌∙◌, ◌∷◌, ◌≡◌, ◌≤◌, Ok, slice_get, drop, Err, Result, slice_get-get_or, take_more, drop_more, append-nil, take-append-drop, take_all}
-use Rattle.dv_try.proofs.Vocabulary.{Mapping, GotPrefix, after, Hashes, BringEnds, IsStopCause, Goes, HasRefusal, IsLoaded, LoadEnds, LoadStops, LoadsAll, LoadsFirst, ManifestStops, SoFar, WroteLine, WroteLines, outcome_of, taken_text, Progress, is_refused, refusal_text, start, step}
-use Rattle.dv_try.proofs.Vocabulary.{step_by, step_on, steps, window_line, Ending, Absent, Memory, Unread, Stop, Ended, Unwritten, Loading, Taken, after-after, after-nil, got_behind, NamedFile}
-use Rattle.dv_try.specs.declared.takings.Taken.TheVariants as taken
-
--- ---- the lines, whatever the folder tells
-
-behind_text : (front line behind more text : List ℕ) → text ≡ front ++ line ++ behind → text ++ more ≡ front ++ line ++ (behind ++ more)
-behind_text front line behind more text is = ap (λ l. l ++ more) is ∙ append_assoc (front ++ line) behind more
-
--- before the first manifest
-pub none_wrote : (said : Option (List ℕ)) → WroteLines false said said
-none_wrote said = record { lines = []; said_is = sym (after-nil said); refusal = λ so. let none : false ≡ true = so in cc }
-
-module _ (said mid says : Option (List ℕ)) (name : List ℕ) (was is : Bool) (wrote : WroteLines was said mid) where
-  -- one line more
-  refused_by : (came_of : Taken) → is_refused (outcome_of came_of) ≡ true → HasRefusal (wrote.lines ++ window_line name (taken_text came_of))
-  refused_by (taken.Loaded rows) so = let none : false ≡ true = so in cc
-  refused_by taken.Repeated so = let none : false ≡ true = so in cc
-  refused_by (taken.Refused rule) so = (wrote.lines, name, rule, [], sym (append-nil (wrote.lines ++ window_line name (refusal_text rule))))
-
-  refused_before : HasRefusal wrote.lines → (line : List ℕ) → HasRefusal (wrote.lines ++ line)
-  refused_before has line = (has.0, has.1, has.2, has.3 ++ line, behind_text has.0 (window_line has.1 (refusal_text has.2)) has.3 line wrote.lines has.4)
-
-  refused_either : (before : Bool) → was ≡ before → (came_of : Taken) → (before || is_refused (outcome_of came_of)) ≡ true → HasRefusal (wrote.lines ++ window_line name (taken_text came_of))
-  refused_either true e came_of so = refused_before (wrote.refusal e) (window_line name (taken_text came_of))
-  refused_either false e came_of so = refused_by came_of so
-
-  pub wrote_more : WroteLine name was is mid says → WroteLines is said says
-  wrote_more line = record {
-    lines = wrote.lines ++ line.0;
-    said_is = line.2 ∙ ap (λ o. after o line.0) wrote.said_is ∙ after-after said wrote.lines line.0;
-    refusal = λ so. subst (λ l. HasRefusal (wrote.lines ++ l)) (sym line.1.1) (refused_either was refl line.1.0 (sym line.1.2 ∙ so));
-  }
+use Rattle.dv_try.proofs.Vocabulary.{List, Some, [], ap, get_or, inl, inr, length, refl, slice_get-get_or, subst, sym, take, take_more, drop_more, ℕ, ◌++◌, ◌+◌, ◌<◌, ◌∙◌, ◌∷◌, ◌≡◌, ◌≤◌, ◌⊎◌, Err, Ok, Result, drop, take-append-drop, take_all}
+use Rattle.dv_try.proofs.Vocabulary.{GotPrefix, Hashes, Mapping, NamedFile, Seen, after, after-after, after-nil, got_behind, Absent, BringEnds, Ending, Memory, Unread}
+use Rattle.dv_try.proofs.Vocabulary.{IsLoaded, LineCut, LinesCut, Loaded, Loading, NextEnds, Progress, Unbrought, Unloaded, Went, lines_of, start, step, step_by, step_on, steps}
+use Rattle.dv_given.proofs.EndSteps.{bring_end_so, rose_later}
+use Rattle.dv_given.proofs.ReadSteps.{joined}
 
 -- ---- the run over the folder's files
 
@@ -53,58 +24,70 @@ module _ (mapping : Mapping) (hashes : Hashes) (files : List NamedFile) where
   ends_so (Err lines) = refl
   ends_so (Ok q) = refl
 
-  -- before the first manifest
-  pub none_yet : (names : List (List ℕ)) (loading : Loading) (said : Option (List ℕ)) → IsLoaded mapping hashes loading start → LoadsFirst mapping hashes files names 0 loading said said
-  none_yet names loading said loaded = (record { progress = start; steps_are = refl; said_is = sym (after-nil said) }, loaded)
-
-  module _ (names : List (List ℕ)) (i : ℕ) (name : List ℕ) (within : i < length names) (is : name ≡ get_or names i name) (said mid : Option (List ℕ)) (so_far : SoFar mapping hashes files names i said mid) where
-    abbrev p : Progress
-    p = so_far.progress
-
+  module _ (names : List (List ℕ)) (i : ℕ) (name : List ℕ) (within : i < length names) (is : name ≡ get_or names i name) (p : Progress) (so_far : run start (take i names) ≡ Ok p) where
     behind : (rest more : List (List ℕ)) → more ≡ take i names ++ rest → run start more ≡ run p rest
-    behind rest more e = ap (run start) e ∙ steps-append start (take i names) rest ∙ ap (λ r. step_on r (λ q. run q rest)) so_far.steps_are
+    behind rest more e = ap (run start) e ∙ steps-append start (take i names) rest ∙ ap (λ r. step_on r (λ q. run q rest)) so_far
 
+    -- one more
     next_is : run start (take (i + 1) names) ≡ step mapping hashes files name p
     next_is = behind (name ∷ []) (take (i + 1) names) (take_more names i name within ∙ ap (λ n. take i names ++ n ∷ []) (sym is)) ∙ ends_so (step mapping hashes files name p)
 
+    -- and all that are behind it
     rest_is : run start names ≡ step_on (step mapping hashes files name p) (λ q. run q (drop (i + 1) names))
     rest_is = behind (name ∷ drop (i + 1) names) names
         (sym (take-append-drop i names) ∙ ap (λ l. take i names ++ l) (drop_more names i name within ∙ ap (λ n. n ∷ drop (i + 1) names) (sym is)))
 
-    named : slice_get names i ≡ Some name
-    named = slice_get-get_or names i name within ∙ ap Some (sym is)
+    -- why all are not taken
+    next_ends : (ending : Ending) → BringEnds files name ending → NextEnds mapping hashes files names i p.lines ending
+    next_ends (Absent file) absent = rest_is ∙ ap (λ a. step_on (step_by mapping hashes name a p) (λ q. run q (drop (i + 1) names))) absent
+    next_ends (Unread file) read = (name, slice_get-get_or names i name within ∙ ap Some (sym is), read)
+    next_ends Memory memory = memory
+    next_ends ending none = absurd none
 
-    -- one more
-    pub goes_one : (new : Loading) (says : Option (List ℕ)) → Goes mapping hashes files name p new mid says → LoadsFirst mapping hashes files names (i + 1) new said says
-    goes_one new says goes = (
-      record {
-        progress = goes.takes.next;
-        steps_are = next_is ∙ goes.takes.step_is;
-        said_is = goes.said_is ∙ ap (λ o. after o goes.line) so_far.said_is ∙ after-after said p.lines goes.line ∙ ap (after said) (sym goes.takes.lines_are);
-      },
-      goes.takes.loaded_is,
-    )
+-- ---- what the code has of it
 
-    -- why all are not
-    leads_by : (ending : Ending) → BringEnds files name ending → LoadEnds mapping hashes files names i p.lines ending
-    leads_by (Absent file) absent = rest_is ∙ ap (λ a. step_on (step_by mapping hashes name a p) (λ q. run q (drop (i + 1) names))) absent
-    leads_by (Unread file) read = (name, named, read)
-    leads_by Memory memory = memory
-    leads_by ending none = absurd none
+-- before the first manifest
+pub none_yet : (mapping : Mapping) (hashes : Hashes) (names : List (List ℕ)) (loading : Loading) (folder : Seen (List NamedFile)) (err : Seen (List ℕ)) → err.new ≡ err.old → IsLoaded mapping hashes loading start
+    → Loaded mapping hashes (take 0 names) loading folder err
+none_yet mapping hashes names loading folder err quiet loaded =
+    record { progress = start; steps_are = λ files told. refl; said_is = quiet ∙ sym (after-nil err.old); loaded_is = loaded }
 
-    pub leads : (before now : ℕ) (W : Type 0) (says : Option (List ℕ)) (stop : Stop) → IsStopCause before now W (says ≡ mid) stop → ManifestStops mapping hashes files name p mid says stop
-        → LoadStops mapping hashes files names said says stop
-    leads before now W says (Ended ending) cause ends =
-        (i, record { progress = p; steps_are = so_far.steps_are; said_is = cause.1 ∙ so_far.said_is }, leads_by ending ends)
-    leads before now W says Unwritten cause cut =
-        (i + 1, cut.next, next_is ∙ cut.step_is, subst (GotPrefix said says) (sym cut.lines_are) (got_behind said mid says p.lines cut.line so_far.said_is cut.got))
+module _ (mapping : Mapping) (hashes : Hashes) (names : List (List ℕ)) (i : ℕ) (name : List ℕ) (within : i < length names) (is : name ≡ get_or names i name)
+    (folder more : Seen (List NamedFile)) (kept : more.old ≡ folder.old) (later : folder.before ≤ more.before) (err lines : Seen (List ℕ)) (heard : lines.old ≡ err.new) (err_later : err.before ≤ lines.before)
+    (loading : Loading) (first : Loaded mapping hashes (take i names) loading folder err) where
+  abbrev p : Progress
+  p = first.progress
 
-  -- all of them
-  pub all_taken : (names : List (List ℕ)) (i : ℕ) (loading : Loading) (said says : Option (List ℕ)) → length names ≤ i → LoadsFirst mapping hashes files names i loading said says
-      → LoadsAll mapping hashes files names loading said says
-  all_taken names i loading said says whole first = record {
-    progress = first.0.progress;
-    steps_are = ap (run start) (sym (take_all i names whole)) ∙ first.0.steps_are;
-    said_is = first.0.said_is;
-    loaded_is = first.1;
+  -- one more is taken
+  pub goes_on : (loading' : Loading) → Went mapping hashes name p loading' more lines → Loaded mapping hashes (take (i + 1) names) loading' (joined folder more) (joined err lines)
+  goes_on loading' went = record {
+    progress = went.next;
+    steps_are = λ files told. next_is mapping hashes files names i name within is p (first.steps_are files told) ∙ went.step_is files (kept ∙ told);
+    said_is = went.said_is ∙ ap (λ o. after o went.line) (heard ∙ first.said_is) ∙ after-after err.old p.lines went.line ∙ ap (after err.old) (sym went.lines_are);
+    loaded_is = went.loaded_is;
   }
+
+  -- or all are not
+  pub stops_at : (ending : Ending) → (Unbrought name more lines ending ⊎ LineCut mapping hashes name p more lines ending)
+      → Unloaded mapping hashes names (joined folder more) (joined err lines) ending ⊎ LinesCut mapping hashes names (joined folder more) (joined err lines) ending
+  stops_at ending (inl none) = inl (record {
+    k = i;
+    lines = p.lines;
+    said_is = none.quiet ∙ heard ∙ first.said_is;
+    cause = bring_end_so folder.before more.before more.now later ending none.cause;
+    lines_are = λ files told. ap lines_of (first.steps_are files told);
+    ends = λ files told. next_ends mapping hashes files names i name within is p (first.steps_are files told) ending (none.ends files (kept ∙ told));
+  })
+  stops_at ending (inr cut) = inr (record {
+    unwritten = cut.unwritten;
+    rose = rose_later err.before lines.before lines.now err_later cut.rose;
+    k = i + 1;
+    lines = cut.next.lines;
+    lines_are = λ files told. ap lines_of (next_is mapping hashes files names i name within is p (first.steps_are files told) ∙ cut.step_is files (kept ∙ told));
+    got = subst (GotPrefix err.old lines.new) (sym cut.lines_are) (got_behind err.old lines.old lines.new p.lines cut.line (heard ∙ first.said_is) cut.got);
+  })
+
+-- all of them are taken
+pub all_taken : (mapping : Mapping) (hashes : Hashes) (names : List (List ℕ)) (i : ℕ) (loading : Loading) (folder : Seen (List NamedFile)) (err : Seen (List ℕ)) → length names ≤ i
+    → Loaded mapping hashes (take i names) loading folder err → Loaded mapping hashes names loading folder err
+all_taken mapping hashes names i loading folder err whole first = subst (λ taken. Loaded mapping hashes taken loading folder err) (take_all i names whole) first

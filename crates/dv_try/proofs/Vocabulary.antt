@@ -1,58 +1,23 @@
 -- What the proofs of this crate, and of those above it, take from elsewhere.
-pub use Rattle.dv_text.proofs.Vocabulary.{Bool, Contains, Contains-get_or, List, None, Option, Some, [], ap, append_assoc, arith, codes, cond, drop_more, false, get_or, inl, inr, le-ltb, length, length-map, lt-ltb, map, option_or, refl, slice_get-get_or, subst, sym, take, take_more, true, ℕ}
-pub use Rattle.dv_text.proofs.Vocabulary.{◌++◌, ◌+◌, ◌<◌, ◌==◌, ◌||◌, ◌∙◌, ◌∷◌, ◌≡◌, ◌≤◌, ◌⊎◌}
-pub use Rattle.dv_catalog.proofs.Vocabulary.{Mapping, first_of, nat_lt, printed}
-pub use Rattle.dv_window.proofs.Vocabulary.{Held, IsIn, Ok, StepsTo, Store, StandsFor, State, accepted, beginning, collides, differs, feed_twice, if_new, late, no_extracts, open_other, outcome, refusal, unknown_feed, vault_full, window_of, window_rule}
-pub use Rattle.dv_records.proofs.Vocabulary.{Hashes, find, min, option_map_or}
-pub use Rattle.dv_mapfile.proofs.Vocabulary.{IfOk, if◌then◌else◌, option_map, read_mapping, string_bytes}
-pub use Rattle.dv_outside.proofs.Vocabulary.{Ends, GotPrefix, Rose, after, append-nil, drop, err_from_is_err_and, file_at, take-append-drop, take_all}
-pub use Rattle.dv_vault.proofs.Vocabulary.{HasSealed, RawVault, Told, drop_all, hashes_of}
-pub use Rattle.dv_bridge.specs.ZeroKeys.{HasZeroKeys}
-pub use Rattle.dv_mart.proofs.Vocabulary.{IsOffered, decimal, mart_text}
-pub use Rattle.dv_try.specs.Endings.{BringEnds, DateEnds, EndsOrMemory, ExtractEnds, ExtractsEnd, FileEnds, FilesEnd, IsMappingEnd, IsReadCause, IsStopCause, MappingEnds, QueryEnds, ReadEnds, StopsBy, TextEnds, WhatEnds, line_of_ending, status_of}
-pub use Rattle.dv_try.specs.Given.{absent_line, given, query_line, read_fault_line, refused_mapping_line}
-pub use Rattle.dv_try.specs.Lines.{absent_front, mapping_file, mapping_front, memory_line, program_front, read_fault_front}
-pub use Rattle.dv_try.specs.Loadings.{Begins, Goes, HasEnd, HasLines, HasRefusal, HasRows, IsLoaded, IsReady, LoadEnds, LoadStops, LoadsAll, LoadsFirst, ManifestCut, ManifestStops, SoFar, Takes, TakesArrival, TryStops, WroteLine, WroteLines, outcome_of, taken_text, trial_of}
-pub use Rattle.dv_try.specs.Readings.{Brings, Reading, StandsForWhole, allowed, arrival_of, no_reading, read_from, read_more, read_next, read_on, reading_of, with_extract}
-pub use Rattle.dv_try.specs.Causes.{Faults, HasLast, IsCaused}
-pub use Rattle.dv_try.specs.Says.{CutShort, Gives, Heard, IsCutLines, IsEnded, IsMemory, Trial, TrySays, lines_before, lines_of, lines_with, tried_of}
-pub use Rattle.dv_try.specs.Tried.{Arrival, Broken, Brought, Progress, Tried, absent_or, arrival, arrival_by, at_end, brought, brought_if, brought_with, ended, first_absent, is_past, is_refused, manifest_bytes, mapping_at, outcome_text, refusal_text, start, status_for, step, step_by, step_on}
-pub use Rattle.dv_try.specs.Tried.{steps, tried_at, tried_for, tried_with, whole_extract, whole_window, window_line, with_outcome, with_refusal, with_text}
-pub use Rattle.dv_try.specs.declared.arrivals.Arrived.{Arrived}
-pub use Rattle.dv_try.specs.declared.endings.Ending.{Ending}
-pub use Rattle.dv_try.specs.declared.endings.Ending.TheVariants.{Absent, BadMapping, BadQuery, Memory, Unread}
-pub use Rattle.dv_try.specs.declared.endings.Stop.{Stop}
-pub use Rattle.dv_try.specs.declared.endings.Stop.TheVariants.{Ended, Unwritten}
-pub use Rattle.dv_try.specs.declared.takings.Loading.{Loading}
-pub use Rattle.dv_try.specs.declared.takings.Taken.{Taken}
-pub use Rattle.dv_try.specs.declared.asked.Asked.{Asked}
-pub use Rattle.dv_catalog.specs.Limits.{most_manifest_bytes, most_mapping_bytes}
-pub use Rattle.dv_catalog.specs.declared.map_error.MapError.{MapError}
-pub use Rattle.dv_catalog.specs.declared.rules.Rule.{Rule}
-pub use Rattle.dv_catalog.specs.declared.rules.Rule.TheVariants.{FeedTwice, NoExtracts, TooLong, UnknownFeed}
-pub use Rattle.dv_catalog.specs.declared.windows.ExtractIn.{ExtractIn}
-pub use Rattle.dv_catalog.specs.declared.windows.WindowIn.{WindowIn}
-pub use Rattle.dv_mapfile.specs.Manifests.{manifest_in}
-pub use Rattle.dv_mapfile.specs.declared.manifests.Manifest.{Manifest}
-pub use Rattle.dv_mapfile.specs.declared.manifests.ManifestExtract.{ManifestExtract}
+pub use Rattle.dv_given.proofs.Vocabulary.{Bool, List, None, Option, Some, [], ap, append_assoc, arith, codes, false, get_or, inl, inr, length, refl, slice_get-get_or, subst, sym, take, take_more, drop_more, true, ℕ, ◌++◌, ◌+◌, ◌<◌, ◌||◌, ◌∙◌, ◌∷◌, ◌≡◌, ◌≤◌, ◌⊎◌}
+pub use Rattle.dv_given.proofs.Vocabulary.{Err, IfErr, IfOk, Ok, Result, Told, append-nil, drop, err_from_is_err_and, slice_get, take-append-drop, take_all, ⊎_elim}
+pub use Rattle.dv_given.proofs.Vocabulary.{Ends, GotPrefix, Rose, Seen, Status, after, after-after, after-nil, got_all, got_behind, got_longer, got_nothing, line_of}
+pub use Rattle.dv_given.proofs.Vocabulary.{Hashes, HasSealed, Held, Mapping, MapError, NamedFile, Outcome, QueryRule, RawVault, Rule, StandsFor, State, StepsTo, What, Window, WindowIn, beginning, decimal, hashes_of, DigestFunction, mart_text, outcome, stamp_of, vault}
+pub use Rattle.dv_given.proofs.Vocabulary.{Arrival, Brings, BringEnds, Broken, Brought, DateEnds, EndsBy, EndsOrMemory, Gives, HasLast, HasRefusal, IsBringEnd, IsMappingFile, IsOffered, IsReadCause}
+pub use Rattle.dv_given.proofs.Vocabulary.{IsTextOf, MappingEnds, QueryEnds, Reads, ReadsMapping}
+pub use Rattle.dv_given.proofs.Vocabulary.{StandsForWhole, TextEnds, Tried, Wrote, Arrives, IsTextFor, Sight, absent_line, arrival, arrival_of, ended, is_refused, line_of_ending, mapping_at, memory_line, outcome_of, outcome_text, query_line, read_fault_line, refusal_text}
+pub use Rattle.dv_given.proofs.Vocabulary.{refused_mapping_line, status_for, status_of, taken_text, window_line, mapping_file}
+pub use Rattle.dv_given.specs.declared.arrivals.Arrived.{Arrived}
+pub use Rattle.dv_given.specs.declared.endings.Ending.{Ending}
+pub use Rattle.dv_given.specs.declared.endings.Ending.TheVariants.{Absent, BadMapping, BadQuery, Memory, Unread, Unwritten}
+pub use Rattle.dv_given.specs.declared.windows.Taken.{Taken}
 pub use Rattle.dv_mart.specs.Whats.{what_of}
-pub use Rattle.dv_mart.specs.MartTexts.{path_name}
-pub use Rattle.dv_mart.specs.declared.query_rules.QueryRule.{QueryRule}
-pub use Rattle.dv_mart.specs.declared.query_rules.QueryRule.TheVariants.{TooLarge}
-pub use Rattle.dv_mart.specs.declared.whats.What.{What}
-pub use Rattle.dv_outside.proofs.Told.{after-after, after-nil, got_all, got_behind, got_longer, got_nothing}
-pub use Rattle.dv_outside.specs.Ends.{line_of}
-pub use Rattle.dv_outside.specs.declared.folders.NamedFile.{NamedFile}
-pub use Rattle.dv_outside.specs.declared.statuses.Status.{Status}
-pub use Rattle.dv_outside.specs.declared.statuses.Status.TheVariants.{Done, ReadFault, Refused, WriteFault}
-pub use Rattle.dv_records.specs.Limits.{most_extract_bytes, most_window_bytes}
-pub use Rattle.dv_records.specs.Outcomes.{is_feed, repeated_name, too_long_behind}
-pub use Rattle.dv_records.specs.Vault.{vault}
-pub use Rattle.dv_records.specs.declared.answers.Outcome.{Outcome}
-pub use Rattle.dv_text.specs.Stamps.{stamp_of}
-pub use Rattle.dv_text.specs.declared.rows.Window.{Window}
 pub use Rattle.dv_window.specs.Offices.{StaleAfter}
-pub use Rattle.std.proofs.Common.{Err, Result, slice_get, ⊎_elim}
-pub use Rattle.std.proofs.lemmas.Bool.{ltb-false, ltb-true}
-pub use Rattle.std.proofs.lemmas.List.{length-take}
-pub use Rattle.std.specs.Prelude.{IfErr, OnErr, not, unwrap_or, ◌≢◌}
+pub use Rattle.dv_try.specs.Causes.{IsCaused}
+pub use Rattle.dv_try.specs.Loadings.{AllSaid, Begins, CanTake, EndsBehind, EndsEarly, Goes, GoesBy, HasLines, HasRows, IsBegun, IsLoaded, IsReadied, IsReady, Leaves, LineCut, LinesCut, Loaded, Loads, NextEnds, ReadsTrial, TakesArrival, TakesLine, TakesWindow, TextCut}
+pub use Rattle.dv_try.specs.Loadings.{TookArrival, TookLine, TookWindow, TriesAll, Unbrought, Unloaded, Went, WhatEnds}
+pub use Rattle.dv_try.specs.Says.{Broke, CutShort, IsCutLines, IsEnded, IsMemory, IsReadNext, Trial, TrialSays, TryCompletes, TrySays, Wanted, lines_before, lines_of, lines_with, trial_of, tried_of, wanted}
+pub use Rattle.dv_try.specs.Tried.{Progress, at_end, start, state_after, step, step_by, step_on, steps, tried_at, tried_for, tried_with, with_outcome, with_refusal, with_text}
+pub use Rattle.dv_try.specs.declared.asked.Asked.{Asked}
+pub use Rattle.dv_try.specs.declared.takings.Loading.{Loading}
+pub use Rattle.dv_try.specs.declared.tries.Readied.{Readied}

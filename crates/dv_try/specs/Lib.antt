@@ -1,9 +1,5 @@
 pub mod Causes
-pub mod Endings
-pub mod Given
-pub mod Lines
 pub mod Loadings
 pub mod NullKeepers
-pub mod Readings
 pub mod Says
 pub mod Tried

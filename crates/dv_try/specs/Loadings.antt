@@ -1,58 +1,49 @@
 -- The parts of `try` between its mapping and its text: the taking of the manifests, one after another.
-use Rattle.std.specs.Prelude.{◌≡◌, ℕ, Bool, true, false, ◌||◌, List, ◌++◌, Option, Ok, Err, codes, take}
-use Rattle.std.specs.Fmt.{decimal}
-use Rattle.dv_text.specs.Keys.{Hashes}
+use Rattle.std.specs.Prelude.{◌≡◌, ◌≤◌, ◌⊎◌, ℕ, Bool, true, false, List, [], ◌++◌, Some, None, Result, Ok, Err, take}
+use Rattle.dv_text.specs.Causes.{Rose}
+use Rattle.dv_text.specs.Keys.{DigestFunction, Hashes}
+use Rattle.dv_text.specs.Told.{Told}
 use Rattle.dv_catalog.specs.Entries.{Mapping}
 use Rattle.dv_catalog.specs.Windows.{window_of}
-use Rattle.dv_catalog.specs.declared.rules.Rule.{Rule}
 use Rattle.dv_catalog.specs.declared.windows.WindowIn.{WindowIn}
-use Rattle.dv_mart.specs.declared.whats.What.{What}
+use Rattle.dv_mart.specs.OfferedMarts.{IsOffered}
+use Rattle.dv_mart.specs.Whats.{what_of}
+use Rattle.dv_mart.specs.declared.query_rules.QueryRule.TheVariants.{UnknownMart}
 use Rattle.dv_outside.specs.Bytes.{after, GotPrefix}
+use Rattle.dv_outside.specs.Seen.{Seen}
 use Rattle.dv_outside.specs.declared.folders.NamedFile.{NamedFile}
 use Rattle.dv_records.specs.Loads.{loaded}
 use Rattle.dv_records.specs.Outcomes.{outcome}
 use Rattle.dv_records.specs.States.{State}
-use Rattle.dv_records.specs.declared.answers.Outcome.{Outcome}
-use Rattle.dv_records.specs.declared.answers.Outcome.TheVariants as outcomes
 use Rattle.dv_window.specs.Offices.{Held, StandsFor}
-use Rattle.dv_try.specs.declared.endings.Ending.{Ending}
-use Rattle.dv_try.specs.declared.endings.Ending.TheVariants as endings
-use Rattle.dv_try.specs.declared.endings.Stop.{Stop}
-use Rattle.dv_try.specs.declared.endings.Stop.TheVariants as stops
+use Rattle.dv_given.specs.Causes.{HasRefusal, Wrote}
+use Rattle.dv_given.specs.Endings.{BringEnds, IsBringEnd, IsReadCause, QueryEnds, line_of_ending, status_of}
+use Rattle.dv_given.specs.FolderReads.{Reads}
+use Rattle.dv_given.specs.Given.{absent_line}
+use Rattle.dv_given.specs.Lines.{memory_line}
+use Rattle.dv_given.specs.Says.{Gives}
+use Rattle.dv_given.specs.Takings.{outcome_of}
+use Rattle.dv_given.specs.Tried.{Absent, Arrival, Broken, Brought, status_for}
+use Rattle.dv_given.specs.Worlds.{Sight}
+use Rattle.dv_given.specs.declared.endings.Ending.{Ending}
+use Rattle.dv_given.specs.declared.endings.Ending.TheVariants as endings
+use Rattle.dv_given.specs.declared.windows.Taken.{Taken}
+use Rattle.dv_given.specs.declared.windows.Taken.TheVariants as taken
 use Rattle.dv_try.specs.declared.takings.Loading.{Loading}
-use Rattle.dv_try.specs.declared.takings.Taken.{Taken}
-use Rattle.dv_try.specs.declared.takings.Taken.TheVariants as taken
-use Rattle.dv_try.specs.declared.asked.Asked.{Asked}
-use Rattle.dv_try.specs.Endings.{BringEnds, line_of_ending, status_of}
-use Rattle.dv_try.specs.Given.{absent_line}
-use Rattle.dv_try.specs.Lines.{memory_line}
-use Rattle.dv_try.specs.Says.{CutShort, Heard, IsCutLines, IsEnded, IsMemory, IsReadNext, Trial, lines_before, lines_of, tried_of}
-use Rattle.dv_try.specs.Tried.{Absent, Arrival, Broken, Brought, Progress, arrival, at_end, is_refused, refusal_text, start, state_after, step, step_by, steps, window_line}
-
--- what `try` was asked for, of these files
-abbrev pub trial_of : Hashes → List NamedFile → Asked → Trial
-trial_of hashes files a =
-    record { hashes = hashes; files = files; what = a.what.now; date = a.date.now; names = a.manifests.now }
+use Rattle.dv_try.specs.declared.tries.Readied.{Readied}
+use Rattle.dv_try.specs.Says.{CutShort, IsCutLines, IsEnded, IsMemory, IsReadNext, Trial, Wanted, lines_before, lines_of, trial_of, tried_of}
+use Rattle.dv_try.specs.Tried.{Progress, at_end, start, state_after, step, step_by, steps}
 
 -- ---- a window
 
--- a window can be given to the office: it isn't stale, and stands for some state
-pub record IsReady (hashes : Hashes) (loading : Loading) : Type 0 where
-  pub state : State
-  pub stands : StandsFor hashes state loading.office
-  pub fresh : loading.office.stale ≡ false
+-- an office can take a window in a state: it stands for it, and isn't stale
+pub record IsReady (hashes : Hashes) (state : State) (held : Held) : Type 0 where
+  pub stands : StandsFor hashes state held
+  pub fresh : held.stale ≡ false
 
--- what the code has loaded is what the run has
-pub record IsLoaded (mapping : Mapping) (hashes : Hashes) (loading : Loading) (p : Progress) : Type 0 where
-  pub mapping_is : loading.office.vault.mapping ≡ mapping
-  pub refused_is : loading.refused ≡ p.refused
-  pub stands : StandsFor hashes p.state loading.office
-
--- the outcome that the code has of a window
-abbrev pub outcome_of : Taken → Outcome
-outcome_of (taken.Loaded rows) = outcomes.Load
-outcome_of taken.Repeated = outcomes.Repeated
-outcome_of (taken.Refused rule) = outcomes.Refused rule
+-- an office can take a window in some state
+abbrev pub CanTake : Hashes → Held → Type 0
+CanTake hashes held = (state : State) × IsReady hashes state held
 
 -- the number of rows that the code has of a window
 abbrev pub HasRows : Mapping → Hashes → State → WindowIn → Taken → Type 0
@@ -61,122 +52,185 @@ HasRows mapping hashes state given taken.Repeated = Unit {0}
 HasRows mapping hashes state given (taken.Refused rule) = Unit {0}
 
 -- what came of a window, and what the office has behind it
-pub record TakesWindow (mapping : Mapping) (hashes : Hashes) (given : WindowIn) (state : State) (held : Held) (came_of : Taken) : Type 0 where
-  pub outcome_is : outcome mapping hashes state given ≡ outcome_of came_of
-  pub rows_are : HasRows mapping hashes state given came_of
-  pub stands : StandsFor hashes (state_after mapping given (outcome_of came_of) state) held
+pub record TakesWindow (hashes : Hashes) (given : WindowIn) (state : State) (held held' : Held) (came_of : Taken) : Type 0 where
+  pub outcome_is : outcome held.vault.mapping hashes state given ≡ outcome_of came_of
+  pub rows_are : HasRows held.vault.mapping hashes state given came_of
+  pub mapping_is : held'.vault.mapping ≡ held.vault.mapping
+  pub ready : IsReady hashes (state_after held.vault.mapping given (outcome_of came_of) state) held'
 
 -- what came of what a manifest brought
-abbrev pub TakesArrival : Mapping → Hashes → Arrival → State → Held → Taken → Type 0
-TakesArrival mapping hashes (Absent file) state held came_of = ⊥
-TakesArrival mapping hashes (Broken rule) state held came_of = (came_of ≡ taken.Refused rule) × StandsFor hashes state held
-TakesArrival mapping hashes (Brought given) state held came_of = TakesWindow mapping hashes given state held came_of
+abbrev pub TakesArrival : Hashes → Arrival → State → Held → Held → Taken → Type 0
+TakesArrival hashes (Absent file) state held held' came_of = ⊥
+TakesArrival hashes (Broken rule) state held held' came_of = (came_of ≡ taken.Refused rule) × (held' ≡ held)
+TakesArrival hashes (Brought given) state held held' came_of = TakesWindow hashes given state held held' came_of
 
--- a line's words for what came of it
-abbrev pub taken_text : Taken → List ℕ
-taken_text (taken.Loaded rows) = codes ": Loaded " ++ decimal rows
-taken_text taken.Repeated = codes ": Repeated"
-taken_text (taken.Refused rule) = refusal_text rule
+-- the same, in every state in which the office can take a window
+abbrev pub TookWindow : Hashes → WindowIn → Held → Held → Taken → Type 0
+TookWindow hashes given held held' came_of = (state : State) → IsReady hashes state held → TakesWindow hashes given state held held' came_of
+
+abbrev pub TookArrival : Hashes → Arrival → Held → Held → Taken → Type 0
+TookArrival hashes came held held' came_of = (state : State) → IsReady hashes state held → TakesArrival hashes came state held held' came_of
 
 -- ---- a manifest
 
--- a line of what came of a manifest, and whether a window was refused up to there
-abbrev pub IsLine : List ℕ → Bool → Bool → List ℕ → Type 0
-IsLine name was is line = (came_of : Taken) × (line ≡ window_line name (taken_text came_of)) × (is ≡ (was || is_refused (outcome_of came_of)))
+-- what the code has loaded is what the run has, whose lines tell it where a window was refused
+pub record IsLoaded (mapping : Mapping) (hashes : Hashes) (loading : Loading) (p : Progress) : Type 0 where
+  pub mapping_is : loading.office.vault.mapping ≡ mapping
+  pub refused_is : loading.refused ≡ p.refused
+  pub ready : IsReady hashes p.state loading.office
+  pub refusal : p.refused ≡ true → HasRefusal p.lines
 
 -- what a manifest brought was taken, and this is its line
-pub record Takes (mapping : Mapping) (hashes : Hashes) (name : List ℕ) (came : Arrival) (p : Progress) (loading : Loading) (line : List ℕ) : Type 0 where
+pub record TakesLine (mapping : Mapping) (hashes : Hashes) (name : List ℕ) (came : Arrival) (p : Progress) (loading : Loading) (line : List ℕ) : Type 0 where
   pub next : Progress
   pub step_is : step_by mapping hashes name came p ≡ Ok next
   pub loaded_is : IsLoaded mapping hashes loading next
   pub lines_are : next.lines ≡ p.lines ++ line
 
+-- the same, in every run that has what the code had loaded
+abbrev pub TookLine : Hashes → List ℕ → Arrival → Loading → Loading → List ℕ → Type 0
+TookLine hashes name came loading loading' line =
+    (mapping : Mapping) (p : Progress) → IsLoaded mapping hashes loading p → TakesLine mapping hashes name came p loading' line
+
 -- the manifest was taken, and its line written
-pub record Goes (mapping : Mapping) (hashes : Hashes) (files : List NamedFile) (name : List ℕ) (p : Progress) (loading : Loading) (said says : Option (List ℕ)) : Type 0 where
-  pub line : List ℕ
-  pub takes : Takes mapping hashes name (arrival files name) p loading line
-  pub said_is : says ≡ after said line
-
--- a manifest's line was written
-abbrev pub WroteLine : List ℕ → Bool → Bool → Option (List ℕ) → Option (List ℕ) → Type 0
-WroteLine name was is said says = (line : List ℕ) × IsLine name was is line × (says ≡ after said line)
-
--- only a front of a manifest's line was written
-pub record ManifestCut (mapping : Mapping) (hashes : Hashes) (files : List NamedFile) (name : List ℕ) (p : Progress) (said says : Option (List ℕ)) : Type 0 where
+pub record Went (mapping : Mapping) (hashes : Hashes) (name : List ℕ) (p : Progress) (loading : Loading) (folder : Seen (List NamedFile)) (err : Seen (List ℕ)) : Type 0 where
   pub next : Progress
-  pub step_is : step mapping hashes files name p ≡ Ok next
+  pub step_is : Told folder.old (λ files. step mapping hashes files name p ≡ Ok next)
+  pub loaded_is : IsLoaded mapping hashes loading next
   pub line : List ℕ
   pub lines_are : next.lines ≡ p.lines ++ line
-  pub got : GotPrefix said says line
+  pub said_is : err.new ≡ after err.old line
 
--- why a manifest wasn't taken, or its line not written
-abbrev pub ManifestStops : Mapping → Hashes → List NamedFile → List ℕ → Progress → Option (List ℕ) → Option (List ℕ) → Stop → Type 0
-ManifestStops mapping hashes files name p said says (stops.Ended ending) = BringEnds files name ending
-ManifestStops mapping hashes files name p said says stops.Unwritten = ManifestCut mapping hashes files name p said says
+-- it could not be taken, and no line was written
+pub record Unbrought (name : List ℕ) (folder : Seen (List NamedFile)) (err : Seen (List ℕ)) (ending : Ending) : Type 0 where
+  pub quiet : err.new ≡ err.old
+  pub cause : IsBringEnd folder.before folder.now ending
+  pub ends : Told folder.old (λ files. BringEnds files name ending)
+
+-- only a front of its line was written
+pub record LineCut (mapping : Mapping) (hashes : Hashes) (name : List ℕ) (p : Progress) (folder : Seen (List NamedFile)) (err : Seen (List ℕ)) (ending : Ending) : Type 0 where
+  pub unwritten : ending ≡ endings.Unwritten
+  pub rose : Rose err.before err.now
+  pub next : Progress
+  pub step_is : Told folder.old (λ files. step mapping hashes files name p ≡ Ok next)
+  pub line : List ℕ
+  pub lines_are : next.lines ≡ p.lines ++ line
+  pub got : GotPrefix err.old err.new line
+
+-- what came of a manifest, behind such a run
+abbrev pub GoesBy : Mapping → Hashes → List ℕ → Progress → Loading → Seen (List NamedFile) → Seen (List ℕ) → Result (Unit {0}) Ending → Type 0
+GoesBy mapping hashes name p loading folder err (Ok done) = Went mapping hashes name p loading folder err
+GoesBy mapping hashes name p loading folder err (Err ending) = Unbrought name folder err ending ⊎ LineCut mapping hashes name p folder err ending
+
+-- the same, in every run that has what the code had loaded
+abbrev pub Goes : Hashes → List ℕ → Loading → Loading → Seen (List NamedFile) → Seen (List ℕ) → Result (Unit {0}) Ending → Type 0
+Goes hashes name loading loading' folder err result =
+    (mapping : Mapping) (p : Progress) → IsLoaded mapping hashes loading p → GoesBy mapping hashes name p loading' folder err result
+
+-- the folder is as it was, and no count of faults fell
+pub record Leaves (folder : Seen (List NamedFile)) (err : Seen (List ℕ)) : Type 0 where
+  pub kept : folder.new ≡ folder.old
+  pub folder_later : folder.before ≤ folder.now
+  pub err_later : err.before ≤ err.now
 
 -- ---- the manifests
 
--- the first k manifests were taken, and their lines written
-pub record SoFar (mapping : Mapping) (hashes : Hashes) (files : List NamedFile) (names : List (List ℕ)) (k : ℕ) (said says : Option (List ℕ)) : Type 0 where
-  pub progress : Progress
-  pub steps_are : steps mapping hashes files start (take k names) ≡ Ok progress
-  pub said_is : says ≡ after said progress.lines
+-- nothing is loaded yet
+abbrev pub IsBegun : Hashes → Loading → Type 0
+IsBegun hashes loading = IsLoaded loading.office.vault.mapping hashes loading start
 
--- and that is what the code has
-abbrev pub LoadsFirst : Mapping → Hashes → List NamedFile → List (List ℕ) → ℕ → Loading → Option (List ℕ) → Option (List ℕ) → Type 0
-LoadsFirst mapping hashes files names k loading said says =
-    (so_far : SoFar mapping hashes files names k said says) × IsLoaded mapping hashes loading so_far.progress
-
--- all manifests were taken, and their lines written
-pub record LoadsAll (mapping : Mapping) (hashes : Hashes) (files : List NamedFile) (names : List (List ℕ)) (loading : Loading) (said says : Option (List ℕ)) : Type 0 where
+-- the manifests were taken, and their lines written
+pub record Loaded (mapping : Mapping) (hashes : Hashes) (names : List (List ℕ)) (loading : Loading) (folder : Seen (List NamedFile)) (err : Seen (List ℕ)) : Type 0 where
   pub progress : Progress
-  pub steps_are : steps mapping hashes files start names ≡ Ok progress
-  pub said_is : says ≡ after said progress.lines
+  pub steps_are : Told folder.old (λ files. steps mapping hashes files start names ≡ Ok progress)
+  pub said_is : err.new ≡ after err.old progress.lines
   pub loaded_is : IsLoaded mapping hashes loading progress
 
--- why not all manifests were taken, where these lines were written
-abbrev pub LoadEnds : Mapping → Hashes → List NamedFile → List (List ℕ) → ℕ → List ℕ → Ending → Type 0
-LoadEnds mapping hashes files names k lines (endings.Absent file) = steps mapping hashes files start names ≡ Err (lines ++ absent_line file)
-LoadEnds mapping hashes files names k lines (endings.Unread file) = IsReadNext files names k file
-LoadEnds mapping hashes files names k lines endings.Memory = Unit {0}
-LoadEnds mapping hashes files names k lines ending = ⊥
+-- why the manifest behind the first k was not taken, where these are the lines of those
+abbrev pub NextEnds : Mapping → Hashes → List NamedFile → List (List ℕ) → ℕ → List ℕ → Ending → Type 0
+NextEnds mapping hashes files names k lines (endings.Absent file) = steps mapping hashes files start names ≡ Err (lines ++ absent_line file)
+NextEnds mapping hashes files names k lines (endings.Unread file) = IsReadNext files names k file
+NextEnds mapping hashes files names k lines endings.Memory = Unit {0}
+NextEnds mapping hashes files names k lines ending = ⊥
 
-abbrev pub LoadStops : Mapping → Hashes → List NamedFile → List (List ℕ) → Option (List ℕ) → Option (List ℕ) → Stop → Type 0
-LoadStops mapping hashes files names said says (stops.Ended ending) =
-    (k : ℕ) × (so_far : SoFar mapping hashes files names k said says) × LoadEnds mapping hashes files names k so_far.progress.lines ending
-LoadStops mapping hashes files names said says stops.Unwritten =
-    (k : ℕ) × (next : Progress) × (steps mapping hashes files start (take k names) ≡ Ok next) × GotPrefix said says next.lines
+-- these are the lines of the first k manifests
+abbrev pub HasLines : Mapping → Hashes → List NamedFile → List (List ℕ) → ℕ → List ℕ → Type 0
+HasLines mapping hashes files names k lines = lines_of (steps mapping hashes files start (take k names)) ≡ Some lines
 
--- a text with the line of a window that was refused
-abbrev pub HasRefusal : List ℕ → Type 0
-HasRefusal text =
-    (front : List ℕ) × (name : List ℕ) × (rule : Rule) × (behind : List ℕ) × (text ≡ front ++ window_line name (refusal_text rule) ++ behind)
-
--- the lines of manifests were written; where a window was refused, one of them says so
-pub record WroteLines (refused : Bool) (said says : Option (List ℕ)) : Type 0 where
+-- not all manifests were taken, and the lines of those that were are written
+pub record Unloaded (mapping : Mapping) (hashes : Hashes) (names : List (List ℕ)) (folder : Seen (List NamedFile)) (err : Seen (List ℕ)) (ending : Ending) : Type 0 where
+  pub k : ℕ
   pub lines : List ℕ
-  pub said_is : says ≡ after said lines
-  pub refusal : refused ≡ true → HasRefusal lines
+  pub said_is : err.new ≡ after err.old lines
+  pub cause : IsBringEnd folder.before folder.now ending
+  pub lines_are : Told folder.old (λ files. HasLines mapping hashes files names k lines)
+  pub ends : Told folder.old (λ files. NextEnds mapping hashes files names k lines ending)
 
--- lines were written
-abbrev pub HasLines : Option (List ℕ) → Option (List ℕ) → Type 0
-HasLines said says = (lines : List ℕ) × (says ≡ after said lines)
+-- only a front of the lines was written
+pub record LinesCut (mapping : Mapping) (hashes : Hashes) (names : List (List ℕ)) (folder : Seen (List NamedFile)) (err : Seen (List ℕ)) (ending : Ending) : Type 0 where
+  pub unwritten : ending ≡ endings.Unwritten
+  pub rose : Rose err.before err.now
+  pub k : ℕ
+  pub lines : List ℕ
+  pub lines_are : Told folder.old (λ files. HasLines mapping hashes files names k lines)
+  pub got : GotPrefix err.old err.new lines
 
--- ---- the whole command
+-- what came of the manifests
+abbrev pub Loads : Hashes → List (List ℕ) → Loading → Loading → Seen (List NamedFile) → Seen (List ℕ) → Result (Unit {0}) Ending → Type 0
+Loads hashes names loading loading' folder err (Ok done) = Loaded loading.office.vault.mapping hashes names loading' folder err
+Loads hashes names loading loading' folder err (Err ending) =
+    Unloaded loading.office.vault.mapping hashes names folder err ending ⊎ LinesCut loading.office.vault.mapping hashes names folder err ending
+
+-- ---- before the manifests
+
+-- the word for the mart, by the mapping
+abbrev pub WhatEnds : Mapping → List ℕ → Ending → Type 0
+WhatEnds mapping word ending = QueryEnds (λ rule. (rule ≡ UnknownMart word) × (what_of mapping word ≡ None)) ending
 
 -- what is asked of a mapping is in order, and the manifests are to be taken
-pub record Begins (t : Trial) (mapping : Mapping) (what : What) (date : ℕ) : Type 0 where
-  pub tried_is : tried_of t ≡ at_end mapping t.hashes what date (steps mapping t.hashes t.files start t.names)
-  pub lines_are : (k : ℕ) → lines_before t k ≡ lines_of (steps mapping t.hashes t.files start (take k t.names))
+pub record Begins (t : Trial) (readied : Readied) : Type 0 where
+  pub tried_is : tried_of t ≡ at_end readied.loading.office.vault.mapping t.hashes readied.what readied.date (steps readied.loading.office.vault.mapping t.hashes t.files start t.names)
+  pub lines_are : (k : ℕ) → lines_before t k ≡ lines_of (steps readied.loading.office.vault.mapping t.hashes t.files start (take k t.names))
 
--- what standard error has, and what the last line makes of it
-pub record HasEnd (t : Trial) (before now : ℕ) (said says : Option (List ℕ)) (ending : Ending) : Type 0 where
-  pub lines : List ℕ
-  pub said_is : says ≡ after said lines
+-- how the command ends behind these lines
+pub record EndsBehind (t : Trial) (before now : ℕ) (lines : List ℕ) (ending : Ending) : Type 0 where
   pub ended : IsEnded t before now (status_of ending) (lines ++ line_of_ending ending)
   pub memory : IsMemory t (lines ++ memory_line)
 
--- why `try` stops, by what standard output and standard error have then
-abbrev pub TryStops : Trial → ℕ → ℕ → Heard → Stop → Type 0
-TryStops t before now heard (stops.Ended ending) = (heard.out ≡ heard.out_old) × HasEnd t before now heard.err_old heard.err ending
-TryStops t before now heard stops.Unwritten = CutShort (tried_of t) heard (IsCutLines t before now)
+-- what the folder gives the command before the manifests
+abbrev pub ReadsTrial : DigestFunction → Wanted → Seen (List NamedFile) → Result Readied Ending → Type 0
+ReadsTrial function w folder result =
+    Reads (λ files readied. Begins (trial_of function w files) readied)
+    (λ files ending. EndsBehind (trial_of function w files) folder.before folder.now [] ending)
+    IsReadCause folder result
+
+-- the mapping offers what is asked for, and nothing is loaded yet
+pub record IsReadied (hashes : Hashes) (readied : Readied) : Type 0 where
+  pub offered : IsOffered readied.loading.office.vault.mapping readied.what
+  pub begun : IsBegun hashes readied.loading
+
+-- ---- the whole command
+
+-- all was written
+pub record AllSaid (function : DigestFunction) (w : Wanted) (s : Sight) (refused : Bool) : Type 0 where
+  pub gives : Told s.folder.old (λ files. Gives (tried_of (trial_of function w files)) s.out s.err (status_for refused))
+  pub refusal : refused ≡ true → Wrote s.err.old s.err.new HasRefusal
+
+-- it ends before the text, and the lines of the manifests that were taken are written
+pub record EndsEarly (function : DigestFunction) (w : Wanted) (s : Sight) (ending : Ending) : Type 0 where
+  pub out : s.out.new ≡ s.out.old
+  pub lines : List ℕ
+  pub said_is : s.err.new ≡ after s.err.old lines
+  pub cause : IsReadCause s.folder.before s.folder.now ending
+  pub ends : Told s.folder.old (λ files. EndsBehind (trial_of function w files) s.folder.before s.folder.now lines ending)
+
+-- a line or the text was cut short
+pub record TextCut (function : DigestFunction) (w : Wanted) (s : Sight) (ending : Ending) : Type 0 where
+  pub unwritten : ending ≡ endings.Unwritten
+  pub rose : Rose s.out.before s.out.now ⊎ Rose s.err.before s.err.now
+  pub cut : Told s.folder.old (λ files. CutShort (tried_of (trial_of function w files)) s (IsCutLines (trial_of function w files) s.folder.before s.folder.now))
+
+-- what came of all but the last line and the status
+abbrev pub TriesAll : DigestFunction → Wanted → Sight → Result Bool Ending → Type 0
+TriesAll function w s (Ok refused) = AllSaid function w s refused
+TriesAll function w s (Err ending) = EndsEarly function w s ending ⊎ TextCut function w s ending

@@ -1,6 +1,7 @@
 use dv_text::Text;
 
-/// What `try` is asked for: a mart or a table, at a date, over the windows of manifests, of which there is one at least.
+/// What `try` is asked for: a mart or a table, at a date, over the windows of manifests, of which
+/// there is one at least.
 #[derive(Clone, Copy)]
 pub struct Asked<'a> {
     pub what: &'a Text,

@@ -1,4 +1,4 @@
 use Rattle.dv_try.proofs.takings.load_arrived.Goals as goal
 
-pub returns-in-Brought-clause-takes : goal.returns-in-Brought-clause-takes
-returns-in-Brought-clause-takes g c = λ mapping p loaded. rw c.in-Brought.is (c.load_window.ensures.takes mapping p loaded)
+pub returns-in-Brought : goal.returns-in-Brought
+returns-in-Brought g c = rw c.in-Brought.is c.load_window.ensures

@@ -1,0 +1,6 @@
+pub mod EndSteps
+pub mod ExtractSteps
+pub mod MappingSteps
+pub mod ReadSteps
+pub mod Vocabulary
+pub mod WholeSteps

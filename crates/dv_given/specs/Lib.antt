@@ -1,0 +1,10 @@
+pub mod Causes
+pub mod Endings
+pub mod FolderReads
+pub mod Given
+pub mod Lines
+pub mod Readings
+pub mod Says
+pub mod Takings
+pub mod Tried
+pub mod Worlds

@@ -1,5 +1,0 @@
-use Rattle.dv_try.proofs.Vocabulary.{inr}
-use Rattle.dv_try.proofs.endings.end_with_line.Goals as goal
-
-pub returns-in-Err-clause-says : goal.returns-in-Err-clause-says
-returns-in-Err-clause-says g c = inr c.end-in-Err.ensures.says
