@@ -1,20 +1,16 @@
 -- What a command may change of the keeper's store: by what it says, whether or not the store stands for a state.
 use Rattle.std.specs.Fmt.{decimal}
 use Rattle.std.specs.Prelude.{◌≡◌, ◌⊎◌, ◌++◌, ℕ, codes}
+use Rattle.dv_outside.specs.Seen.{Seen}
 use Rattle.dv_outside.specs.declared.statuses.Status.{Status}
 use Rattle.dv_outside.specs.declared.statuses.Status.TheVariants as statuses
 use Rattle.dv_records.specs.declared.stores.Store.{Store}
-use Rattle.dv_try.specs.Lines.{memory_line}
-use Rattle.dv_try.specs.Tried.{Tried, ended, window_line}
-use Rattle.dv_app.specs.Lines.{keeper_line, resumed_line, snapshot_line, stored_line}
-use Rattle.dv_outside.specs.Seen.{Seen}
+use Rattle.dv_given.specs.Tried.{Tried, ended, window_line}
+use Rattle.dv_app.specs.Kept.{IsBroken}
+use Rattle.dv_app.specs.Lines.{resumed_line, snapshot_line, stored_line}
 use Rattle.dv_app.specs.Words.{Command, Init, KeptCommand, Load, Mart, OnKeeper, Resume, Snapshot, Stored, Table, Windows}
 
 -- ---- by what is said
-
--- the keeper failed, or memory ran out
-abbrev pub IsBroken : Tried → Type 0
-IsBroken said = (said ≡ ended statuses.KeeperFault keeper_line) ⊎ (said ≡ ended statuses.Memory memory_line)
 
 -- what a command says that may have changed the store: that the mapping is stored, a window loaded or completed, or a
 -- snapshot stored; or that it broke off. A text changes nothing

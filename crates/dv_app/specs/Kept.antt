@@ -1,17 +1,15 @@
--- What each command on the vault that is kept says, and what it leaves of the keeper's store.
+-- What each command on the vault that is kept says, by what the keeper's store has and the state that it stands for.
+use Rattle.std.specs.Fmt.{decimal}
 use Rattle.std.specs.List.{list_any}
-use Rattle.std.specs.Prelude.{◌≡◌, ◌⊎◌, ℕ, ◌==◌, List, [], Option, Some, None, Result, Ok, Err, if◌then◌else◌, option_map, option_to_list, slice_get}
-use Rattle.dv_text.specs.declared.rows.Window.{Window}
+use Rattle.std.specs.Prelude.{◌≡◌, ◌⊎◌, ◌++◌, ℕ, ◌==◌, List, [], Option, Some, None, Result, Ok, Err, codes, if◌then◌else◌, option_map, option_to_list, slice_get}
 use Rattle.dv_text.specs.Causes.{Rose}
-use Rattle.dv_text.specs.Keys.{Hashes}
+use Rattle.dv_text.specs.Keys.{DigestFunction, Hashes, hashes_of}
 use Rattle.dv_text.specs.Stamps.{stamp_of}
 use Rattle.dv_text.specs.Told.{Told}
 use Rattle.dv_catalog.specs.declared.map_error.MapError.{MapError}
 use Rattle.dv_catalog.specs.declared.tables.TableId.{TableId}
-use Rattle.dv_catalog.specs.declared.windows.WindowIn.{WindowIn}
 use Rattle.dv_catalog.specs.Entries.{Mapping}
 use Rattle.dv_catalog.specs.MappingFiles.{read_mapping}
-use Rattle.dv_catalog.specs.Windows.{window_of}
 use Rattle.dv_mart.specs.declared.query_rules.QueryRule.{QueryRule}
 use Rattle.dv_mart.specs.declared.query_rules.QueryRule.TheVariants.{UnknownMart, BadDate, TooLarge, Future, NoSnapshot, UnknownTable, SnapshotsFull, NothingOpen}
 use Rattle.dv_mart.specs.declared.whats.What.{What}
@@ -24,107 +22,96 @@ use Rattle.dv_outside.specs.declared.statuses.Status.TheVariants as statuses
 use Rattle.dv_records.specs.declared.answers.Damage.{Damage}
 use Rattle.dv_records.specs.declared.answers.InitAnswer.{InitAnswer}
 use Rattle.dv_records.specs.declared.answers.InitAnswer.TheVariants as init
-use Rattle.dv_records.specs.declared.answers.Outcome.{Outcome}
-use Rattle.dv_records.specs.declared.answers.Outcome.TheVariants as outcomes
+use Rattle.dv_records.specs.declared.answers.LoadAnswer.{LoadAnswer}
+use Rattle.dv_records.specs.declared.answers.LoadAnswer.TheVariants as load
+use Rattle.dv_records.specs.declared.answers.ResumeAnswer.{ResumeAnswer}
+use Rattle.dv_records.specs.declared.answers.ResumeAnswer.TheVariants as resume
 use Rattle.dv_records.specs.declared.answers.SnapAnswer.{SnapAnswer}
 use Rattle.dv_records.specs.declared.answers.SnapAnswer.TheVariants as snap
 use Rattle.dv_records.specs.declared.snapshots.SnapId.{SnapId}
 use Rattle.dv_records.specs.declared.snapshots.SnapId.TheVariants as ids
 use Rattle.dv_records.specs.declared.stores.Store.{Store}
-use Rattle.dv_records.specs.Loads.{loaded}
-use Rattle.dv_records.specs.Outcomes.{outcome}
-use Rattle.dv_records.specs.Snapshots.{snapshot}
 use Rattle.dv_records.specs.Standing.{IsMappedBy, Stands}
 use Rattle.dv_records.specs.States.{State, head_of}
-use Rattle.dv_records.specs.Steps.{InitStep, LoadBroke, ResumeBroke, sealed_with, snapshot_refusal, with_date}
+use Rattle.dv_records.specs.Steps.{InitStep, LoadStep, ResumeStep, SnapStep}
 use Rattle.dv_records.specs.Stores.{rows_in}
 use Rattle.dv_records.specs.Vault.{vault}
 use Rattle.dv_snapshots.specs.StoredTexts.{table_text as snap_text}
 use Rattle.dv_start.specs.Damages.{IsFirstDamage, IsInForm, IsNotRead, mapping_damage}
-use Rattle.dv_try.specs.Given.{absent_line, query_line, read_fault_line, refused_mapping_line}
-use Rattle.dv_try.specs.Lines.{mapping_file, memory_line}
-use Rattle.dv_try.specs.Says.{IsReadFor}
-use Rattle.dv_try.specs.Tried.{Absent, Arrival, Broken, Brought, Tried, arrival, ended, is_refused, mapping_bytes, outcome_text, refusal_text, status_for, window_line}
-use Rattle.dv_app.specs.Lines.{damaged_line, differs_line, keeper_line, kept_line, none_line, repeated_line, resumed_line, snapshot_line, stored_line}
-use Rattle.dv_outside.specs.Seen.{Seen}
+use Rattle.dv_given.specs.Given.{absent_line, query_line, read_fault_line, refused_mapping_line}
+use Rattle.dv_given.specs.Lines.{damaged_line, differs_line, keeper_line, mapping_file, memory_line, none_line}
+use Rattle.dv_given.specs.Says.{IsReadFor}
+use Rattle.dv_given.specs.Tried.{Absent, Arrival, Broken, Brought, Tried, arrival, ended, mapping_bytes, refusal_text, window_line}
+use Rattle.dv_app.specs.Lines.{kept_line, repeated_line, resumed_line, snapshot_line, stored_line}
+use Rattle.dv_app.specs.Places.{Places}
 use Rattle.dv_app.specs.Words.{KeptCommand, StoredTable, Init, Load, Resume, Mart, Table, Windows, Snapshot, Stored, Pit, Bridge}
 
--- ---- the answers, in a state of the warehouse
+-- ---- what is said of an answer
 
--- what a command says, and the state that it leaves, where that is another one
-pub record Answer : Type 0 where
-  pub says : Tried
-  pub next : Option State
+-- memory ran out
+abbrev pub memory_said : Tried
+memory_said = ended statuses.Memory memory_line
 
--- the command leaves the state
-abbrev pub leaves : Tried → Answer
-leaves says = record { says = says; next = None }
+-- the keeper failed
+abbrev pub keeper_said : Tried
+keeper_said = ended statuses.KeeperFault keeper_line
 
--- the state after a window, where that is another one
-abbrev pub next_after : Mapping → WindowIn → State → Outcome → Option State
-next_after mapping given state outcomes.Load = Some (sealed_with (window_of mapping given) state)
-next_after mapping given state outcomes.Repeated = None
-next_after mapping given state (outcomes.Refused rule) = None
+-- the store is damaged
+abbrev pub damaged_said : Damage → Tried
+damaged_said damage = ended statuses.Damaged (damaged_line damage)
 
-abbrev pub load_with : Mapping → Hashes → List ℕ → WindowIn → State → Outcome → Answer
-load_with mapping hashes name given state o = record {
-  says = ended (status_for (is_refused o)) (window_line name (outcome_text mapping hashes state given o));
-  next = next_after mapping given state o;
-}
+-- a rule of queries is broken
+abbrev pub refused_said : QueryRule → Tried
+refused_said rule = ended statuses.Refused (query_line rule)
 
--- the load of what a manifest brings: a step of the machine, with its line
-abbrev pub load_answer : Mapping → Hashes → List ℕ → State → Arrival → Answer
-load_answer mapping hashes name state (Absent file) = leaves (ended statuses.ReadFault (absent_line file))
-load_answer mapping hashes name state (Broken rule) = leaves (ended statuses.Refused (window_line name (refusal_text rule)))
-load_answer mapping hashes name state (Brought given) = load_with mapping hashes name given state (outcome mapping hashes state given)
+-- of the storing of the mapping
+abbrev pub init_said : InitAnswer → Tried
+init_said init.Stored = ended statuses.Done stored_line
+init_said init.Kept = ended statuses.Done kept_line
+init_said init.Differs = ended statuses.Mapping differs_line
+init_said init.KeeperFault = keeper_said
+init_said init.Memory = memory_said
 
-abbrev pub resume_with : Mapping → Hashes → State → Option Window → Answer
-resume_with mapping hashes state None = leaves (ended statuses.Refused (query_line NothingOpen))
-resume_with mapping hashes state (Some window) = record {
-  says = ended statuses.Done (resumed_line (loaded mapping hashes state.sealed window));
-  next = Some (sealed_with window state);
-}
+-- of the load of a manifest's window
+abbrev pub load_said : List ℕ → LoadAnswer → Tried
+load_said name (load.Loaded rows) = ended statuses.Done (window_line name (codes ": Loaded " ++ decimal rows))
+load_said name load.Repeated = ended statuses.Done (window_line name (codes ": Repeated"))
+load_said name (load.Refused rule) = ended statuses.Refused (window_line name (refusal_text rule))
+load_said name (load.Damaged damage) = damaged_said damage
+load_said name load.KeeperFault = keeper_said
+load_said name load.Memory = memory_said
 
--- the completion of the open window
-abbrev pub resume_answer : Mapping → Hashes → State → Answer
-resume_answer mapping hashes state = resume_with mapping hashes state state.begun
+-- of the completion of the open window
+abbrev pub resume_said : ResumeAnswer → Tried
+resume_said (resume.Loaded rows) = ended statuses.Done (resumed_line rows)
+resume_said resume.NothingOpen = refused_said NothingOpen
+resume_said (resume.Damaged damage) = damaged_said damage
+resume_said resume.KeeperFault = keeper_said
+resume_said resume.Memory = memory_said
 
--- what is said of the answer to a snapshot
+-- of the storing of a snapshot
 abbrev pub snapshot_said : Mapping → SnapAnswer → Tried
 snapshot_said mapping (snap.Stored rows) = ended statuses.Done (snapshot_line rows)
 snapshot_said mapping snap.Repeated = ended statuses.Done repeated_line
-snapshot_said mapping (snap.Future last) = ended statuses.Refused (query_line (Future last))
-snapshot_said mapping (snap.TooLarge path) = ended statuses.Refused (query_line (TooLarge (name_of_path (slice_get mapping.paths path))))
-snapshot_said mapping (snap.Full weight) = ended statuses.Refused (query_line (SnapshotsFull weight))
-snapshot_said mapping snap.KeeperFault = ended statuses.KeeperFault keeper_line
-snapshot_said mapping snap.Memory = ended statuses.Memory memory_line
+snapshot_said mapping (snap.Future last) = refused_said (Future last)
+snapshot_said mapping (snap.TooLarge path) = refused_said (TooLarge (name_of_path (slice_get mapping.paths path)))
+snapshot_said mapping (snap.Full weight) = refused_said (SnapshotsFull weight)
+snapshot_said mapping snap.KeeperFault = keeper_said
+snapshot_said mapping snap.Memory = memory_said
 
-abbrev pub snapshot_by : Mapping → Hashes → State → ℕ → Option SnapAnswer → Answer
-snapshot_by mapping hashes state at None = record {
-  says = snapshot_said mapping (snap.Stored (snapshot mapping hashes state.sealed at).head.rows);
-  next = Some (with_date at state);
-}
-snapshot_by mapping hashes state at (Some refusal) = leaves (snapshot_said mapping refusal)
-
-abbrev pub snapshot_at : Mapping → Hashes → State → List ℕ → Option ℕ → Answer
-snapshot_at mapping hashes state date None = leaves (ended statuses.Refused (query_line (BadDate date)))
-snapshot_at mapping hashes state date (Some at) = snapshot_by mapping hashes state at (snapshot_refusal mapping hashes state at)
-
--- the snapshot of the sealed windows at a date: a step of the machine, with its line
-abbrev pub snapshot_answer : Mapping → Hashes → List ℕ → State → Answer
-snapshot_answer mapping hashes date state = snapshot_at mapping hashes state date (stamp_of date)
+-- ---- the texts, in a state of the warehouse
 
 -- a text, or the rule that a query breaks
 abbrev pub text_or : Result (List ℕ) QueryRule → Tried
 text_or (Ok text) = record { out = text; err = []; status = statuses.Done }
-text_or (Err rule) = ended statuses.Refused (query_line rule)
+text_or (Err rule) = refused_said rule
 
 abbrev pub mart_at : Mapping → Hashes → State → What → List ℕ → Option ℕ → Tried
-mart_at mapping hashes state what date None = ended statuses.Refused (query_line (BadDate date))
+mart_at mapping hashes state what date None = refused_said (BadDate date)
 mart_at mapping hashes state what date (Some at) = text_or (mart_text mapping hashes state.sealed (vault mapping hashes state.sealed) what at)
 
 abbrev pub mart_for : Mapping → Hashes → State → List ℕ → List ℕ → Option What → Tried
-mart_for mapping hashes state word date None = ended statuses.Refused (query_line (UnknownMart word))
+mart_for mapping hashes state word date None = refused_said (UnknownMart word)
 mart_for mapping hashes state word date (Some what) = mart_at mapping hashes state what date (stamp_of date)
 
 -- the text of a mart over the sealed windows
@@ -149,11 +136,11 @@ stored_text mapping hashes state id at =
     if list_any (λ other. other == at) state.dates then Ok (snap_text mapping hashes state.sealed id at) else Err (NoSnapshot at)
 
 abbrev pub stored_at : Mapping → Hashes → State → SnapId → List ℕ → Option ℕ → Tried
-stored_at mapping hashes state id date None = ended statuses.Refused (query_line (BadDate date))
+stored_at mapping hashes state id date None = refused_said (BadDate date)
 stored_at mapping hashes state id date (Some at) = text_or (stored_text mapping hashes state id at)
 
 abbrev pub stored_for : Mapping → Hashes → State → StoredTable → List ℕ → Option SnapId → Tried
-stored_for mapping hashes state table date None = ended statuses.Refused (query_line (UnknownMart (name_of_stored table)))
+stored_for mapping hashes state table date None = refused_said (UnknownMart (name_of_stored table))
 stored_for mapping hashes state table date (Some id) = stored_at mapping hashes state id date (stamp_of date)
 
 -- the text of a stored table: the point-in-time table of the hub, or the bridge of the path, with a name
@@ -163,7 +150,7 @@ stored_says mapping hashes state table date = stored_for mapping hashes state ta
 -- ---- the texts of what a store has
 
 abbrev pub table_for : Mapping → Store → List ℕ → Option TableId → Tried
-table_for mapping store name None = ended statuses.Refused (query_line (UnknownTable name))
+table_for mapping store name None = refused_said (UnknownTable name)
 table_for mapping store name (Some table) = text_or (Ok (table_text mapping table (rows_in table store.tables)))
 
 -- the text of a raw table with all its rows
@@ -174,107 +161,28 @@ table_says mapping store name = table_for mapping store name (table_named mappin
 abbrev pub windows_say : Mapping → Store → Tried
 windows_say mapping store = text_or (Ok (windows_text mapping store.windows (option_to_list (option_map head_of store.stage))))
 
--- ---- what is left
+-- ---- faults, and what is left
+
+-- the keeper failed, or memory ran out
+abbrev pub IsBroken : Tried → Type 0
+IsBroken said = (said ≡ keeper_said) ⊎ (said ≡ memory_said)
+
+-- one of these files could not be read, and the folder's count of faults rose
+abbrev pub IsUnread : Places → (List ℕ → Type 0) → Tried → Type 0
+IsUnread at IsRead said =
+    (file : List ℕ) × IsRead file × Rose at.folder.before at.folder.now × (said ≡ ended statuses.ReadFault (read_fault_line file))
+
+-- the keeper's store is as it was
+abbrev pub Stays : Places → Type 0
+Stays at = at.keeper.new ≡ at.keeper.old
+
+-- no damage is named
+abbrev pub IsUndamaged : Tried → Type 0
+IsUndamaged said = said.status ≡ statuses.Damaged → ⊥
 
 -- a store, where it is told, stands for a state
 abbrev pub StandsAt : Mapping → Hashes → State → Option Store → Type 0
-StandsAt mapping hashes state store = Told store (Stands mapping hashes state)
-
--- the store is as it was, or stands for the next state
-abbrev pub IsLeft : Mapping → Hashes → Option State → Option Store → Option Store → Type 0
-IsLeft mapping hashes None before after = after ≡ before
-IsLeft mapping hashes (Some state) before after = StandsAt mapping hashes state after
-
--- the command says what the answer says, and leaves what it leaves
-abbrev pub Answers : Mapping → Hashes → Answer → Option Store → Option Store → Tried → Type 0
-Answers mapping hashes answer before after said = (said ≡ answer.says) × IsLeft mapping hashes answer.next before after
-
--- a load that broke off: what a manifest brings that is no window changes nothing
-abbrev pub LoadBreaks : Mapping → Hashes → State → Arrival → State → Type 0
-LoadBreaks mapping hashes state (Brought given) state' = LoadBroke mapping hashes state given state'
-LoadBreaks mapping hashes state arrival state' = state' ≡ state
-
--- a snapshot that broke off: the state is as before, or the snapshot was to be stored, and is
-abbrev pub SnapshotBroke : Mapping → Hashes → List ℕ → State → State → Type 0
-SnapshotBroke mapping hashes date state state' =
-    (state' ≡ state) ⊎ ((at : ℕ) × (stamp_of date ≡ Some at) × (snapshot_refusal mapping hashes state at ≡ None) × (state' ≡ with_date at state))
-
--- a command that broke off left the store standing for a state that it may leave
-abbrev pub BreaksTo : Mapping → Hashes → (State → Type 0) → Option Store → Type 0
-BreaksTo mapping hashes MayLeave after = (state' : State) × MayLeave state' × StandsAt mapping hashes state' after
-
--- ---- what may end every command
-
--- the faults of the outside in this call: the folder's count rose, and the keeper's did
-pub record Rises : Type 1 where
-  pub folder : Type 0
-  pub keeper : Type 0
-
--- by the counts of both, and where no file is read
-abbrev pub risen : Seen (List NamedFile) → Seen Store → Rises
-risen folder keeper = record { folder = Rose folder.before folder.now; keeper = Rose keeper.before keeper.now }
-
-abbrev pub unread : Seen Store → Rises
-unread keeper = record { folder = ⊥; keeper = Rose keeper.before keeper.now }
-
--- a file could not be read, the keeper failed, or memory ran out; IsRead says which files are read, and Left and Broke what is left of the store
-abbrev pub EndsAtFault : Rises → (List ℕ → Type 0) → Type 0 → Type 0 → Tried → Type 0
-EndsAtFault rises IsRead Left Broke said =
-    ((file : List ℕ) × IsRead file × rises.folder × (said ≡ ended statuses.ReadFault (read_fault_line file)) × Left)
-    ⊎ (((said ≡ ended statuses.KeeperFault keeper_line) × rises.keeper × Broke) ⊎ ((said ≡ ended statuses.Memory memory_line) × Broke))
-
--- no file is read
-abbrev pub ReadsNone : List ℕ → Type 0
-ReadsNone file = ⊥
-
--- ---- the commands, in a state
-
--- this is what a manifest brings, by the folder's files where it tells them
-abbrev pub IsBrought : Option (List NamedFile) → List ℕ → Arrival → Type 0
-IsBrought told name came = Told told (λ files. came ≡ arrival files name)
-
--- this file is read for it, by the folder's files where it tells them
-abbrev pub IsReadOf : Option (List NamedFile) → List ℕ → List ℕ → Type 0
-IsReadOf told name file = Told told (λ files. IsReadFor files name file)
-
--- the load of what the manifest of a name brought
-abbrev pub LoadSays : Rises → Mapping → Hashes → Option (List NamedFile) → List ℕ → Arrival → State → Option Store → Option Store → Tried → Type 0
-LoadSays rises mapping hashes told name came state before after said =
-    Answers mapping hashes (load_answer mapping hashes name state came) before after said
-    ⊎ EndsAtFault rises (IsReadOf told name) (after ≡ before) (BreaksTo mapping hashes (LoadBreaks mapping hashes state came) after) said
-
-abbrev pub ResumeSays : Rises → Mapping → Hashes → State → Option Store → Option Store → Tried → Type 0
-ResumeSays rises mapping hashes state before after said =
-    Answers mapping hashes (resume_answer mapping hashes state) before after said
-    ⊎ EndsAtFault rises ReadsNone (after ≡ before) (BreaksTo mapping hashes (ResumeBroke state) after) said
-
-abbrev pub SnapshotSays : Rises → Mapping → Hashes → List ℕ → State → Option Store → Option Store → Tried → Type 0
-SnapshotSays rises mapping hashes date state before after said =
-    Answers mapping hashes (snapshot_answer mapping hashes date state) before after said
-    ⊎ EndsAtFault rises ReadsNone (after ≡ before) (BreaksTo mapping hashes (SnapshotBroke mapping hashes date state) after) said
-
--- a command that writes a text, and leaves the store whatever comes
-abbrev pub TextSays : Rises → Tried → Option Store → Option Store → Tried → Type 0
-TextSays rises text before after said = ((said ≡ text) ⊎ EndsAtFault rises ReadsNone (Unit {0}) (Unit {0}) said) × (after ≡ before)
-
--- ---- the opening of what is kept
-
--- the store has no mapping, or is damaged, and is left
-abbrev pub IsShut : Hashes → ℕ → Store → Tried → Type 0
-IsShut hashes width store said =
-    ((store.mapping ≡ None) × (said ≡ ended statuses.Mapping none_line))
-    ⊎ ((damage : Damage) × IsFirstDamage hashes width store damage × (said ≡ ended statuses.Damaged (damaged_line damage)))
-
--- a mapping is stored, and the store breaks no rule of form
-pub record IsOpenedBy (hashes : Hashes) (width : ℕ) (store : Store) (mapping : Mapping) : Type 0 where
-  pub mapped : IsMappedBy mapping store.mapping
-  pub in_form : IsInForm hashes width mapping store
-
--- a command on what is kept: the store is shut, it could not be read whole, or by the mapping the command says what Says says
-abbrev pub OpensOr : Rises → Hashes → ℕ → Store → Option Store → (Mapping → Tried → Type 0) → Tried → Type 0
-OpensOr rises hashes width store after Says said =
-    ((IsShut hashes width store said ⊎ EndsAtFault rises ReadsNone (Unit {0}) (Unit {0}) said) × (after ≡ Some store))
-    ⊎ ((mapping : Mapping) × IsOpenedBy hashes width store mapping × Says mapping said)
+StandsAt mapping hashes state told = Told told (Stands mapping hashes state)
 
 -- the keeper's store stands for a state of some mapping
 pub record IsStanding (hashes : Hashes) (told : Option Store) : Type 0 where
@@ -284,72 +192,116 @@ pub record IsStanding (hashes : Hashes) (told : Option Store) : Type 0 where
   pub told_is : told ≡ Some store
   pub stands : Stands mapping hashes state store
 
--- ---- the storing of the mapping
+-- ---- the commands, in a state
 
-abbrev pub init_says : InitAnswer → Tried
-init_says init.Stored = ended statuses.Done stored_line
-init_says init.Kept = ended statuses.Done kept_line
-init_says init.Differs = ended statuses.Mapping differs_line
-init_says init.KeeperFault = ended statuses.KeeperFault keeper_line
-init_says init.Memory = ended statuses.Memory memory_line
+-- a step of the machine: its answer is said, or that memory ran out; no damage is named; and the store stands for the state behind it
+pub record Steps {A : Type 0} (Step : A → State → Type 0) (said_of : A → Tried) (mapping : Mapping) (hashes : Hashes) (told : Option Store) (said : Tried) : Type 0 where
+  pub answer : A
+  pub state' : State
+  pub step : Step answer state'
+  pub says : (said ≡ said_of answer) ⊎ (said ≡ memory_said)
+  pub sound : IsUndamaged said
+  pub stands : StandsAt mapping hashes state' told
 
--- an answer of the keeper's fault comes only where its count rose
-abbrev pub IsInitCause : Rises → InitAnswer → Type 0
-IsInitCause rises init.KeeperFault = rises.keeper
-IsInitCause rises answer = Unit {0}
+-- the load of what a manifest brought: one that breaks a rule before the load is refused by it
+abbrev pub ArrivalStep : Mapping → Hashes → State → Arrival → LoadAnswer → State → Type 0
+ArrivalStep mapping hashes state (Absent file) answer state' = ⊥
+ArrivalStep mapping hashes state (Broken rule) answer state' = (answer ≡ load.Refused rule) × (state' ≡ state)
+ArrivalStep mapping hashes state (Brought given) answer state' = LoadStep mapping hashes state given answer state'
 
--- a step with its line
-pub record InitSteps (rises : Rises) (file : List ℕ) (store : Store) (after : Option Store) (said : Tried) : Type 0 where
-  pub answer : InitAnswer
-  pub cause : IsInitCause rises answer
-  pub store' : Store
-  pub step : InitStep file store answer store'
-  pub after_is : after ≡ Some store'
-  pub says : said ≡ init_says answer
+-- a file of the manifest is absent, or it is loaded
+abbrev pub LoadSays : Mapping → Hashes → List ℕ → Arrival → State → Option Store → Tried → Type 0
+LoadSays mapping hashes name came state told said =
+    ((file : List ℕ) × (came ≡ Absent file) × (said ≡ ended statuses.ReadFault (absent_line file)))
+    ⊎ Steps (ArrivalStep mapping hashes state came) (load_said name) mapping hashes told said
 
--- the file is read as a mapping: it is stored, or compared with the stored one; a stored text that is not read as a mapping is damage
-abbrev pub InitFor : Rises → List ℕ → Store → Option Store → Tried → Type 0
-InitFor rises file store after said =
-    InitSteps rises file store after said
-    ⊎ (IsNotRead store mapping_damage × (said ≡ ended statuses.Damaged (damaged_line mapping_damage)) × (after ≡ Some store))
-
-abbrev pub InitBy : Rises → List ℕ → Store → Option Store → Tried → Result Mapping MapError → Type 0
-InitBy rises file store after said (Ok mapping) = InitFor rises file store after said
-InitBy rises file store after said (Err e) = (said ≡ ended statuses.Mapping (refused_mapping_line e)) × (after ≡ Some store)
-
-abbrev pub InitWith : Rises → Store → Option Store → Tried → Option (List ℕ) → Type 0
-InitWith rises store after said None = (said ≡ ended statuses.ReadFault (absent_line mapping_file)) × (after ≡ Some store)
-InitWith rises store after said (Some file) = InitBy rises file store after said (read_mapping file)
-
-abbrev pub InitSays : Rises → List NamedFile → Store → Option Store → Tried → Type 0
-InitSays rises files store after said =
-    InitWith rises store after said (mapping_bytes files)
-    ⊎ (EndsAtFault rises (λ file. file ≡ mapping_file) (Unit {0}) (Unit {0}) said × (after ≡ Some store))
-
--- ---- all of them
+-- the snapshot at a date, where it is one
+abbrev pub SnapshotSays : Mapping → Hashes → List ℕ → Option ℕ → State → Option Store → Tried → Type 0
+SnapshotSays mapping hashes date None state told said = said ≡ refused_said (BadDate date)
+SnapshotSays mapping hashes date (Some at) state told said =
+    Steps (SnapStep mapping hashes state at) (snapshot_said mapping) mapping hashes told said
 
 -- in each state that the store stands for
 abbrev pub InEach : Mapping → Hashes → Store → (State → Type 0) → Type 0
 InEach mapping hashes store P = (state : State) → Stands mapping hashes state store → P state
 
+-- ---- what a manifest brings
+
+-- this is what it brings, by the folder's files where it tells them
+abbrev pub IsBrought : Option (List NamedFile) → List ℕ → Arrival → Type 0
+IsBrought told name came = Told told (λ files. came ≡ arrival files name)
+
+-- this file is read for it, by the folder's files where it tells them
+abbrev pub IsReadOf : Option (List NamedFile) → List ℕ → List ℕ → Type 0
+IsReadOf told name file = Told told (λ files. IsReadFor files name file)
+
+-- ---- the storing of the mapping
+
+-- a step with its line, or that memory ran out
+pub record InitSteps (file : List ℕ) (store : Store) (told : Option Store) (said : Tried) : Type 0 where
+  pub answer : InitAnswer
+  pub store' : Store
+  pub step : InitStep file store answer store'
+  pub told_is : told ≡ Some store'
+  pub says : (said ≡ init_said answer) ⊎ (said ≡ memory_said)
+
+-- the file is read as a mapping: it is stored, or compared with the stored one; a stored text that is not read as a mapping is damage
+abbrev pub InitFor : List ℕ → Store → Option Store → Tried → Type 0
+InitFor file store told said = InitSteps file store told said ⊎ (IsNotRead store mapping_damage × (said ≡ damaged_said mapping_damage))
+
+abbrev pub InitBy : List ℕ → Store → Option Store → Result Mapping MapError → Tried → Type 0
+InitBy file store told (Ok mapping) said = InitFor file store told said
+InitBy file store told (Err e) said = said ≡ ended statuses.Mapping (refused_mapping_line e)
+
+abbrev pub InitWith : Store → Option Store → Option (List ℕ) → Tried → Type 0
+InitWith store told None said = said ≡ ended statuses.ReadFault (absent_line mapping_file)
+InitWith store told (Some file) said = InitBy file store told (read_mapping file) said
+
+-- the file that the folder has is stored; or it could not be read, or the keeper failed or memory ran out before
+abbrev pub InitSays : Places → List NamedFile → Store → Tried → Type 0
+InitSays at files store said =
+    InitWith store at.keeper.new (mapping_bytes files) said ⊎ (IsUnread at (λ file. file ≡ mapping_file) said ⊎ (IsBroken said × Stays at))
+
+-- ---- the opening of what is kept
+
+-- the store has no mapping, or is damaged
+abbrev pub IsShut : DigestFunction → Store → Tried → Type 0
+IsShut function store said =
+    ((store.mapping ≡ None) × (said ≡ ended statuses.Mapping none_line))
+    ⊎ ((damage : Damage) × IsFirstDamage (hashes_of function) function.width store damage × (said ≡ damaged_said damage))
+
+-- a mapping is stored, and the store breaks no rule of form
+pub record IsOpenedBy (function : DigestFunction) (store : Store) (mapping : Mapping) : Type 0 where
+  pub mapped : IsMappedBy mapping store.mapping
+  pub in_form : IsInForm (hashes_of function) function.width mapping store
+
 -- by the stored mapping: in each state of the store, or by what the store has. A load is that of what the manifest brings;
 -- where the folder tells nothing, of something that a manifest may bring
-abbrev pub OpenedSays : Rises → Hashes → Option (List NamedFile) → KeptCommand → Store → Option Store → Mapping → Tried → Type 0
-OpenedSays rises hashes told Init store after mapping said = ⊥
-OpenedSays rises hashes told (Load name) store after mapping said =
-    (came : Arrival) × IsBrought told name came
-    × InEach mapping hashes store (λ state. LoadSays rises mapping hashes told name came state (Some store) after said)
-OpenedSays rises hashes told Resume store after mapping said = InEach mapping hashes store (λ state. ResumeSays rises mapping hashes state (Some store) after said)
-OpenedSays rises hashes told (Mart what date) store after mapping said =
-    InEach mapping hashes store (λ state. TextSays rises (mart_says mapping hashes state what date) (Some store) after said)
-OpenedSays rises hashes told (Table name) store after mapping said = TextSays rises (table_says mapping store name) (Some store) after said
-OpenedSays rises hashes told Windows store after mapping said = TextSays rises (windows_say mapping store) (Some store) after said
-OpenedSays rises hashes told (Snapshot date) store after mapping said =
-    InEach mapping hashes store (λ state. SnapshotSays rises mapping hashes date state (Some store) after said)
-OpenedSays rises hashes told (Stored table date) store after mapping said =
-    InEach mapping hashes store (λ state. TextSays rises (stored_says mapping hashes state table date) (Some store) after said)
+abbrev pub OpenedSays : Places → Hashes → KeptCommand → Store → Mapping → Tried → Type 0
+OpenedSays at hashes Init store mapping said = ⊥
+OpenedSays at hashes (Load name) store mapping said =
+    IsUnread at (IsReadOf at.folder.old name) said
+    ⊎ ((came : Arrival) × IsBrought at.folder.old name came
+    × InEach mapping hashes store (λ state. LoadSays mapping hashes name came state at.keeper.new said))
+OpenedSays at hashes Resume store mapping said =
+    InEach mapping hashes store (λ state. Steps (ResumeStep mapping hashes state) resume_said mapping hashes at.keeper.new said)
+OpenedSays at hashes (Mart what date) store mapping said = InEach mapping hashes store (λ state. said ≡ mart_says mapping hashes state what date)
+OpenedSays at hashes (Table name) store mapping said = said ≡ table_says mapping store name
+OpenedSays at hashes Windows store mapping said = said ≡ windows_say mapping store
+OpenedSays at hashes (Snapshot date) store mapping said =
+    InEach mapping hashes store (λ state. SnapshotSays mapping hashes date (stamp_of date) state at.keeper.new said)
+OpenedSays at hashes (Stored table date) store mapping said = InEach mapping hashes store (λ state. said ≡ stored_says mapping hashes state table date)
 
--- what a command says over a keeper's store, and what the keeper tells behind it; the folder's files are those that it tells
-abbrev pub KeptSays : Rises → Hashes → ℕ → Option (List NamedFile) → KeptCommand → Store → Option Store → Tried → Type 0
-KeptSays rises hashes width told Init store after said = Told told (λ files. InitSays rises files store after said)
-KeptSays rises hashes width told command store after said = OpensOr rises hashes width store after (OpenedSays rises hashes told command store after) said
+-- the store is shut; the keeper failed or memory ran out, and the store is as it was; or it is opened
+abbrev pub OpensOr : Places → DigestFunction → KeptCommand → Store → Tried → Type 0
+OpensOr at function command store said =
+    IsShut function store said
+    ⊎ ((IsBroken said × Stays at)
+    ⊎ ((mapping : Mapping) × IsOpenedBy function store mapping × OpenedSays at (hashes_of function) command store mapping said))
+
+-- ---- all of them
+
+-- what a command says over a keeper's store; the folder's files are those that it tells
+abbrev pub KeptSays : Places → DigestFunction → KeptCommand → Store → Tried → Type 0
+KeptSays at function Init store said = Told at.folder.old (λ files. InitSays at files store said)
+KeptSays at function command store said = OpensOr at function command store said

@@ -1,13 +1,14 @@
 pub mod Changes
 pub mod Damaged
+pub mod Inits
 pub mod Kept
-pub mod Keyed
+pub mod Lent
 pub mod Lines
 pub mod Openings
+pub mod Places
 pub mod Queries
 pub mod Replies
 pub mod Run
-pub mod Stops
 pub mod Takings
 pub mod Words
 pub mod Works

@@ -1,50 +1,52 @@
 -- What `run` says and does, by the words.
 use Rattle.std.specs.Global.{Global}
-use Rattle.std.specs.Prelude.{◌≡◌, ◌⊎◌, ℕ, List, Option, String}
+use Rattle.std.specs.Prelude.{◌≡◌, ◌⊎◌, ◌≤◌, ℕ, List, String}
 use Rattle.dv_text.specs.Causes.{Rose}
-use Rattle.dv_text.specs.Told.{Told}
+use Rattle.dv_text.specs.Keys.{DigestFunction, hashes_of}
 use Rattle.dv_outside.specs.Bytes.{after}
-use Rattle.dv_outside.specs.Ends.{Ends}
-use Rattle.dv_outside.specs.declared.folders.NamedFile.{NamedFile}
+use Rattle.dv_outside.specs.Seen.{NoFault}
+use Rattle.dv_outside.specs.Worlds.{World}
 use Rattle.dv_outside.specs.declared.statuses.Status.{Status}
 use Rattle.dv_outside.specs.declared.statuses.Status.TheVariants as statuses
 use Rattle.dv_records.specs.declared.answers.Damage.{Damage}
 use Rattle.dv_records.specs.declared.stores.Store.{Store}
-use Rattle.dv_try.specs.Causes.{HasLast, IsRefusedText, Wrote}
-use Rattle.dv_try.specs.Lines.{memory_line}
-use Rattle.dv_try.specs.Says.{Gives, TrySays, Trial, tried_of}
-use Rattle.dv_try.specs.Tried.{Tried}
-use Rattle.dv_app.specs.Changes.{Leaves}
-use Rattle.dv_app.specs.Damaged.{HasDamage, MayBe}
-use Rattle.dv_app.specs.Kept.{KeptSays, Rises, risen}
-use Rattle.dv_app.specs.Lines.{damaged_line, keeper_line, usage_line}
-use Rattle.dv_app.specs.Replies.{EndsAs, IsDamagedText, IsMappingText, IsUnreadText, heard}
-use Rattle.dv_app.specs.Keyed.{Keyed}
-use Rattle.dv_outside.specs.Seen.{NoFault, Seen}
+use Rattle.dv_given.specs.Causes.{HasLast, IsRefusedText, IsUnreadText, Wrote}
+use Rattle.dv_given.specs.Lines.{damaged_line, keeper_line, memory_line, usage_line}
+use Rattle.dv_given.specs.Says.{Gives}
+use Rattle.dv_given.specs.Tried.{Tried, ended}
+use Rattle.dv_given.specs.Worlds.{sight_of}
+use Rattle.dv_try.specs.Says.{TryCompletes, TrySays}
+use Rattle.dv_app.specs.Changes.{Leaves, LeavesStore}
+use Rattle.dv_app.specs.Damaged.{Finds}
+use Rattle.dv_app.specs.Kept.{IsStanding, memory_said}
+use Rattle.dv_app.specs.Places.{places_of}
+use Rattle.dv_app.specs.Replies.{EndsAs, IsDamagedText, IsMappingText}
 use Rattle.dv_app.specs.Words.{Command, NoCommand, OnKeeper, Tries, asked_of}
+use Rattle.dv_app.specs.Works.{Does}
 
 -- ---- what is said and done
 
--- what is asked of `try`, of a folder's files
-abbrev pub trial : Keyed → List ℕ → List ℕ → List (List ℕ) → List NamedFile → Trial
-trial k what date names files = record { hashes = k.hashes; files = files; what = what; date = date; names = names }
+-- this is written, or a front of it
+abbrev pub Ends : Tried → World Store → Status → Type 0
+Ends said w result = EndsAs said w.out w.err result
 
-abbrev pub CommandSays : Command → Keyed → Seen (List NamedFile) → Seen Store → Seen (List ℕ) → Seen (List ℕ) → Status → Type 0
-CommandSays NoCommand k folder keeper out err result =
-    (out.new ≡ out.old) × Ends statuses.Usage usage_line err.old err.new err.before err.now result
-CommandSays (Tries what date names) k folder keeper out err result =
-    Told folder.old (λ files. TrySays (trial k what date names files) folder.before folder.now (heard out err) result)
-CommandSays (OnKeeper command) k folder keeper out err result =
-    (said : Tried) × EndsAs said out err result
-    × Told keeper.old (λ store. KeptSays (risen folder keeper) k.hashes k.width folder.old command store keeper.new said)
+-- the same, and standard output is left
+abbrev pub EndsAside : Tried → World Store → Status → Type 0
+EndsAside said w result = Ends said w result × (w.out.new ≡ w.out.old) × (w.out.now ≡ w.out.before)
 
--- memory ran out before the command began
-abbrev pub NeverBegan : Seen (List ℕ) → Seen (List ℕ) → Status → Type 0
-NeverBegan out err result = (out.new ≡ out.old) × Ends statuses.Memory memory_line err.old err.new err.before err.now result
+-- the words are no command
+abbrev pub usage_said : Tried
+usage_said = ended statuses.Usage usage_line
 
-abbrev pub RunSays : List (String Global) → Keyed → Seen (List NamedFile) → Seen Store → Seen (List ℕ) → Seen (List ℕ) → Status → Type 0
-RunSays words k folder keeper out err result =
-    CommandSays (asked_of words) k folder keeper out err result ⊎ (NeverBegan out err result × (keeper.new ≡ keeper.old))
+abbrev pub CommandSays : Command → DigestFunction → World Store → Status → Type 0
+CommandSays NoCommand function w result = EndsAside usage_said w result
+CommandSays (Tries asked) function w result = TrySays function asked (sight_of w) result
+CommandSays (OnKeeper command) function w result = (said : Tried) × Ends said w result × Does command function (places_of w) said
+
+-- what the words ask for; or memory ran out before it began
+abbrev pub RunSays : List (String Global) → DigestFunction → World Store → Status → Type 0
+RunSays words function w result =
+    CommandSays (asked_of words) function w result ⊎ (EndsAside memory_said w result × (w.keeper.new ≡ w.keeper.old))
 
 -- ---- what is left alone
 
@@ -54,18 +56,17 @@ IsApart (OnKeeper _) = ⊥
 IsApart _ = Unit {0}
 
 -- the keeper's store is changed only where the command says so
-abbrev pub ChangesAsSaid : Command → Seen Store → Seen (List ℕ) → Seen (List ℕ) → Status → Type 0
-ChangesAsSaid (OnKeeper command) keeper out err result = (said : Tried) × EndsAs said out err result × Leaves command keeper said
-ChangesAsSaid _ keeper out err result = keeper.new ≡ keeper.old
+abbrev pub ChangesAsSaid : Command → World Store → Status → Type 0
+ChangesAsSaid (OnKeeper command) w result = (said : Tried) × Ends said w result × Leaves command w.keeper said
+ChangesAsSaid _ w result = w.keeper.new ≡ w.keeper.old
 
 -- ---- damage
 
 -- the last line names a damage that the store has, where it is told, and else one that it may have
-abbrev pub DamageIsNamed : Command → Keyed → Option Store → Seen (List ℕ) → Type 0
-DamageIsNamed (OnKeeper command) k told err =
-    (damage : Damage) × (err.new ≡ after err.old (damaged_line damage))
-    × Told told (λ store. HasDamage command k.hashes k.width store damage) × MayBe command damage
-DamageIsNamed _ k told err = ⊥
+abbrev pub DamageIsNamed : Command → DigestFunction → World Store → Type 0
+DamageIsNamed (OnKeeper command) function w =
+    (damage : Damage) × (w.err.new ≡ after w.err.old (damaged_line damage)) × Finds command function w.keeper.old damage
+DamageIsNamed _ function w = ⊥
 
 -- ---- causes
 
@@ -74,44 +75,63 @@ abbrev pub IsOnKeeper : Command → Type 0
 IsOnKeeper (OnKeeper _) = Unit {0}
 IsOnKeeper _ = ⊥
 
--- what a status tells, whatever the folder, the keeper and the sinks tell of their contents
-abbrev pub IsCause : Command → Rises → Seen (List ℕ) → Seen (List ℕ) → Status → Type 0
-IsCause asked rises out err statuses.Done = Unit {0}
-IsCause asked rises out err statuses.Refused = Wrote err.old err.new IsRefusedText
-IsCause asked rises out err statuses.Usage = asked ≡ NoCommand
-IsCause asked rises out err statuses.Mapping = Wrote err.old err.new IsMappingText
-IsCause asked rises out err statuses.ReadFault = Wrote err.old err.new (IsUnreadText rises.folder)
-IsCause asked rises out err statuses.KeeperFault = IsOnKeeper asked × Wrote err.old err.new (HasLast keeper_line) × rises.keeper
-IsCause asked rises out err statuses.WriteFault = Rose out.before out.now ⊎ Rose err.before err.now
-IsCause asked rises out err statuses.Memory = Wrote err.old err.new (HasLast memory_line)
-IsCause asked rises out err statuses.Damaged = IsOnKeeper asked × Wrote err.old err.new IsDamagedText
+-- what was written to standard error
+abbrev pub Says : World Store → (List ℕ → Type 0) → Type 0
+Says w IsText = Wrote w.err.old w.err.new IsText
 
-abbrev pub IsRunCause : List (String Global) → Seen (List NamedFile) → Seen Store → Seen (List ℕ) → Seen (List ℕ) → Status → Type 0
-IsRunCause words folder keeper out err result = IsCause (asked_of words) (risen folder keeper) out err result
+-- what a status tells, whatever the folder, the keeper and the sinks tell of their contents
+abbrev pub IsCause : Command → World Store → Status → Type 0
+IsCause asked w statuses.Done = Unit {0}
+IsCause asked w statuses.Refused = Says w IsRefusedText
+IsCause asked w statuses.Usage = asked ≡ NoCommand
+IsCause asked w statuses.Mapping = Says w IsMappingText
+IsCause asked w statuses.ReadFault = Says w (IsUnreadText (Rose w.folder.before w.folder.now))
+IsCause asked w statuses.KeeperFault = IsOnKeeper asked × Says w (HasLast keeper_line) × Rose w.keeper.before w.keeper.now
+IsCause asked w statuses.WriteFault = Rose w.out.before w.out.now ⊎ Rose w.err.before w.err.now
+IsCause asked w statuses.Memory = Says w (HasLast memory_line)
+IsCause asked w statuses.Damaged = IsOnKeeper asked × Says w IsDamagedText
+
+abbrev pub IsRunCause : List (String Global) → World Store → Status → Type 0
+IsRunCause words w result = IsCause (asked_of words) w result
 
 -- ---- completeness
 
 -- no object failed, and memory did not run out
-pub record HadAll (folder : Seen (List NamedFile)) (keeper : Seen Store) (out err : Seen (List ℕ)) (result : Status) : Type 0 where
-  pub read : NoFault folder.before folder.now
-  pub kept : NoFault keeper.before keeper.now
-  pub text : NoFault out.before out.now
-  pub lines : NoFault err.before err.now
+pub record HadAll (w : World Store) (result : Status) : Type 0 where
+  pub read : NoFault w.folder.before w.folder.now
+  pub kept : NoFault w.keeper.before w.keeper.now
+  pub text : NoFault w.out.before w.out.now
+  pub lines : NoFault w.err.before w.err.now
   pub memory : result ≡ statuses.Memory → ⊥
 
--- no count rose
-abbrev pub none_risen : Rises
-none_risen = record { folder = ⊥; keeper = ⊥ }
-
-abbrev pub CommandCompletes : Command → Keyed → Seen (List NamedFile) → Seen Store → Seen (List ℕ) → Seen (List ℕ) → Status → Type 0
-CommandCompletes NoCommand k folder keeper out err result = result ≡ statuses.Usage
-CommandCompletes (Tries what date names) k folder keeper out err result =
-    Told folder.old (λ files. Gives (tried_of (trial k what date names files)) (heard out err) result)
-CommandCompletes (OnKeeper command) k folder keeper out err result =
-    (said : Tried) × Gives said (heard out err) result
-    × Told keeper.old (λ store. KeptSays none_risen k.hashes k.width folder.old command store keeper.new said)
+-- all that is to be said is written. That a file could not be read, or that the keeper failed, is said only where a count rose
+abbrev pub CommandCompletes : Command → DigestFunction → World Store → Status → Type 0
+CommandCompletes NoCommand function w result = result ≡ statuses.Usage
+CommandCompletes (Tries asked) function w result = TryCompletes function asked (sight_of w) result
+CommandCompletes (OnKeeper command) function w result = (said : Tried) × Gives said w.out w.err result × Does command function (places_of w) said
 
 -- with no fault and memory enough, a command does all that the definitions say
-abbrev pub RunCompletes : List (String Global) → Keyed → Seen (List NamedFile) → Seen Store → Seen (List ℕ) → Seen (List ℕ) → Status → Type 0
-RunCompletes words k folder keeper out err result =
-    HadAll folder keeper out err result → CommandCompletes (asked_of words) k folder keeper out err result
+abbrev pub RunCompletes : List (String Global) → DigestFunction → World Store → Status → Type 0
+RunCompletes words function w result = HadAll w result → CommandCompletes (asked_of words) function w result
+
+-- ---- counts
+
+-- no count of faults fell
+pub record NoneFell (w : World Store) : Type 0 where
+  pub folder : w.folder.before ≤ w.folder.now
+  pub keeper : w.keeper.before ≤ w.keeper.now
+  pub out : w.out.before ≤ w.out.now
+  pub err : w.err.before ≤ w.err.now
+
+-- ---- all of it
+
+pub record Ran (words : List (String Global)) (function : DigestFunction) (w : World Store) (result : Status) : Type 0 where
+  pub says : RunSays words function w result
+  pub complete : RunCompletes words function w result
+  pub causes : IsRunCause words w result
+  pub leaves : LeavesStore (asked_of words) result → w.keeper.new ≡ w.keeper.old
+  pub changes : ChangesAsSaid (asked_of words) w result
+  pub damaged : result ≡ statuses.Damaged → DamageIsNamed (asked_of words) function w
+  pub sound : result ≡ statuses.Damaged → IsStanding (hashes_of function) w.keeper.old → ⊥
+  pub kept : w.folder.new ≡ w.folder.old
+  pub later : NoneFell w

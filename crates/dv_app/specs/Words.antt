@@ -3,6 +3,7 @@ use Rattle.std.specs.Global.{Global}
 use Rattle.std.specs.List.{list_any}
 use Rattle.std.specs.Prelude.{ℕ, ◌==◌, ◌+◌, Bool, false, List, [], ◌∷◌, ◌++◌, Option, Some, None, String, codes, drop, map, position, string_bytes, take, if◌then◌else◌}
 use Rattle.std.specs.Str.{bytes_eq}
+use Rattle.dv_try.specs.Says.{Wanted, wanted}
 use Rattle.dv_app.specs.declared.words.KeptCommand.{KeptCommand as Given}
 use Rattle.dv_app.specs.declared.words.KeptCommand.TheVariants as given
 use Rattle.dv_app.specs.declared.words.StoredTable.{StoredTable as GivenTable}
@@ -39,7 +40,7 @@ pub data KeptCommand : Type 0 where
 
 pub data Command : Type 0 where
   -- the mart of a word, at a date, over the windows of manifests alone
-  Tries : (what date : List ℕ) → (manifests : List (List ℕ)) → Command
+  Tries : (asked : Wanted) → Command
   OnKeeper : (command : KeptCommand) → Command
   NoCommand : Command
 
@@ -83,7 +84,7 @@ with_two word what date =
     else (if bytes_eq word (codes "bridge") then OnKeeper (Stored (Bridge what) date) else NoCommand))
 
 abbrev pub with_more : List ℕ → List ℕ → List ℕ → List (List ℕ) → Command
-with_more word what date manifests = if bytes_eq word (codes "try") then Tries what date manifests else NoCommand
+with_more word what date manifests = if bytes_eq word (codes "try") then Tries (record { what = what; date = date; names = manifests }) else NoCommand
 
 -- what a first word and the words behind it ask for
 abbrev pub command : List ℕ → List (List ℕ) → Command
@@ -127,5 +128,5 @@ kept_of (given.Stored table date) = Stored (stored_of table) date.now
 
 abbrev pub command_of : Option Parsed → Command
 command_of None = NoCommand
-command_of (Some (parsed.Try a)) = Tries a.what.now a.date.now a.manifests.now
+command_of (Some (parsed.Try a)) = Tries (wanted a)
 command_of (Some (parsed.OnKeeper kept)) = OnKeeper (kept_of kept)

@@ -2,7 +2,6 @@
 #![tactic(auto)]
 
 mod inits;
-mod kept;
 mod lines;
 mod loads;
 mod openings;
@@ -10,10 +9,10 @@ mod queries;
 mod replies;
 mod resumes;
 mod snapshots;
-mod stops;
 mod stored_tables;
 mod top;
 mod words;
+mod works;
 
 pub use dv_digest::Md5Keys;
 pub use top::run;

@@ -1,19 +1,21 @@
 -- What the program does, by its words: it serves where the first one is `serve`, and else runs a command.
 use Rattle.std.specs.Global.{Global}
-use Rattle.std.specs.Prelude.{◌≡◌, ℕ, List, [], ◌∷◌, Option, Some, None, String, codes, map, string_bytes, if◌then◌else◌}
+use Rattle.std.specs.Prelude.{◌≡◌, ◌≤◌, ℕ, List, [], ◌∷◌, Option, Some, None, String, codes, map, string_bytes, if◌then◌else◌}
 use Rattle.std.specs.Str.{bytes_eq}
+use Rattle.dv_text.specs.Keys.{DigestFunction}
 use Rattle.dv_outside.specs.Ends.{Ends, EndsWith}
 use Rattle.dv_outside.specs.Lines.{Lines}
-use Rattle.dv_outside.specs.Seen.{NoFault, Seen}
-use Rattle.dv_outside.specs.declared.folders.NamedFile.{NamedFile}
+use Rattle.dv_outside.specs.Seen.{NoFault}
+use Rattle.dv_outside.specs.Worlds.{World}
+use Rattle.dv_outside.specs.declared.doors.Doors.{Ghosts as OfDoors}
+use Rattle.dv_outside.specs.declared.links.Link.{Ghosts as OfLink}
 use Rattle.dv_outside.specs.declared.statuses.Status.{Status}
 use Rattle.dv_outside.specs.declared.statuses.Status.TheVariants as statuses
 use Rattle.dv_records.specs.declared.stores.Store.{Store}
-use Rattle.dv_app.specs.Keyed.{Keyed}
-use Rattle.dv_app.specs.Lines.{usage_line}
+use Rattle.dv_given.specs.Lines.{usage_line}
 use Rattle.dv_app.specs.Run.{HadAll, IsApart, IsRunCause, RunCompletes, RunSays}
 use Rattle.dv_app.specs.Words.{asked_of as command_of}
-use Rattle.dv_desk.specs.Doors.{IsServeCause, IsServedOut, ServeSays, Tells}
+use Rattle.dv_desk.specs.Doors.{IsServeCause, IsServedOut, ServeSays, Tells, tells}
 use Rattle.dv_desk.specs.ServeWords.{serve_words}
 use Rattle.dv_desk.specs.declared.words.ServeWords.{ServeWords}
 use Rattle.dv_program.specs.declared.programs.Asked.{Asked as Given}
@@ -47,47 +49,58 @@ asked_as given.Runs = Runs
 asked_as (given.Serves words) = Serves words
 asked_as given.Misused = Misused
 
+-- where connections are to be served, a window is loaded by one worker at least, and by 64 at most
+abbrev pub HasWorkers : Asked → Type 0
+HasWorkers (Serves words) = (1 ≤ words.workers) × (words.workers ≤ 64)
+HasWorkers asked = Unit {0}
+
 -- ---- what is said and done
 
--- the doors, after them: the connections that they told before, those that they tell now, and the port that was named last
+-- the doors: what their connections tell, the connections before a call and after it, the port that was named last, and how
+-- often they had failed
 pub record Opened (L : Type 0) : Type 0 where
-  pub lines_old : Option (Lines L)
-  pub lines : Option (Lines L)
+  pub tells : Tells L
+  pub old : Option (Lines L)
+  pub new : Option (Lines L)
   pub port : Option ℕ
+  pub before : ℕ
+  pub now : ℕ
+
+abbrev pub told : {D L : Type 0} → OfDoors D L → OfLink L → D → D → Opened L
+told d l old new = record { tells = tells l; old = d.lines old; new = d.lines new; port = d.named new; before = d.faults old; now = d.faults new }
 
 -- a command is run, or the port is named and the connections that come are served
-abbrev pub AskedSays : {L : Type 0} → List (String Global) → Asked → Keyed → Tells L → Opened L → Seen (List NamedFile) → Seen Store → Seen (List ℕ) → Seen (List ℕ) → Status → Type 0
-AskedSays words Runs k tells doors folder keeper out err result = RunSays words k folder keeper out err result
-AskedSays words (Serves given) k tells doors folder keeper out err result =
-    (doors.port ≡ Some given.port) × ServeSays k.hashes k.width tells doors.lines_old doors.lines keeper err result
-AskedSays words Misused k tells doors folder keeper out err result = Ends statuses.Usage usage_line err.old err.new err.before err.now result
+abbrev pub AskedSays : {L : Type 0} → List (String Global) → Asked → DigestFunction → Opened L → World Store → Status → Type 0
+AskedSays words Runs function doors w result = RunSays words function w result
+AskedSays words (Serves given) function doors w result =
+    (doors.port ≡ Some given.port) × ServeSays function doors.tells doors.old doors.new w.keeper w.err result
+AskedSays words Misused function doors w result = Ends statuses.Usage usage_line w.err.old w.err.new w.err.before w.err.now result
 
-abbrev pub ProgramSays : {L : Type 0} → List (String Global) → Keyed → Tells L → Opened L → Seen (List NamedFile) → Seen Store → Seen (List ℕ) → Seen (List ℕ) → Status → Type 0
-ProgramSays words k tells doors folder keeper out err result = AskedSays words (asked_of words) k tells doors folder keeper out err result
+abbrev pub Says : {L : Type 0} → List (String Global) → DigestFunction → Opened L → World Store → Status → Type 0
+Says words function doors w result = AskedSays words (asked_of words) function doors w result
 
 -- ---- causes
 
--- what a status tells, whatever the objects tell of their contents; of the doors their count of faults before and now
-abbrev pub IsCause : List (String Global) → Asked → ℕ → ℕ → Seen (List NamedFile) → Seen Store → Seen (List ℕ) → Seen (List ℕ) → Status → Type 0
-IsCause words Runs before now folder keeper out err result = IsRunCause words folder keeper out err result
-IsCause words (Serves given) before now folder keeper out err result = IsServeCause before now keeper err result
-IsCause words Misused before now folder keeper out err result = EndsWith statuses.Usage err.before err.now result
+-- what a status tells, whatever the objects tell of their contents
+abbrev pub IsCauseFor : {L : Type 0} → List (String Global) → Asked → Opened L → World Store → Status → Type 0
+IsCauseFor words Runs doors w result = IsRunCause words w result
+IsCauseFor words (Serves given) doors w result = IsServeCause doors.before doors.now w.keeper w.err result
+IsCauseFor words Misused doors w result = EndsWith statuses.Usage w.err.before w.err.now result
 
-abbrev pub IsProgramCause : List (String Global) → ℕ → ℕ → Seen (List NamedFile) → Seen Store → Seen (List ℕ) → Seen (List ℕ) → Status → Type 0
-IsProgramCause words before now folder keeper out err result = IsCause words (asked_of words) before now folder keeper out err result
+abbrev pub IsCause : {L : Type 0} → List (String Global) → Opened L → World Store → Status → Type 0
+IsCause words doors w result = IsCauseFor words (asked_of words) doors w result
 
 -- ---- completeness
 
 -- with no fault and memory enough, a command does all that the definitions say, and serving ends where no connection is
 -- left or could not begin by what is stored
-abbrev pub Completes : List (String Global) → Asked → Keyed → ℕ → ℕ → Seen (List NamedFile) → Seen Store → Seen (List ℕ) → Seen (List ℕ) → Status → Type 0
-Completes words Runs k before now folder keeper out err result = RunCompletes words k folder keeper out err result
-Completes words (Serves given) k before now folder keeper out err result =
-    NoFault before now → HadAll folder keeper out err result → IsServedOut result
-Completes words Misused k before now folder keeper out err result = HadAll folder keeper out err result → result ≡ statuses.Usage
+abbrev pub AskedCompletes : {L : Type 0} → List (String Global) → Asked → DigestFunction → Opened L → World Store → Status → Type 0
+AskedCompletes words Runs function doors w result = RunCompletes words function w result
+AskedCompletes words (Serves given) function doors w result = NoFault doors.before doors.now → HadAll w result → IsServedOut result
+AskedCompletes words Misused function doors w result = HadAll w result → result ≡ statuses.Usage
 
-abbrev pub ProgramCompletes : List (String Global) → Keyed → ℕ → ℕ → Seen (List NamedFile) → Seen Store → Seen (List ℕ) → Seen (List ℕ) → Status → Type 0
-ProgramCompletes words k before now folder keeper out err result = Completes words (asked_of words) k before now folder keeper out err result
+abbrev pub Completes : {L : Type 0} → List (String Global) → DigestFunction → Opened L → World Store → Status → Type 0
+Completes words function doors w result = AskedCompletes words (asked_of words) function doors w result
 
 -- ---- what is left alone
 

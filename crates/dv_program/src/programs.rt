@@ -1,20 +1,18 @@
 ghost use Rattle.std.specs.Prelude.{◌≡◌, ◌≤◌};
-ghost use Rattle.dv_outside.specs.Seen.{seen};
 ghost use Rattle.dv_outside.specs.declared.statuses.Status.TheVariants as statuses;
 ghost use Rattle.dv_text.specs.Keys.{hashes_of};
+ghost use Rattle.dv_given.specs.Worlds.{world};
 ghost use Rattle.dv_app.specs.Kept.{IsStanding};
-ghost use Rattle.dv_app.specs.Keyed.{keyed};
 ghost use Rattle.dv_program.specs.Programs as spec;
-ghost use Rattle.dv_program.specs.Programs.{IsAside, IsProgramCause, OpensNothing, ProgramCompletes, ProgramSays, ReadsNothing};
+ghost use Rattle.dv_program.specs.Programs.{Completes, HasWorkers, IsAside, IsCause, OpensNothing, ReadsNothing, Says, told};
 
 use dv_app::run;
 use dv_desk::{ServeWords, serve, serve_words};
+use dv_given::USAGE;
 use dv_outside::{Doors, Folder, Gate, Sink, Status, end};
 use dv_records::Keeper;
 use dv_text::KeyDigest;
 use std::alloc::Global;
-
-const USAGE: &[u8] = b"vaultdesk: usage\n";
 
 // What the words ask for.
 #[derive(Clone, Copy)]
@@ -28,7 +26,8 @@ enum Asked {
 }
 
 fn asked_of(words: &[String]) -> Asked
-    ensures { spec.asked_as result ≡ spec.asked_of words.now }
+    ensures words { spec.asked_as result ≡ spec.asked_of words.now }
+    ensures workers { HasWorkers (spec.asked_as result) }
 {
     match words {
         [first, behind @ ..] if first.as_str() == "serve" => match serve_words(behind) {
@@ -54,23 +53,19 @@ pub fn program<F: Folder, D: Doors, K: Keeper, O: Sink, E: Sink, H: KeyDigest, G
     gate: &G,
 ) -> Status
     // What is written, what the doors and the keeper have then, and the status, by what the words ask for.
-    ensures says { ProgramSays words.now (keyed H.digest_of H.size) (record { left = D.Line.left; contents = D.Line.contents; faults = D.Line.faults })
-        (record { lines_old = D.lines doors.old; lines = D.lines doors.new; port = D.named doors.new })
-        (seen F.files F.faults folder.old folder.new) (seen K.store K.faults keeper.old keeper.new)
-        (seen O.contents O.faults out.old out.new) (seen E.contents E.faults err.old err.new) result }
+    ensures says { Says words.now H.function (told D.Doors D.Line.Link doors.old doors.new)
+        (world F.Folder K.Keeper O.Sink E.Sink (folder.old, keeper.old, out.old, err.old) (folder.new, keeper.new, out.new, err.new)) result }
 
     // With no fault and memory enough, it is what the definitions say.
-    ensures complete { ProgramCompletes words.now (keyed H.digest_of H.size) (D.faults doors.old) (D.faults doors.new)
-        (seen F.files F.faults folder.old folder.new) (seen K.store K.faults keeper.old keeper.new)
-        (seen O.contents O.faults out.old out.new) (seen E.contents E.faults err.old err.new) result }
+    ensures complete { Completes words.now H.function (told D.Doors D.Line.Link doors.old doors.new)
+        (world F.Folder K.Keeper O.Sink E.Sink (folder.old, keeper.old, out.old, err.old) (folder.new, keeper.new, out.new, err.new)) result }
 
     // Each status has its cause, whatever the objects tell of their contents.
-    ensures causes { IsProgramCause words.now (D.faults doors.old) (D.faults doors.new)
-        (seen F.files F.faults folder.old folder.new) (seen K.store K.faults keeper.old keeper.new)
-        (seen O.contents O.faults out.old out.new) (seen E.contents E.faults err.old err.new) result }
+    ensures causes { IsCause words.now (told D.Doors D.Line.Link doors.old doors.new)
+        (world F.Folder K.Keeper O.Sink E.Sink (folder.old, keeper.old, out.old, err.old) (folder.new, keeper.new, out.new, err.new)) result }
 
     // A store that stands for a state is never called damaged.
-    ensures sound { result ≡ statuses.Damaged → IsStanding (hashes_of H.digest_of H.size) (K.store keeper.old) → ⊥ }
+    ensures sound { result ≡ statuses.Damaged → IsStanding (hashes_of H.function) (K.store keeper.old) → ⊥ }
 
     // What keeps nothing leaves the keeper, what serves nothing the doors, and what is no command the folder and standard
     // output; the folder's files are as they were; no count falls.

@@ -1,4 +1,4 @@
-use Rattle.dv_try.proofs.Vocabulary.{ap, err_from_is_err_and, subst, sym, ◌∙◌}
+use Rattle.dv_given.proofs.Vocabulary.{ap, err_from_is_err_and, subst, sym, ◌∙◌, RawVault}
 use Rattle.std.specs.List.{Contains}
 use Rattle.std.specs.Prelude.{option_map}
 use Rattle.dv_catalog.specs.Tables.{tables}
@@ -6,22 +6,15 @@ use Rattle.dv_mart.specs.MartTexts.{HasKind, rows_behind}
 use Rattle.dv_texts.specs.TableTexts.{table_text}
 use Rattle.dv_mart.specs.Whats.{table_named}
 use Rattle.dv_records.specs.Stores.{rows_in}
-use Rattle.dv_vault.specs.Vaults.{RawVault}
 use Rattle.dv_app.specs.Queries.{TableEnds}
-use Rattle.dv_app.proofs.TextComes.{has_there, same_behind, table_memory, table_texted, table_unknown}
+use Rattle.dv_app.proofs.QuerySteps.{has_there, same_behind, table_answered, table_unknown}
 use Rattle.dv_app.proofs.queries.table_of.Goals as goal
 
 pub returns-in_err-table : goal.returns-in_err-table
 returns-in_err-table c =
     let p = err_from_is_err_and c.from_residual.result c.from_residual.ensures.1 in
-    rw (p.1, p.2) (λ k keeper is_open left folder.
-    table_unknown k c.args.office.now keeper is_open left folder c.args.name.now c.in_err-table.field-0.0
+    rw (p.1, p.2) (table_unknown c.args.office.now c.args.name.now c.in_err-table.field-0.0
     (subst (λ m. TableEnds m c.args.name.now c.in_err-table.field-0.0) c.catalog.ensures.value c.in_err-table.ensures.ends))
-
-pub returns-in_err-text : goal.returns-in_err-text
-returns-in_err-text c =
-    let p = err_from_is_err_and c.from_residual-in_err-text.result c.from_residual-in_err-text.ensures.1 in
-    rw (p.1, p.2) (λ k keeper is_open left folder. table_memory k c.args.office.now keeper is_open left folder c.args.name.now)
 
 pub whole_table_text-requires-clause-among : goal.whole_table_text-requires-clause-among
 whole_table_text-requires-clause-among c = subst (λ m. Contains (tables m) c.in_ok-table.table) (c.catalog.ensures.value ∙ ap (λ (v : RawVault). v.mapping) (sym c.vault.ensures)) c.in_ok-table.ensures.there
@@ -30,14 +23,13 @@ pub whole_table_text-requires-clause-kind : goal.whole_table_text-requires-claus
 whole_table_text-requires-clause-kind c = c.rows_begun.ensures.kind
 
 pub returns : goal.returns
-returns c = λ k keeper is_open left folder.
+returns c =
     let office = c.args.office.now in
     let table = c.in_ok-table.table in
     let more = option_map (λ rows. rows.now) c.rows_begun.result in
     let there : Contains (tables office.vault.mapping) table = subst (λ m. Contains (tables m) table) c.catalog.ensures.value c.in_ok-table.ensures.there in
-    table_texted k office keeper is_open left folder c.args.name.now table
-    (ap (λ m. table_named m c.args.name.now) (sym c.catalog.ensures.value) ∙ c.in_ok-table.ensures.ok)
-    (has_there table office.vault office.begun c.rows_begun.ensures.among there) c.in_ok-text.text
-    (c.in_ok-text.ensures (subst (λ (v : RawVault). HasKind v.tables table) (sym c.vault.ensures) c.rows_begun.ensures.held)
+    table_answered office c.args.name.now table (ap (λ m. table_named m c.args.name.now) (sym c.catalog.ensures.value) ∙ c.in_ok-table.ensures.ok)
+    (has_there table office.vault office.begun c.rows_begun.ensures.among there) _
+    (c.in_ok-whole_table_text.ensures (subst (λ (v : RawVault). HasKind v.tables table) (sym c.vault.ensures) c.rows_begun.ensures.held)
     ∙ ap (λ (v : RawVault). table_text v.mapping table (rows_behind (rows_in table v.tables) more)) c.vault.ensures
     ∙ ap (table_text office.vault.mapping table) (same_behind (rows_in table office.vault.tables) more ∙ sym c.rows_begun.ensures.rows))

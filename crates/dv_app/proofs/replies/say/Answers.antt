@@ -1,5 +1,5 @@
-use Rattle.dv_try.proofs.Vocabulary.{refl}
-use Rattle.dv_app.proofs.ReplySteps.{line_ends}
+use Rattle.dv_given.proofs.Vocabulary.{refl}
+use Rattle.dv_app.proofs.RunSteps.{line_ends}
 use Rattle.dv_app.proofs.replies.say.Goals as goal
 
 pub returns-in-Memory-clause-says : goal.returns-in-Memory-clause-says

@@ -1,4 +1,4 @@
-use Rattle.dv_try.proofs.Vocabulary.{map, take, ◌≡◌, string_bytes}
+use Rattle.dv_given.proofs.Vocabulary.{map, take, ◌≡◌, string_bytes}
 use Rattle.dv_app.proofs.words.texts.Given as goal
 
 abbrev pub invariant-loop-word : goal.invariant-loop-word
