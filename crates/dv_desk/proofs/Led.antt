@@ -1,29 +1,36 @@
 -- Serving leads from states to states.
-use Rattle.std.specs.Prelude.{◌≡◌, ℕ, List, [], ◌∷◌, Option, Some, IsSome}
+use Rattle.std.specs.Prelude.{◌≡◌, ◌≤◌, ℕ, List, [], ◌∷◌, Option, Some, IsSome, Result}
 use Rattle.std.proofs.Common.{refl, subst, sym, ◌∙◌}
-use Rattle.dv_text.specs.Keys.{Hashes}
+use Rattle.dv_text.specs.Keys.{DigestFunction, Hashes, hashes_of}
+use Rattle.dv_outside.specs.Lines.{Lines}
+use Rattle.dv_outside.specs.Seen.{Seen}
+use Rattle.dv_outside.specs.declared.folders.Failed.{Failed}
+use Rattle.dv_outside.specs.declared.statuses.Status.{Status}
 use Rattle.dv_records.specs.declared.stores.Store.{Store}
 use Rattle.dv_records.specs.Standing.{Stands}
 use Rattle.dv_records.specs.States.{State}
 use Rattle.dv_window.specs.Offices.{IsIn}
-use Rattle.dv_desk.specs.Doors.{ServesEach, Started, StandsThen, Tells}
-use Rattle.dv_desk.specs.Turns.{Exchange, HasWidth, Moment, Talks}
-use Rattle.dv_desk.proofs.Talked.{told_of}
+use Rattle.dv_serving.specs.Doors.{ServesDoors, ServesEach}
+use Rattle.dv_serving.specs.Exchanges.{Chain, Exchange}
+use Rattle.dv_desk.specs.Answers.{refusal}
+use Rattle.dv_desk.specs.Doors.{EndsAs, ServedDoors, Started, StandsThen, Tells}
+use Rattle.dv_desk.specs.Turns.{HasWidth, IsReplied, Moment}
+use Rattle.dv_desk.proofs.Talked.{leads_in_states, told_of}
 
 -- what stays from one moment to another
-pub record Keeps (width : ℕ) (before after : Moment) : Type 0 where
+pub record Keeps (function : DigestFunction) (before after : Moment) : Type 0 where
   pub mapping : after.held.vault.mapping ≡ before.held.vault.mapping
-  pub wide : HasWidth width before → HasWidth width after
+  pub wide : HasWidth function.width before → HasWidth function.width after
   pub told : IsSome before.store → IsSome after.store
 
-talks_keep : (hashes : Hashes) (width : ℕ) (exchanges : List Exchange) (before after : Moment) → Talks hashes width exchanges before after → Keeps width before after
-talks_keep hashes width [] before after same = subst (Keeps width before) (sym same) (record { mapping = refl; wide = λ w. w; told = λ t. t })
-talks_keep hashes width (exchange ∷ exchanges) before after (next, turn, talks) =
-    let others = talks_keep hashes width exchanges next after talks in
+chain_keeps : (function : DigestFunction) (exchanges : List Exchange) (before after : Moment) → Chain (IsReplied function) exchanges before after → Keeps function before after
+chain_keeps function [] before after same = subst (Keeps function before) (sym same) (record { mapping = refl; wide = λ w. w; told = λ t. t })
+chain_keeps function (exchange ∷ exchanges) before after (next, replied, chain) =
+    let others = chain_keeps function exchanges next after chain in
     record {
-      mapping = others.mapping ∙ turn.same_mapping;
-      wide = λ w. others.wide (turn.wide w);
-      told = λ t. others.told (turn.told t);
+      mapping = others.mapping ∙ replied.turn.same_mapping;
+      wide = λ w. others.wide (replied.turn.wide w);
+      told = λ t. others.told (replied.turn.told t);
     }
 
 -- a state that an office and its keeper stand for, by a mapping, where the store is told
@@ -33,51 +40,58 @@ pub record Reached (hashes : Hashes) (before after : Moment) : Type 0 where
   pub mapping : after.held.vault.mapping ≡ before.held.vault.mapping
   pub told : IsSome after.store
 
-each_leads : {L : Type 0} (hashes : Hashes) (width : ℕ) (tells : Tells L) (lines backs : List L) (before after : Moment) → ServesEach hashes width tells lines backs before after
-    → (state : State) → IsIn hashes state before.held before.store → HasWidth width before → IsSome before.store → Reached hashes before after
-each_leads hashes width tells [] [] before after same state is_in wide some = subst (Reached hashes before) (sym same) (record { state = state; is_in = is_in; mapping = refl; told = some })
-each_leads hashes width tells (line ∷ lines) (back ∷ backs) before after (next, how, line_served, each) state is_in wide some =
+each_leads : {L : Type 0} (function : DigestFunction) (tells : Tells L) (lines backs : List L) (before after : Moment) → ServesEach (IsReplied function) refusal tells lines backs before after
+    → (state : State) → IsIn (hashes_of function) state before.held before.store → HasWidth function.width before → IsSome before.store → Reached (hashes_of function) before after
+each_leads function tells [] [] before after same state is_in wide some =
+    subst (Reached (hashes_of function) before) (sym same) (record { state = state; is_in = is_in; mapping = refl; told = some })
+each_leads function tells (line ∷ lines) (back ∷ backs) before after (next, how, line_served, each) state is_in wide some =
     let serves = line_served.serves in
-    let talked = serves.in_states state is_in wide some in
-    let keeps = talks_keep hashes width serves.exchanges before next serves.talks in
-    let others = each_leads hashes width tells lines backs next after each talked.state' talked.left (keeps.wide wide) (keeps.told some) in
+    let talked = (leads_in_states function serves.exchanges before next serves.chain).in_states state is_in wide some in
+    let keeps = chain_keeps function serves.exchanges before next serves.chain in
+    let others = each_leads function tells lines backs next after each talked.state' talked.left (keeps.wide wide) (keeps.told some) in
     record { state = others.state; is_in = others.is_in; mapping = others.mapping ∙ keeps.mapping; told = others.told }
-each_leads hashes width tells [] (back ∷ backs) before after none state is_in wide some = absurd none
-each_leads hashes width tells (line ∷ lines) [] before after none state is_in wide some = absurd none
+each_leads function tells [] (back ∷ backs) before after none state is_in wide some = absurd none
+each_leads function tells (line ∷ lines) [] before after none state is_in wide some = absurd none
 
-module _ (hashes : Hashes) (width : ℕ) (store : Option Store) (began : Moment) (started : Started hashes width store began) (state : State) (s : Store) (told : store ≡ Some s)
-    (stands : Stands began.held.vault.mapping hashes state s) where
-  began_told : began.store ≡ Some s
-  began_told = started.store_is ∙ told
-
-  began_some : IsSome began.store
-  began_some = subst IsSome (sym began_told) refl
-
-  began_in : IsIn hashes state began.held began.store
-  began_in = record {
+module _ (function : DigestFunction) (store : Option Store) (began : Moment) (started : Started function store began) where
+  began_in : (state : State) (s : Store) → store ≡ Some s → Stands began.held.vault.mapping (hashes_of function) state s → IsIn (hashes_of function) state began.held began.store
+  began_in state s told stands = record {
     stands = λ fresh. started.stands state s told stands;
-    told = λ stale. told_of began.store began_some;
-    store_stands = λ s' is. subst (Stands began.held.vault.mapping hashes state) (same s' (sym began_told ∙ is)) stands;
+    told = λ stale. (s, began_told);
+    store_stands = λ s' is. subst (Stands began.held.vault.mapping (hashes_of function) state) (same s' (sym began_told ∙ is)) stands;
   }
     where
+      began_told : began.store ≡ Some s
+      began_told = started.store_is ∙ told
+
       same : (s' : Store) → Some s ≡ Some s' → s ≡ s'
       same s' e = cc
 
-  reached : (after : Moment) → Reached hashes began after → StandsThen began.held.vault.mapping hashes after.store
+  reached : (after : Moment) → Reached (hashes_of function) began after → StandsThen began.held.vault.mapping (hashes_of function) after.store
   reached after r = by (told_of after.store r.told)
     where
-      by : (s' : Store) × (after.store ≡ Some s') → StandsThen began.held.vault.mapping hashes after.store
-      by (s', is) = (r.state, s', is, subst (λ m. Stands m hashes r.state s') r.mapping (r.is_in.store_stands s' is))
+      by : (s' : Store) × (after.store ≡ Some s') → StandsThen began.held.vault.mapping (hashes_of function) after.store
+      by (s', is) = (r.state, s', is, subst (λ m. Stands m (hashes_of function) r.state s') r.mapping (r.is_in.store_stands s' is))
 
-  served : {L : Type 0} (tells : Tells L) (lines backs : List L) (after : Moment) (new : Option Store) → new ≡ after.store → ServesEach hashes width tells lines backs began after
-      → StandsThen began.held.vault.mapping hashes new
-  served tells lines backs after new is each =
-      subst (StandsThen began.held.vault.mapping hashes) (sym is)
-      (reached after (each_leads hashes width tells lines backs began after each state began_in (λ fresh. started.width_is) began_some))
+  -- the store stands for a state when all connections were served
+  pub served_leads : {L : Type 0} (tells : Tells L) (lines backs : List L) (after : Moment) → ServesEach (IsReplied function) refusal tells lines backs began after
+      → (state : State) (s : Store) → store ≡ Some s → Stands began.held.vault.mapping (hashes_of function) state s → StandsThen began.held.vault.mapping (hashes_of function) after.store
+  served_leads tells lines backs after each state s told stands =
+      reached after (each_leads function tells lines backs began after each state (began_in state s told stands) (λ fresh. started.width_is) (subst IsSome (sym (started.store_is ∙ told)) refl))
 
--- the store stands for a state when all connections were served
-pub served_leads : {L : Type 0} (hashes : Hashes) (width : ℕ) (store : Option Store) (began : Moment) → Started hashes width store began
-    → (tells : Tells L) (lines backs : List L) (after : Moment) (new : Option Store) → new ≡ after.store → ServesEach hashes width tells lines backs began after
-    → (state : State) (s : Store) → store ≡ Some s → Stands began.held.vault.mapping hashes state s → StandsThen began.held.vault.mapping hashes new
-served_leads hashes width store began started tells lines backs after new is each state s told stands =
-    served hashes width store began started state s told stands tells lines backs after new is each
+-- an office was started, and connections were served with it
+pub served_doors : {L : Type 0} (function : DigestFunction) (tells : Tells L) (old new : Option (Lines L)) (kept : Seen Store) (err : Seen (List ℕ)) (result : Status) (began after : Moment) (ended : Result (Unit {0}) Failed)
+    → Started function kept.old began → kept.new ≡ after.store → kept.before ≤ began.faults → kept.now ≡ after.faults → ServesDoors (IsReplied function) refusal tells old new began after ended → EndsAs ended err result
+    → ServedDoors function tells old new kept err result
+served_doors function tells old new kept err result began after ended started is less now_is serves ends = record {
+  began = began;
+  after = after;
+  started = started;
+  store = is;
+  faults = (less, now_is);
+  ended = ended;
+  serves = serves;
+  in_states = leads_in_states function;
+  leads = λ state s told stands. subst (StandsThen began.held.vault.mapping (hashes_of function)) (sym is) (served_leads function kept.old began started tells serves.lines serves.backs after serves.each state s told stands);
+  ends = ends;
+}

@@ -1,7 +1,5 @@
 pub mod BodyTexts
-pub mod Connections
 pub mod DoorEnds
-pub mod Doored
 pub mod Extracts
 pub mod Floatless
 pub mod JsonRead
@@ -9,6 +7,5 @@ pub mod Led
 pub mod Ports
 pub mod Read
 pub mod Stamped
-pub mod Stepped
 pub mod Talked
 pub mod Turned

@@ -1,22 +1,28 @@
 -- What is read of an office is what is due in the state that it stands for, and by its store.
 use Rattle.std.specs.List.{Contains, list_any}
-use Rattle.std.specs.Prelude.{◌≡◌, ℕ, ◌==◌, Bool, true, false, List, None, Option, Some, Result, Ok, Err, IfOk, IfSome, IsErrOf, if◌then◌else◌, take}
-use Rattle.std.proofs.Common.{ap, inl, refl, subst, sym, ◌∙◌}
+use Rattle.std.specs.Prelude.{◌≡◌, ◌↔◌, ◌≤◌, ℕ, ◌==◌, Bool, true, false, List, None, Option, Some, Result, Ok, Err, IfOk, IfSome, IsErrOf, if◌then◌else◌, take}
+use Rattle.std.proofs.Common.{ap, arith, inl, inr, refl, subst, sym, ◌∙◌}
 use Rattle.dv_text.proofs.Passing.{find_none, list_any-map, none_found_at, none_pass, none_passes}
 use Rattle.dv_text.specs.declared.rows.Window.{Window}
-use Rattle.dv_text.specs.Keys.{Hashes}
+use Rattle.dv_text.specs.Causes.{Rose}
+use Rattle.dv_text.specs.Told.{Told}
+use Rattle.dv_text.specs.Keys.{DigestFunction, Hashes, hashes_of}
 use Rattle.dv_text.specs.Stamps.{stamp_of}
+use Rattle.dv_bridge.proofs.ZeroKeys.{zero_keys}
 use Rattle.dv_bridge.specs.ZeroKeys.{HasZeroKeys}
 use Rattle.dv_catalog.specs.Entries.{Mapping}
 use Rattle.dv_catalog.specs.Tables.{tables}
 use Rattle.dv_catalog.specs.declared.tables.TableId.{TableId}
+use Rattle.dv_form.proofs.Widths.{of_width}
 use Rattle.dv_mart.proofs.OfferedTables.{named_among}
 use Rattle.dv_mart.specs.MartTexts.{mart_text, rows_behind as behind_in_marts}
 use Rattle.dv_mart.specs.Whats.{hub_place, offered_mart, table_named}
 use Rattle.dv_mart.specs.declared.query_rules.QueryRule.{QueryRule}
 use Rattle.dv_mart.specs.declared.whats.What.{What}
 use Rattle.dv_records.specs.declared.snapshots.SnapHead.{SnapHead}
+use Rattle.dv_records.specs.declared.answers.Damage.{Damage}
 use Rattle.dv_records.specs.declared.snapshots.SnapId.{SnapId}
+use Rattle.dv_records.specs.declared.snapshots.SnapId.TheVariants.{Pit}
 use Rattle.dv_records.specs.declared.stores.Rows.{Rows as TableRows}
 use Rattle.dv_records.specs.declared.stores.Store.{Store}
 use Rattle.dv_records.specs.Snapshots.{pit, snapshot}
@@ -25,6 +31,7 @@ use Rattle.dv_records.specs.Stores.{rows_in}
 use Rattle.dv_snapshots.specs.declared.stored.StoredFault.{StoredFault}
 use Rattle.dv_snapshots.specs.declared.stored.StoredFault.TheVariants as stored
 use Rattle.dv_snapshots.specs.StoredRows.{head_at}
+use Rattle.dv_snapshots.specs.StoredTexts.{AreInNoState, IsRowOf, IsStoredDamage, table_text as snap_text}
 use Rattle.dv_start.specs.declared.restored.Begun.{Begun}
 use Rattle.dv_start.specs.Completions.{rows_there}
 use Rattle.dv_texts.specs.TableTexts.{table_text}
@@ -33,84 +40,72 @@ use Rattle.dv_vault.proofs.OtherTables.{with_has}
 use Rattle.dv_vault.proofs.VaultFacts.{vault_has}
 use Rattle.dv_vault.specs.Vaults.{HasSealed, IsVaultOf, RawVault, has_table}
 pub use Rattle.dv_window.proofs.StartFacts.{none_of}
-use Rattle.dv_window.specs.Offices.{Agrees, Held, IsIn, StandsFor, rows_behind as behind_in_windows, staged}
+use Rattle.dv_window.specs.Offices.{Held, IsIn, made_stale, rows_behind as behind_in_windows, staged}
 use Rattle.dv_desk.specs.declared.answers.Answer.{Answer}
 use Rattle.dv_desk.specs.declared.answers.Answer.TheVariants as answers
 use Rattle.dv_desk.specs.Bodies.{heads_body}
-use Rattle.dv_desk.specs.Queries.{IsPitFor, begun_load, heads_answer, mart_answer, mart_at, mart_for, mart_on, pit_answer, pit_at, pit_for, stored_pit, table_answer, table_for, text_or}
-use Rattle.dv_desk.specs.Reads.{AreSized, IsPitAt, IsQuiet, IsReadCause, bad_date}
-use Rattle.dv_desk.specs.Turns.{IsDue, ReadOffice}
+use Rattle.dv_desk.specs.Queries.{begun_load, mart_at, mart_for, pit_at, pit_for, stored_pit, table_for, text_or}
+use Rattle.dv_desk.specs.Reads.{Due, IsPitAt, IsQuiet, IsReadAs, IsReadBy, IsReadCause, Looked, LookedBy, answer_of_stored, bad_date, due_by, mart_due, or_memory, pit_due}
+use Rattle.dv_desk.specs.Routes.{Heads, MartAt, PitAt, Query, Read, TableOf}
+use Rattle.dv_desk.specs.Turns.{CanReply, IsDue, IsStoredFor, Moment, ReadOffice}
 
--- ---- answers
+-- ---- what needs the office alone
 
 -- what is said of an answer says more of it
 pub so_answered : {E : Type 0} (P Q : Answer → Type 0) → ((answer : Answer) → P answer → Q answer) → (r : Result Answer E) → IfOk r P → IfOk r Q
 so_answered P Q so (Ok answer) is = so answer is
 so_answered P Q so (Err e) is = tt
 
--- a date that is no stamp needs no cause
-pub undated_quiet : {E : Type 0} (date : List ℕ) (r : Result Answer E) → IfOk r (λ answer. answer ≡ bad_date date) → IfOk r IsQuiet
-undated_quiet date r is = so_answered (λ answer. answer ≡ bad_date date) IsQuiet (λ answer same. subst IsQuiet (sym same) tt) r is
+-- what is due is due also where it is said in other words
+looked_so : (due due' : Due) (held : Held) (answer : Answer) → ((hashes : Hashes) (state : State) (s : Store) → due hashes state s ≡ due' hashes state s) → LookedBy due held answer → LookedBy due' held answer
+looked_so due due' held answer same looked = record {
+  due_is = λ function state s agrees stands. looked.due_is function state s agrees stands ∙ same (hashes_of function) state s;
+  quiet = looked.quiet;
+}
 
-pub undated_cause : {E : Type 0} (IsFor : SnapId → ℕ → Type 0) (held : Held) (store : Option Store) (before now : ℕ) (date : List ℕ) (r : Result Answer E) → IfOk r (λ answer. answer ≡ bad_date date) → IfOk r (IsReadCause IsFor held store before now)
-undated_cause IsFor held store before now date r is =
-    so_answered (λ answer. answer ≡ bad_date date) (IsReadCause IsFor held store before now) (λ answer same. subst (IsReadCause IsFor held store before now) (sym same) tt) r is
-
-pub undated_office : {E : Type 0} (held : Held) (date : List ℕ) (r : Result Answer E) → IfOk r (λ answer. answer ≡ bad_date date) → IfOk r (λ answer. ReadOffice answer held held)
-undated_office held date r is = so_answered (λ answer. answer ≡ bad_date date) (λ answer. ReadOffice answer held held) (λ answer same. subst (λ a. ReadOffice a held held) (sym same) refl) r is
-
--- the table of a hub at a date is the one that is asked for where the hub has the name and the date is that of the text
-pub pit_cause : (mapping : Mapping) (name date : List ℕ) (hub at : ℕ) → hub_place mapping name ≡ Some hub → stamp_of date ≡ Some at → (held : Held) (store : Option Store) (before now : ℕ) (answer : Answer)
-    → IsReadCause (IsPitAt hub at) held store before now answer → IsReadCause (IsPitFor mapping name date) held store before now answer
-pit_cause mapping name date hub at named dated held store before now answers.Keeper rose = rose
-pit_cause mapping name date hub at named dated held store before now (answers.Damaged damage) (id, when, (id_is, when_is), is, row) =
-    (id, when, (hub, named, dated ∙ ap Some (sym when_is), id_is), is, row)
-pit_cause mapping name date hub at named dated held store before now (answers.NotAllowed methods) none = none
-pit_cause mapping name date hub at named dated held store before now answer cause = tt
+pub looked_is : (due : Due) (held : Held) (answer : Answer) → IsQuiet answer → ((hashes : Hashes) (state : State) (s : Store) → answer ≡ due hashes state s) → LookedBy due held answer
+looked_is due held answer quiet is = record { due_is = λ function state s agrees stands. is (hashes_of function) state s; quiet = quiet }
 
 -- ---- the windows
 
-pub heads_due : (held : Held) (text : List ℕ) → text ≡ heads_body held.vault.mapping held.vault.heads (begun_load (staged held)) → (s : Store) → Agrees held s
-    → answers.Heads text ≡ heads_answer held.vault.mapping s
-heads_due held text is s agrees = ap answers.Heads (
-    is
-    ∙ ap (λ heads. heads_body held.vault.mapping heads (begun_load (staged held))) (sym agrees.kept.windows)
-    ∙ ap (λ stage. heads_body held.vault.mapping s.windows (begun_load stage)) (sym agrees.kept.stage))
+pub heads_looked : (held : Held) (text : List ℕ) → text ≡ heads_body held.vault.mapping held.vault.heads (begun_load (staged held)) → Looked Heads held (answers.Heads text)
+heads_looked held text is = record {
+  due_is = λ function state s agrees stands. ap answers.Heads (
+      is
+      ∙ ap (λ heads. heads_body held.vault.mapping heads (begun_load (staged held))) (sym agrees.kept.windows)
+      ∙ ap (λ stage. heads_body held.vault.mapping s.windows (begun_load stage)) (sym agrees.kept.stage));
+  quiet = tt;
+}
 
 -- ---- marts
 
 -- what is said of the office's vault is said of the sealed windows of a state
-pub mart_due : (office : Held) (what : What) (at : ℕ) (raw : RawVault) → raw ≡ office.vault → (r : Result (List ℕ) QueryRule)
+pub mart_looked : (office : Held) (what : What) (at : ℕ) (raw : RawVault) → raw ≡ office.vault → (r : Result (List ℕ) QueryRule)
     → ((hashes : Hashes) (sealed : List Window) → HasZeroKeys hashes → HasSealed hashes sealed raw → mart_text raw.mapping hashes sealed raw.tables what at ≡ r)
-    → (hashes : Hashes) (state : State) → HasZeroKeys hashes → StandsFor hashes state office → text_or r ≡ mart_on office.vault.mapping hashes state what at
-mart_due office what at raw raw_is r makes hashes state zero stood = sym (ap text_or (
-    ap (λ entries. mart_text office.vault.mapping hashes state.sealed entries what at) (sym stood.sealed_are.tables_are)
-    ∙ subst (λ (v : RawVault). mart_text v.mapping hashes state.sealed v.tables what at ≡ r) raw_is (makes hashes state.sealed zero (subst (HasSealed hashes state.sealed) (sym raw_is) stood.sealed_are))))
+    → (answer : Answer) → answer ≡ text_or r → IsQuiet answer → LookedBy (mart_due what at office) office answer
+mart_looked office what at raw raw_is r makes answer answer_is quiet = record {
+  due_is = λ function state s agrees stood.
+      let hashes = hashes_of function in
+      answer_is ∙ sym (ap text_or (
+      ap (λ entries. mart_text office.vault.mapping hashes state.sealed entries what at) (sym stood.sealed_are.tables_are)
+      ∙ subst (λ (v : RawVault). mart_text v.mapping hashes state.sealed v.tables what at ≡ r) raw_is (makes hashes state.sealed (zero_keys function) (subst (HasSealed hashes state.sealed) (sym raw_is) stood.sealed_are))));
+  quiet = quiet;
+}
 
-module _ (mapping : Mapping) (hashes : Hashes) (state : State) (word date : List ℕ) where
-  pub unknown_mart : offered_mart mapping word ≡ None → answers.NotFound ≡ mart_answer mapping hashes state word date
-  unknown_mart none = sym (ap (mart_for mapping hashes state date) none)
+module _ (held : Held) (word date : List ℕ) where
+  pub unknown_mart : offered_mart held.vault.mapping word ≡ None → Looked (MartAt word date) held answers.NotFound
+  unknown_mart none = looked_is (due_by (MartAt word date) held) held answers.NotFound tt (λ hashes state s. sym (ap (mart_for held.vault.mapping hashes state date) none))
 
-  module _ (what : What) (offered : offered_mart mapping word ≡ Some what) where
-    pub undated_mart : stamp_of date ≡ None → bad_date date ≡ mart_answer mapping hashes state word date
-    undated_mart none = sym (ap (mart_for mapping hashes state date) offered ∙ ap (mart_at mapping hashes state what date) none)
+  module _ {E : Type 0} (what : What) (offered : offered_mart held.vault.mapping word ≡ Some what) (r : Result Answer E) where
+    pub undated_mart : stamp_of date ≡ None → IfOk r (λ answer. answer ≡ bad_date date) → IfOk r (Looked (MartAt word date) held)
+    undated_mart none is = so_answered (λ answer. answer ≡ bad_date date) (Looked (MartAt word date) held)
+        (λ answer same. looked_is (due_by (MartAt word date) held) held answer (subst IsQuiet (sym same) tt)
+        (λ hashes state s. same ∙ sym (ap (mart_for held.vault.mapping hashes state date) offered ∙ ap (mart_at held.vault.mapping hashes state what date) none))) r is
 
-    pub dated_mart : (at : ℕ) → stamp_of date ≡ Some at → (answer : Answer) → answer ≡ mart_on mapping hashes state what at → answer ≡ mart_answer mapping hashes state word date
-    dated_mart at dated answer is = is ∙ sym (ap (mart_for mapping hashes state date) offered ∙ ap (mart_at mapping hashes state what date) dated)
-
--- the same of whatever is answered
-module _ (office : Held) (word date : List ℕ) where
-  abbrev MartDue : Answer → Type 0
-  MartDue answer = (hashes : Hashes) (state : State) → HasZeroKeys hashes → StandsFor hashes state office → answer ≡ mart_answer office.vault.mapping hashes state word date
-
-  module _ (what : What) (offered : offered_mart office.vault.mapping word ≡ Some what) where
-    pub undated_marts : {E : Type 0} → stamp_of date ≡ None → (r : Result Answer E) → IfOk r (λ answer. answer ≡ bad_date date) → IfOk r MartDue
-    undated_marts none r is = so_answered (λ answer. answer ≡ bad_date date) MartDue (λ answer same hashes state zero stood. same ∙ undated_mart office.vault.mapping hashes state word date what offered none) r is
-
-    pub dated_marts : {E : Type 0} (at : ℕ) → stamp_of date ≡ Some at → (r : Result Answer E)
-        → IfOk r (λ answer. (hashes : Hashes) (state : State) → HasZeroKeys hashes → StandsFor hashes state office → answer ≡ mart_on office.vault.mapping hashes state what at) → IfOk r MartDue
-    dated_marts at dated r is = so_answered (λ answer. (hashes : Hashes) (state : State) → HasZeroKeys hashes → StandsFor hashes state office → answer ≡ mart_on office.vault.mapping hashes state what at) MartDue
-        (λ answer due hashes state zero stood. dated_mart office.vault.mapping hashes state word date what offered at dated answer (due hashes state zero stood)) r is
+    pub dated_mart : (at : ℕ) → stamp_of date ≡ Some at → IfOk r (LookedBy (mart_due what at held) held) → IfOk r (Looked (MartAt word date) held)
+    dated_mart at dated is = so_answered (LookedBy (mart_due what at held) held) (Looked (MartAt word date) held)
+        (λ answer. looked_so (mart_due what at held) (due_by (MartAt word date) held) held answer
+        (λ hashes state s. sym (ap (mart_for held.vault.mapping hashes state date) offered ∙ ap (mart_at held.vault.mapping hashes state what date) dated))) r is
 
 -- ---- raw tables
 
@@ -130,16 +125,90 @@ pub same_behind : (rows : TableRows) (more : Option TableRows) → behind_in_mar
 same_behind rows None = refl
 same_behind rows (Some more) = refl
 
-pub unknown_table : (mapping : Mapping) (s : Store) (name : List ℕ) → table_named mapping name ≡ None → answers.NotFound ≡ table_answer mapping s name
-unknown_table mapping s name none = sym (ap (table_for mapping s) none)
+pub unknown_table : (held : Held) (name : List ℕ) → table_named held.vault.mapping name ≡ None → Looked (TableOf name) held answers.NotFound
+unknown_table held name none = looked_is (due_by (TableOf name) held) held answers.NotFound tt (λ hashes state s. sym (ap (table_for held.vault.mapping s) none))
 
-pub table_due : (held : Held) (name : List ℕ) (table : TableId) → table_named held.vault.mapping name ≡ Some table → has_table table (rows_there held.vault held.begun) ≡ true
-    → (text : List ℕ) → text ≡ table_text held.vault.mapping table (rows_in table (rows_there held.vault held.begun)) → (s : Store) → Agrees held s
-    → answers.Rows text ≡ table_answer held.vault.mapping s name
-table_due held name table named there text is s agrees = ap answers.Rows (is ∙ ap (table_text held.vault.mapping table) (sym (agrees.kept.tables_are table there)))
-    ∙ sym (ap (table_for held.vault.mapping s) named)
+pub table_looked : (held : Held) (name : List ℕ) (table : TableId) → table_named held.vault.mapping name ≡ Some table → has_table table (rows_there held.vault held.begun) ≡ true
+    → (text : List ℕ) → text ≡ table_text held.vault.mapping table (rows_in table (rows_there held.vault held.begun)) → Looked (TableOf name) held (answers.Rows text)
+table_looked held name table named there text is = record {
+  due_is = λ function state s agrees stands. ap answers.Rows (is ∙ ap (table_text held.vault.mapping table) (sym (agrees.kept.tables_are table there))) ∙ sym (ap (table_for held.vault.mapping s) named);
+  quiet = tt;
+}
+
+-- ---- what is read by a desk
+
+quiet_cause : (IsFor : SnapId → ℕ → Type 0) (before after : Moment) (answer : Answer) → IsQuiet answer → IsReadCause IsFor before after answer
+quiet_cause IsFor before after answers.Keeper none = absurd none
+quiet_cause IsFor before after (answers.Damaged damage) none = absurd none
+quiet_cause IsFor before after (answers.NotAllowed methods) none = none
+quiet_cause IsFor before after answer quiet = tt
+
+quiet_office : (held : Held) (answer : Answer) → IsQuiet answer → ReadOffice answer held held
+quiet_office held answers.Keeper none = absurd none
+quiet_office held answer quiet = refl
+
+-- what needs no keeper is read so
+quiet_read : (due : Due) (IsFor : SnapId → ℕ → Type 0) (answer : Answer) (moment : Moment) → IsQuiet answer
+    → ((function : DigestFunction) (state : State) (s : Store) → moment.store ≡ Some s → IsIn (hashes_of function) state moment.held (Some s) → IsDue (due (hashes_of function) state s) answer)
+    → IsReadBy due IsFor answer moment moment
+quiet_read due IsFor answer moment quiet is = record {
+  due_is = λ function state s told is_in wide. is function state s told is_in;
+  cause = quiet_cause IsFor moment moment answer quiet;
+  office = quiet_office moment.held answer quiet;
+  store = refl;
+  later = omega arith;
+}
+
+pub memory_read : (due : Due) (IsFor : SnapId → ℕ → Type 0) (moment : Moment) → IsReadBy due IsFor answers.Memory moment moment
+memory_read due IsFor moment = quiet_read due IsFor answers.Memory moment tt (λ function state s told is_in. inr (inr refl))
+
+module _ {E : Type 0} (query : Query) (moment : Moment) (fresh : moment.held.stale ≡ false) (agrees : CanReply moment) where
+  pub looked_read : (r : Result Answer E) → IfOk r (Looked query moment.held) → IsReadAs query (or_memory r) moment moment
+  looked_read (Err memory) none = memory_read (due_by query moment.held) (IsStoredFor moment.held.vault.mapping (Read query)) moment
+  looked_read (Ok answer) looked = quiet_read (due_by query moment.held) (IsStoredFor moment.held.vault.mapping (Read query)) answer moment looked.quiet
+      (λ function state s told is_in. inl (looked.due_is function state s (agrees fresh s told) (is_in.stands fresh)))
 
 -- ---- tables of stored snapshots
+
+module _ (name date : List ℕ) (moment : Moment) where
+  abbrev IsPitRead : Answer → Moment → Type 0
+  IsPitRead answer after = IsReadAs (PitAt name date) answer moment after
+
+  abbrev mapping : Mapping
+  mapping = moment.held.vault.mapping
+
+  abbrev IsFor : SnapId → ℕ → Type 0
+  IsFor = IsStoredFor mapping (Read (PitAt name date))
+
+  pub unnamed_pit : IsPitRead answers.Memory moment
+  unnamed_pit = memory_read (due_by (PitAt name date) moment.held) IsFor moment
+
+  pub unknown_pit : hub_place mapping name ≡ None → IsPitRead answers.NotFound moment
+  unknown_pit none = quiet_read (due_by (PitAt name date) moment.held) IsFor answers.NotFound moment tt
+      (λ function state s told is_in. inl (sym (ap (pit_for mapping (hashes_of function) state date) none)))
+
+  module _ (hub : ℕ) (named : hub_place mapping name ≡ Some hub) where
+    pub undated_pit : {E : Type 0} → stamp_of date ≡ None → (r : Result Answer E) → IfOk r (λ answer. answer ≡ bad_date date) → IsPitRead (or_memory r) moment
+    undated_pit none (Err memory) is = unnamed_pit
+    undated_pit none (Ok answer) is = quiet_read (due_by (PitAt name date) moment.held) IsFor answer moment (subst IsQuiet (sym is) tt)
+        (λ function state s told is_in. inl (is ∙ sym (ap (pit_for mapping (hashes_of function) state date) named ∙ ap (pit_at mapping (hashes_of function) state hub date) none)))
+
+    module _ (at : ℕ) (dated : stamp_of date ≡ Some at) (after : Moment) where
+      pit_cause : (answer : Answer) → IsReadCause (IsPitAt hub at) moment after answer → IsReadCause IsFor moment after answer
+      pit_cause answers.Keeper rose = rose
+      pit_cause (answers.Damaged damage) (id, when, (id_is, when_is), is, row) = (id, when, (hub, named, dated ∙ ap Some (sym when_is), id_is), is, row)
+      pit_cause (answers.NotAllowed methods) none = none
+      pit_cause answer cause = tt
+
+      pub dated_pit : (answer : Answer) → IsReadBy (pit_due hub at moment.held) (IsPitAt hub at) answer moment after → IsPitRead answer after
+      dated_pit answer read = record {
+        due_is = λ function state s told is_in wide. subst (λ due. IsDue due answer)
+            (sym (ap (pit_for mapping (hashes_of function) state date) named ∙ ap (pit_at mapping (hashes_of function) state hub date) dated)) (read.due_is function state s told is_in wide);
+        cause = pit_cause answer read.cause;
+        office = read.office;
+        store = read.store;
+        later = read.later;
+      }
 
 -- a snapshot is at a date
 abbrev is_at : ℕ → SnapHead → Bool
@@ -155,25 +224,6 @@ one_there at heads found = by (list_any (is_at at) heads) refl
     by : (there : Bool) → list_any (is_at at) heads ≡ there → there ≡ true
     by true e = refl
     by false e = absurd (found (find_none (is_at at) heads (λ head has. none_passes (is_at at) heads head e has)))
-
-module _ (mapping : Mapping) (hashes : Hashes) (state : State) (name date : List ℕ) where
-  pub unknown_hub : hub_place mapping name ≡ None → answers.NotFound ≡ pit_answer mapping hashes state name date
-  unknown_hub none = sym (ap (pit_for mapping hashes state date) none)
-
-  module _ (hub : ℕ) (named : hub_place mapping name ≡ Some hub) where
-    pub undated_pit : stamp_of date ≡ None → bad_date date ≡ pit_answer mapping hashes state name date
-    undated_pit none = sym (ap (pit_for mapping hashes state date) named ∙ ap (pit_at mapping hashes state hub date) none)
-
-    pub dated_pit : (at : ℕ) → stamp_of date ≡ Some at → (answer : Answer) → IsDue (stored_pit mapping hashes state hub at) answer → IsDue (pit_answer mapping hashes state name date) answer
-    dated_pit at dated answer is = subst (λ due. IsDue due answer) (sym (ap (pit_for mapping hashes state date) named ∙ ap (pit_at mapping hashes state hub date) dated)) is
-
--- the same of whatever is answered
-pub undated_pits : {E : Type 0} (held : Held) (store : Option Store) (name date : List ℕ) (hub : ℕ) → hub_place held.vault.mapping name ≡ Some hub → stamp_of date ≡ None → (r : Result Answer E) → IfOk r (λ answer. answer ≡ bad_date date)
-    → IfOk r (λ answer. (hashes : Hashes) (state : State) (s : Store) → store ≡ Some s → IsIn hashes state held (Some s) → AreSized hashes held.width → IsDue (pit_answer held.vault.mapping hashes state name date) answer)
-undated_pits held store name date hub named none r is =
-    so_answered (λ answer. answer ≡ bad_date date)
-    (λ answer. (hashes : Hashes) (state : State) (s : Store) → store ≡ Some s → IsIn hashes state held (Some s) → AreSized hashes held.width → IsDue (pit_answer held.vault.mapping hashes state name date) answer)
-    (λ answer same hashes state s told is_in sized. inl (same ∙ undated_pit held.vault.mapping hashes state name date hub named none)) r is
 
 module _ (hashes : Hashes) (state : State) (held : Held) (s : Store) (is_in : IsIn hashes state held (Some s)) (fresh : held.stale ≡ false) (hub at : ℕ) where
   -- whether a snapshot is stored at the date, as the office has it and as a state does
@@ -193,10 +243,38 @@ module _ (hashes : Hashes) (state : State) (held : Held) (s : Store) (is_in : Is
   pit_none none = inl (stored_by false (none_there at held.snapshots none))
 
 -- a text is no fault
-pub no_fault : (text : List ℕ) (fault : StoredFault) → IsErrOf (Ok text) fault → ⊥
+no_fault : (text : List ℕ) (fault : StoredFault) → IsErrOf (Ok text) fault → ⊥
 no_fault text fault e = cc
 
--- that no snapshot is stored is no failed call
-pub no_failed_call : (result : Result (List ℕ) StoredFault) → result ≡ Err stored.NoSnapshot → IsErrOf result stored.KeeperFault → ⊥
-no_failed_call (Ok text) absent failed = cc
-no_failed_call (Err fault) absent failed = cc
+-- what is said of the text of a stored table
+pub record Stored (hub at : ℕ) (before after : Moment) (r : Result (List ℕ) StoredFault) : Type 0 where
+  pub absent : IsErrOf r stored.NoSnapshot ↔ (head_at at before.held.snapshots ≡ None)
+  pub damaged : (damage : Damage) → IsErrOf r (stored.Damaged damage) → Told before.store (λ s. IsStoredDamage before.held (Pit hub) at s.snapshots damage)
+  pub formed : (damage : Damage) → IsErrOf r (stored.Damaged damage) → IsRowOf before.held.vault.mapping (Pit hub) damage
+  pub state : IfOk r (λ text. (hashes : Hashes) (state : State) (s : Store) → before.store ≡ Some s → IsIn hashes state before.held (Some s) → text ≡ snap_text before.held.vault.mapping hashes state.sealed (Pit hub) at)
+  pub undamaged : (damage : Damage) → IsErrOf r (stored.Damaged damage) → AreInNoState before.held before.store
+  pub stale : IsErrOf r stored.KeeperFault → after.held ≡ made_stale before.held
+  pub left : (IsErrOf r stored.KeeperFault → ⊥) → after.held ≡ before.held
+  pub kept : after.store ≡ before.store
+  pub cause : IsErrOf r stored.KeeperFault → Rose before.faults after.faults
+  pub later : before.faults ≤ after.faults
+
+module _ (hub at : ℕ) (before after : Moment) (fresh : before.held.stale ≡ false) where
+  -- what is read so, by why this is due and what is left
+  stored_as : (answer : Answer) (r : Result (List ℕ) StoredFault) → Stored hub at before after r
+      → ((function : DigestFunction) (state : State) (s : Store) → before.store ≡ Some s → IsIn (hashes_of function) state before.held (Some s) → before.held.width ≡ function.width
+      → IsDue (stored_pit before.held.vault.mapping (hashes_of function) state hub at) answer)
+      → IsReadCause (IsPitAt hub at) before after answer → ReadOffice answer before.held after.held → IsReadBy (pit_due hub at before.held) (IsPitAt hub at) answer before after
+  stored_as answer r told due cause office = record { due_is = due; cause = cause; office = office; store = told.kept; later = told.later }
+
+  pub stored_read : (r : Result (List ℕ) StoredFault) → Stored hub at before after r → IsReadBy (pit_due hub at before.held) (IsPitAt hub at) (answer_of_stored r) before after
+  stored_read (Ok text) told = stored_as (answers.Rows text) (Ok text) told
+      (λ function state s is is_in wide. pit_texted (hashes_of function) state before.held s is_in fresh hub at (λ none. no_fault text stored.NoSnapshot (told.absent.1 none)) text (told.state (hashes_of function) state s is is_in))
+      tt (told.left (no_fault text stored.KeeperFault))
+  stored_read (Err stored.NoSnapshot) told = stored_as answers.NotFound (Err stored.NoSnapshot) told
+      (λ function state s is is_in wide. pit_none (hashes_of function) state before.held s is_in fresh hub at (told.absent.0 refl)) tt (told.left (λ e. cc))
+  stored_read (Err (stored.Damaged damage)) told = stored_as (answers.Damaged damage) (Err (stored.Damaged damage)) told
+      (λ function state s is is_in wide. absurd (told.undamaged damage refl (hashes_of function) state s is is_in (λ refs. (of_width function).hash refs ∙ sym wide)))
+      (Pit hub, at, (refl, refl), told.damaged damage refl, told.formed damage refl) (told.left (λ e. cc))
+  stored_read (Err stored.KeeperFault) told = stored_as answers.Keeper (Err stored.KeeperFault) told (λ function state s is is_in wide. inr (inl refl)) (told.cause refl) (told.stale refl)
+  stored_read (Err stored.Memory) told = stored_as answers.Memory (Err stored.Memory) told (λ function state s is is_in wide. inr (inr refl)) tt (told.left (λ e. cc))

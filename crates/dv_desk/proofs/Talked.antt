@@ -1,17 +1,26 @@
 -- A talk in states: what is answered leads from a state to a state.
 use Rattle.std.specs.Prelude.{◌≡◌, ◌≤◌, ℕ, List, [], ◌∷◌, Option, Some, None, IsSome}
-use Rattle.std.proofs.Common.{arith, refl, subst, sym}
+use Rattle.std.proofs.Common.{ap, arith, refl, subst, sym, ◌∙◌}
 use Rattle.std.proofs.lemmas.Bool.{false≢true}
 use Rattle.dv_text.specs.Causes.{Rose}
-use Rattle.dv_text.specs.Keys.{Hashes}
+use Rattle.dv_text.specs.Keys.{DigestFunction, Hashes, hashes_of}
 use Rattle.dv_outside.specs.Seen.{NoFault}
+use Rattle.dv_catalog.specs.declared.rules.Rule.{Rule}
+use Rattle.dv_catalog.specs.declared.rules.Rule.TheVariants.{Late, OpenOther, TooLong, Differs, Collision}
+use Rattle.dv_http.specs.declared.replies.Reply.{Reply}
+use Rattle.dv_http.specs.declared.requests.Request.{Request}
 use Rattle.dv_records.specs.declared.stores.Store.{Store}
 use Rattle.dv_records.specs.States.{State}
 use Rattle.dv_window.specs.Offices.{IsIn, IsLeftIn}
+use Rattle.dv_serving.specs.Exchanges.{Chain, Exchange}
+use Rattle.dv_serving.specs.Serving.{ServesOn, Tells}
+use Rattle.dv_serving.specs.declared.served.Served.{Served}
 use Rattle.dv_desk.specs.declared.answers.Answer.{Answer}
 use Rattle.dv_desk.specs.declared.answers.Answer.TheVariants as answers
-use Rattle.dv_desk.specs.Routes.{Asked, asked}
-use Rattle.dv_desk.specs.Turns.{AreSure, Exchange, HasWidth, IsCauseOf, IsSure, Moment, StandsAs, Talked, Talks, TalksIn}
+use Rattle.dv_desk.specs.Answers.{refusal, status_of, status_of_rule}
+use Rattle.dv_desk.specs.Routes.{Asked}
+use Rattle.dv_desk.specs.Serving.{AreSure, IsSure, LeadsInStates, Serves, StandsAs, Talked, TalksIn}
+use Rattle.dv_desk.specs.Turns.{HasWidth, IsCauseOf, IsReplied, Moment}
 
 -- what is told of
 pub told_of : {A : Type 0} (o : Option A) → IsSome o → (x : A) × (o ≡ Some x)
@@ -32,47 +41,69 @@ in_then hashes state moment left some = record {
   store_stands = left.store_stands;
 }
 
-pub talked : (hashes : Hashes) (width : ℕ) (exchanges : List Exchange) (before after : Moment) → Talks hashes width exchanges before after
-    → (state : State) → IsIn hashes state before.held before.store → HasWidth width before → IsSome before.store → Talked before.held.vault.mapping hashes exchanges state before after
-talked hashes width [] before after same state is_in wide some = record {
-  state' = state;
-  talk = (same, refl, stands_as hashes state before is_in some);
-  left = subst (λ (m : Moment). IsIn hashes state m.held m.store) (sym same) is_in;
-}
-talked hashes width (exchange ∷ exchanges) before after (next, turn, talks) state is_in wide some =
-    let led = turn.leads state is_in wide in
-    let others : Talked next.held.vault.mapping hashes exchanges led.state' next after =
-    talked hashes width exchanges next after talks led.state' (in_then hashes led.state' next led.left (turn.told some)) (turn.wide wide) (turn.told some) in
-    record {
-      state' = others.state';
-      talk = (
-        next,
-        led.state',
-        stands_as hashes state before is_in some,
-        led.says,
-        subst (λ m. TalksIn m hashes exchanges led.state' next others.state' after) turn.same_mapping others.talk,
-      );
-      left = others.left;
-    }
+module _ (function : DigestFunction) where
+  talked : (exchanges : List Exchange) (before after : Moment) → Chain (IsReplied function) exchanges before after → (state : State) → IsIn (hashes_of function) state before.held before.store
+      → HasWidth function.width before → IsSome before.store → Talked before.held.vault.mapping (hashes_of function) exchanges state before after
+  talked [] before after same state is_in wide some = record {
+    state' = state;
+    talk = (same, refl, stands_as (hashes_of function) state before is_in some);
+    left = subst (λ (m : Moment). IsIn (hashes_of function) state m.held m.store) (sym same) is_in;
+  }
+  talked (exchange ∷ exchanges) before after (next, replied, chain) state is_in wide some =
+      let turn = replied.turn in
+      let led = turn.leads state is_in wide in
+      let others : Talked next.held.vault.mapping (hashes_of function) exchanges led.state' next after =
+      talked exchanges next after chain led.state' (in_then (hashes_of function) led.state' next led.left (turn.told some)) (turn.wide wide) (turn.told some) in
+      record {
+        state' = others.state';
+        talk = (
+          next,
+          led.state',
+          stands_as (hashes_of function) state before is_in some,
+          record { answer = replied.answer; says = led.says; reply_is = replied.reply_is },
+          subst (λ m. TalksIn m (hashes_of function) exchanges led.state' next others.state' after) turn.same_mapping others.talk,
+        );
+        left = others.left;
+      }
 
--- ---- the keeper's faults
+  -- ---- the keeper's faults
 
-talks_later : (hashes : Hashes) (width : ℕ) (exchanges : List Exchange) (before after : Moment) → Talks hashes width exchanges before after → before.faults ≤ after.faults
-talks_later hashes width [] before after same = subst (λ (m : Moment). before.faults ≤ m.faults) (sym same) (omega arith)
-talks_later hashes width (exchange ∷ exchanges) before after (next, turn, talks) = omega (arith, turn.later, talks_later hashes width exchanges next after talks)
+  chain_later : (exchanges : List Exchange) (before after : Moment) → Chain (IsReplied function) exchanges before after → before.faults ≤ after.faults
+  chain_later [] before after same = subst (λ (m : Moment). before.faults ≤ m.faults) (sym same) (omega arith)
+  chain_later (exchange ∷ exchanges) before after (next, replied, chain) = omega (arith, replied.turn.later, chain_later exchanges next after chain)
 
-rose_within : (first before now last : ℕ) → first ≤ before → now ≤ last → Rose before now → Rose first last
-rose_within first before now last less more rose = omega (arith, less, more, rose)
+  rose_within : (first before now last : ℕ) → first ≤ before → now ≤ last → Rose before now → Rose first last
+  rose_within first before now last less more rose = omega (arith, less, more, rose)
 
-sure_answer : (hashes : Hashes) (width : ℕ) (asked : Asked) (before after : Moment) (answer : Answer) → IsCauseOf hashes width asked before after answer → NoFault before.faults after.faults → IsSure answer
-sure_answer hashes width asked before after answers.Keeper rose quiet = quiet rose
-sure_answer hashes width asked before after answer cause quiet = tt
+  sure_rule : (rule : Rule) → status_of_rule rule ≡ 503 → ⊥
+  sure_rule (Late last) is = omega (arith, is)
+  sure_rule (OpenOther load) is = omega (arith, is)
+  sure_rule (Differs load) is = omega (arith, is)
+  sure_rule (Collision table first second) is = omega (arith, is)
+  sure_rule (TooLong feed) is = omega (arith, is)
+  sure_rule rule is = omega (arith, is)
 
--- where the keeper's count did not rise it failed in no request
-pub sure_talk : (hashes : Hashes) (width : ℕ) (exchanges : List Exchange) (before after : Moment) → Talks hashes width exchanges before after → NoFault before.faults after.faults → AreSure exchanges
-sure_talk hashes width [] before after talks quiet = tt
-sure_talk hashes width (exchange ∷ exchanges) before after (next, turn, talks) quiet =
-    let later = talks_later hashes width exchanges next after talks in (
-      sure_answer hashes width (asked exchange.request) before next exchange.answer turn.cause (λ rose. quiet (rose_within before.faults before.faults next.faults after.faults (omega arith) later rose)),
-      sure_talk hashes width exchanges next after talks (λ rose. quiet (rose_within before.faults next.faults after.faults after.faults turn.later (omega arith) rose)),
-    )
+  sure_answer : (asked : Asked) (before after : Moment) (answer : Answer) → IsCauseOf function asked before after answer → NoFault before.faults after.faults → status_of answer ≡ 503 → ⊥
+  sure_answer asked before after answers.Keeper rose quiet is = quiet rose
+  sure_answer asked before after (answers.Broken rule) cause quiet is = sure_rule rule is
+  sure_answer asked before after answer cause quiet is = omega (arith, is)
+
+  sure_reply : (before after : Moment) (request : Request) (reply : Reply) → IsReplied function before request reply after → NoFault before.faults after.faults → IsSure reply
+  sure_reply before after request reply replied quiet = λ is. sure_answer _ before after replied.answer replied.turn.cause quiet (sym (ap (λ (r : Reply). r.status) replied.reply_is) ∙ is)
+
+  sure : (exchanges : List Exchange) (before after : Moment) → Chain (IsReplied function) exchanges before after → NoFault before.faults after.faults → AreSure exchanges
+  sure [] before after chain quiet = tt
+  sure (exchange ∷ exchanges) before after (next, replied, chain) quiet =
+      let later = chain_later exchanges next after chain in (
+        sure_reply before next exchange.request exchange.reply replied (λ rose. quiet (rose_within before.faults before.faults next.faults after.faults (omega arith) later rose)),
+        sure exchanges next after chain (λ rose. quiet (rose_within before.faults next.faults after.faults after.faults replied.turn.later (omega arith) rose)),
+      )
+
+  -- whatever requests are answered, that leads through states
+  pub leads_in_states : LeadsInStates function
+  leads_in_states exchanges before after chain = record { in_states = talked exchanges before after chain; sure = sure exchanges before after chain }
+
+-- a connection that was served leads through states
+pub serves_in_states : {L : Type 0} (function : DigestFunction) (tells : Tells L) (line back : L) (before after : Moment) (how : Served) → ServesOn (IsReplied function) refusal tells line back before after how
+    → Serves function tells line back before after how
+serves_in_states function tells line back before after how served = record { served = served; states = leads_in_states function served.exchanges before after served.chain }

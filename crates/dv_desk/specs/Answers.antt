@@ -1,5 +1,5 @@
 -- What a request is answered with, and the reply that says it.
-use Rattle.std.specs.Prelude.{ℕ, Bool, List, Option, Some, None, codes}
+use Rattle.std.specs.Prelude.{ℕ, Bool, true, List, Option, Some, None, codes, option_map}
 use Rattle.dv_catalog.specs.RuleTexts.{rule_text}
 use Rattle.dv_catalog.specs.declared.rules.Rule.{Rule}
 use Rattle.dv_catalog.specs.declared.rules.Rule.TheVariants.{Late, OpenOther, TooLong, Differs, Collision}
@@ -11,7 +11,8 @@ use Rattle.dv_http.specs.declared.requests.WireError.TheVariants as errors
 use Rattle.dv_mart.specs.QueryTexts.{query_text}
 use Rattle.dv_start.specs.declared.faults.StoreFault.{StoreFault}
 use Rattle.dv_start.specs.declared.faults.StoreFault.TheVariants as faults
-use Rattle.dv_desk.specs.Bodies.{answer_body, damage_text, loaded_body, text_body}
+use Rattle.dv_given.specs.Lines.{damage_text}
+use Rattle.dv_desk.specs.Bodies.{answer_body, loaded_body, text_body}
 use Rattle.dv_desk.specs.declared.answers.Answer.{Answer}
 use Rattle.dv_desk.specs.declared.answers.Answer.TheVariants as answers
 use Rattle.dv_desk.specs.declared.routes.Allowed.{Allowed}
@@ -28,6 +29,7 @@ status_of_rule (Collision table first second) = 409
 status_of_rule (TooLong feed) = 413
 status_of_rule rule = 422
 
+-- the status of an answer
 abbrev pub status_of : Answer → ℕ
 status_of (answers.Loaded rows) = 200
 status_of answers.Repeated = 200
@@ -61,6 +63,7 @@ abbrev pub allow_of : Answer → Option (List ℕ)
 allow_of (answers.NotAllowed methods) = Some (methods_text methods)
 allow_of answer = None
 
+-- the body of an answer
 abbrev pub body_of : Answer → List ℕ
 body_of (answers.Loaded rows) = loaded_body rows
 body_of answers.Repeated = answer_body (codes "Repeated")
@@ -99,6 +102,10 @@ wire_answer errors.Cut = None
 wire_answer errors.Spent = None
 wire_answer errors.ReadFault = None
 wire_answer errors.Memory = None
+
+-- the reply there, which is the last one
+abbrev pub refusal : WireError → Option Reply
+refusal error = option_map (λ answer. reply_of answer true) (wire_answer error)
 
 -- what is answered where a stale office could not be refreshed
 abbrev pub unrefreshed : StoreFault → Answer

@@ -10,7 +10,6 @@ use Rattle.dv_text.specs.declared.rows.WindowHead.{WindowHead}
 use Rattle.dv_text.specs.Stamps.{stamp_text}
 use Rattle.dv_catalog.specs.Entries.{Mapping}
 use Rattle.dv_catalog.specs.Tables.{feed_name}
-use Rattle.dv_records.specs.declared.answers.Damage.{Damage}
 
 -- ---- what is answered, in a word
 
@@ -26,12 +25,9 @@ text_body name text = codes "{\"answer\":" ++ quoted name ++ codes ",\"text\":" 
 abbrev pub loaded_body : ℕ → List ℕ
 loaded_body rows = codes "{\"answer\":\"Loaded\",\"rows\":" ++ decimal rows ++ codes "}"
 
--- a damage: the table, the row and the rule of form
-abbrev pub damage_text : Damage → List ℕ
-damage_text damage = damage.table ++ codes " " ++ decimal damage.row ++ codes " F" ++ decimal damage.rule
-
 -- ---- the windows
 
+-- the name of a feed
 abbrev pub feed_data : Mapping → ℕ → Data
 feed_data mapping feed = string (utf8_lossy (feed_name (slice_get mapping.feeds feed)))
 
@@ -54,5 +50,6 @@ heads_data mapping sealed begun =
     member (codes "open") (begun_data begun)
     (member (codes "windows") (array (items_of (map (head_data mapping) sealed))) no_members))
 
+-- and the text of that
 abbrev pub heads_body : Mapping → List WindowHead → Option ℕ → List ℕ
 heads_body mapping sealed begun = compact_text (heads_data mapping sealed begun)

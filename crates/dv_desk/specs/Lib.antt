@@ -1,7 +1,7 @@
 pub mod Answers
 pub mod Bodies
+pub mod Desks
 pub mod Doors
-pub mod Lines
 pub mod Meets
 pub mod Posted
 pub mod Queries
@@ -9,6 +9,4 @@ pub mod Reads
 pub mod Routes
 pub mod ServeWords
 pub mod Serving
-pub mod Steps
 pub mod Turns
-pub mod Writing

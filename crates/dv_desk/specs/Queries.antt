@@ -46,10 +46,12 @@ heads_answer mapping store = Heads (heads_body mapping store.windows (begun_load
 abbrev pub mart_on : Mapping → Hashes → State → What → ℕ → Answer
 mart_on mapping hashes state what at = text_or (mart_text mapping hashes state.sealed (vault mapping hashes state.sealed) what at)
 
+-- at a date that is a stamp
 abbrev pub mart_at : Mapping → Hashes → State → What → List ℕ → Option ℕ → Answer
 mart_at mapping hashes state what date None = BadQuery (BadDate date)
 mart_at mapping hashes state what date (Some at) = mart_on mapping hashes state what at
 
+-- where the word names one
 abbrev pub mart_for : Mapping → Hashes → State → List ℕ → Option What → Answer
 mart_for mapping hashes state date None = NotFound
 mart_for mapping hashes state date (Some what) = mart_at mapping hashes state what date (stamp_of date)
@@ -60,6 +62,7 @@ mart_answer mapping hashes state word date = mart_for mapping hashes state date 
 
 -- ---- a raw table
 
+-- of a table that there is
 abbrev pub table_for : Mapping → Store → Option TableId → Answer
 table_for mapping store None = NotFound
 table_for mapping store (Some table) = Rows (table_text mapping table (rows_in table store.tables))
@@ -75,10 +78,12 @@ abbrev pub stored_pit : Mapping → Hashes → State → ℕ → ℕ → Answer
 stored_pit mapping hashes state hub at =
     if list_any (λ other. other == at) state.dates then Rows (pit_text mapping hub at (pit mapping hashes state.sealed hub at)) else NotFound
 
+-- at a date that is a stamp
 abbrev pub pit_at : Mapping → Hashes → State → ℕ → List ℕ → Option ℕ → Answer
 pit_at mapping hashes state hub date None = BadQuery (BadDate date)
 pit_at mapping hashes state hub date (Some at) = stored_pit mapping hashes state hub at
 
+-- of a hub that there is
 abbrev pub pit_for : Mapping → Hashes → State → List ℕ → Option ℕ → Answer
 pit_for mapping hashes state date None = NotFound
 pit_for mapping hashes state date (Some hub) = pit_at mapping hashes state hub date (stamp_of date)

@@ -8,6 +8,8 @@ use Rattle.dv_desk.specs.declared.routes.Route.{Route as Found}
 use Rattle.dv_desk.specs.declared.routes.Route.TheVariants as found
 use Rattle.dv_desk.specs.declared.routes.Asked.{Asked as Given}
 use Rattle.dv_desk.specs.declared.routes.Asked.TheVariants as given
+use Rattle.dv_desk.specs.declared.routes.Query.{Query as GivenQuery}
+use Rattle.dv_desk.specs.declared.routes.Query.TheVariants as queries
 use Rattle.dv_desk.specs.declared.routes.Allowed.{Allowed}
 use Rattle.dv_desk.specs.declared.routes.Allowed.TheVariants.{Get, GetPost}
 
@@ -43,17 +45,22 @@ route_of path = unwrap_or (first_of (windows_route path ∷ mart_route path ∷ 
 
 -- ---- what is asked for
 
+-- what is only read
+pub data Query : Type 0 where
+  -- the heads of the windows
+  Heads : Query
+  -- the mart of a word, at a date
+  MartAt : (word date : List ℕ) → Query
+  -- the raw table of a name, with all its rows
+  TableOf : (name : List ℕ) → Query
+  -- the point-in-time table of a hub in the snapshot at a date
+  PitAt : (hub date : List ℕ) → Query
+
 pub data Asked : Type 0 where
   -- the window of a body is to be loaded
   Load : (body : List ℕ) → Asked
-  -- the heads of the windows
-  Heads : Asked
-  -- the mart of a word, at a date
-  MartAt : (word date : List ℕ) → Asked
-  -- the raw table of a name, with all its rows
-  TableOf : (name : List ℕ) → Asked
-  -- the point-in-time table of a hub in the snapshot at a date
-  PitAt : (hub date : List ℕ) → Asked
+  -- this is to be read
+  Read : (query : Query) → Asked
   -- there is no such route
   NotFound : Asked
   -- the route has no such method, but these
@@ -64,15 +71,16 @@ abbrev pub date_of : Request → List ℕ
 date_of request = unwrap_or request.at []
 
 -- what a request for a route that is only read asks for
-abbrev pub if_get : Request → Asked → Asked
-if_get request asked = if bytes_eq request.method (codes "GET") then asked else NotAllowed Get
+abbrev pub if_get : Request → Query → Asked
+if_get request query = if bytes_eq request.method (codes "GET") then Read query else NotAllowed Get
 
 -- what a request for the windows asks for
 abbrev pub windows_asked : Request → Asked
 windows_asked request =
-    if bytes_eq request.method (codes "GET") then Heads
+    if bytes_eq request.method (codes "GET") then Read Heads
     else (if bytes_eq request.method (codes "POST") then Load request.body else NotAllowed GetPost)
 
+-- what a request for a route asks for
 abbrev pub asked_at : Request → Route → Asked
 asked_at request Windows = windows_asked request
 asked_at request (Mart word) = if_get request (MartAt word (date_of request))
@@ -84,8 +92,9 @@ asked_at request NoRoute = NotFound
 abbrev pub asked : Request → Asked
 asked request = asked_at request (route_of request.path)
 
--- ---- both, as the code has them
+-- ---- all of it, as the code has it
 
+-- a route
 abbrev pub route_as : Found → Route
 route_as found.Windows = Windows
 route_as (found.Mart word) = Mart word.now
@@ -93,11 +102,16 @@ route_as (found.Table name) = Table name.now
 route_as (found.Pit hub) = Pit hub.now
 route_as found.NoRoute = NoRoute
 
+-- what is only read
+abbrev pub query_as : GivenQuery → Query
+query_as queries.Heads = Heads
+query_as (queries.MartAt word date) = MartAt word.now date.now
+query_as (queries.TableOf name) = TableOf name.now
+query_as (queries.PitAt hub date) = PitAt hub.now date.now
+
+-- what is asked for
 abbrev pub asked_as : Given → Asked
 asked_as (given.Load body) = Load body.now
-asked_as given.Heads = Heads
-asked_as (given.MartAt word date) = MartAt word.now date.now
-asked_as (given.TableOf name) = TableOf name.now
-asked_as (given.PitAt hub date) = PitAt hub.now date.now
+asked_as (given.Read query) = Read (query_as query)
 asked_as given.NotFound = NotFound
 asked_as (given.NotAllowed methods) = NotAllowed methods

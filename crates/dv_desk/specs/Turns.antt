@@ -1,30 +1,31 @@
 -- A request and its answer: what it does to the warehouse, and why it is given.
-use Rattle.std.specs.Prelude.{◌≡◌, ◌⊎◌, ℕ, ◌≤◌, Bool, true, false, List, [], ◌∷◌, Option, Some, IsSome}
+use Rattle.std.specs.Prelude.{◌≡◌, ◌⊎◌, ℕ, ◌≤◌, Bool, true, false, Option, IsSome, Result, Ok, Err}
 use Rattle.dv_text.specs.Causes.{Rose}
-use Rattle.dv_text.specs.Keys.{Hashes}
+use Rattle.dv_text.specs.Keys.{DigestFunction, Hashes, hashes_of}
 use Rattle.dv_text.specs.Told.{Told}
 use Rattle.dv_catalog.specs.Entries.{Mapping}
 use Rattle.dv_catalog.specs.declared.rules.Rule.TheVariants.{Manifest}
 use Rattle.dv_catalog.specs.declared.windows.WindowIn.{WindowIn}
+use Rattle.dv_http.specs.declared.replies.Reply.{Reply}
 use Rattle.dv_http.specs.declared.requests.Request.{Request}
 use Rattle.dv_records.specs.declared.answers.Damage.{Damage}
 use Rattle.dv_records.specs.declared.answers.LoadAnswer.{LoadAnswer}
 use Rattle.dv_records.specs.declared.answers.LoadAnswer.TheVariants as load
 use Rattle.dv_records.specs.declared.snapshots.SnapId.{SnapId}
 use Rattle.dv_records.specs.declared.stores.Store.{Store}
-use Rattle.dv_records.specs.Standing.{Stands}
 use Rattle.dv_records.specs.States.{State}
 use Rattle.dv_records.specs.Steps.{LoadStep}
 use Rattle.dv_snapshots.specs.StoredTexts.{IsRowOf, IsStoredDamage}
 use Rattle.dv_start.specs.Damages.{IsNamed}
-use Rattle.dv_window.specs.Offices.{Held, IsDamageFor, IsIn, IsLeftIn, LeavesStore, made_stale}
+use Rattle.dv_window.specs.Offices.{AgreesUnlessStale, Held, IsDamageFor, IsIn, IsLeftIn, LeavesStore, made_stale}
 use Rattle.dv_desk.specs.declared.answers.Answer.{Answer}
 use Rattle.dv_desk.specs.declared.answers.Answer.TheVariants as answers
 use Rattle.dv_desk.specs.declared.posted.Posted.{Posted}
 use Rattle.dv_desk.specs.declared.posted.Posted.TheVariants.{NotJson, Faulty, Given}
+use Rattle.dv_desk.specs.Answers.{reply_of}
 use Rattle.dv_desk.specs.Posted.{posted}
 use Rattle.dv_desk.specs.Queries.{IsPitFor, heads_answer, mart_answer, pit_answer, table_answer}
-use Rattle.dv_desk.specs.Routes.{Asked, Load, Heads, MartAt, TableOf, PitAt, NotFound, NotAllowed, asked}
+use Rattle.dv_desk.specs.Routes.{Asked, Load, NotAllowed, NotFound, Read, asked, Query, Heads, MartAt, PitAt, TableOf}
 
 -- what stands between two requests: what the office holds, the keeper's store where it is told, and the keeper's count of
 -- faults
@@ -76,22 +77,24 @@ PostSays mapping hashes state before after (Faulty place) answer state' =
     IsDue (answers.Broken (Manifest place)) answer × Stays state before after state'
 PostSays mapping hashes state before after (Given given) answer state' = Loads mapping hashes given state before after answer state'
 
--- what is due to a request that is only read; a window that is to be loaded is none
-abbrev pub due : Mapping → Hashes → State → Asked → Store → Answer
-due mapping hashes state (Load body) store = answers.BadRequest
+-- what is due to what is only read
+abbrev pub due : Mapping → Hashes → State → Query → Store → Answer
 due mapping hashes state Heads store = heads_answer mapping store
 due mapping hashes state (MartAt word date) store = mart_answer mapping hashes state word date
 due mapping hashes state (TableOf name) store = table_answer mapping store name
 due mapping hashes state (PitAt hub date) store = pit_answer mapping hashes state hub date
-due mapping hashes state NotFound store = answers.NotFound
-due mapping hashes state (NotAllowed methods) store = answers.NotAllowed methods
 
--- it is only read
-abbrev pub IsRead : Asked → Type 0
-IsRead (Load body) = ⊥
-IsRead NotFound = ⊥
-IsRead (NotAllowed methods) = ⊥
-IsRead asked = Unit {0}
+-- what is read leaves all as it was
+abbrev pub ReadSays : Mapping → Hashes → State → Option Store → Option Store → Query → Answer → State → Type 0
+ReadSays mapping hashes state before after query answer state' =
+    Told before (λ store. IsDue (due mapping hashes state query store) answer) × Stays state before after state'
+
+-- what is answered to what is asked for, and the state that it leads to
+abbrev pub Says : Mapping → Hashes → State → Option Store → Option Store → Asked → Answer → State → Type 0
+Says mapping hashes state before after (Load body) answer state' = PostSays mapping hashes state before after (posted body) answer state'
+Says mapping hashes state before after (Read query) answer state' = ReadSays mapping hashes state before after query answer state'
+Says mapping hashes state before after NotFound answer state' = (answer ≡ answers.NotFound) × Stays state before after state'
+Says mapping hashes state before after (NotAllowed methods) answer state' = (answer ≡ answers.NotAllowed methods) × Stays state before after state'
 
 -- there is such a route, and it has the method
 abbrev pub IsThere : Asked → Type 0
@@ -99,37 +102,29 @@ IsThere NotFound = ⊥
 IsThere (NotAllowed methods) = ⊥
 IsThere asked = Unit {0}
 
--- what is read leaves all as it was
-abbrev pub ReadSays : Mapping → Hashes → State → Option Store → Option Store → Asked → Answer → State → Type 0
-ReadSays mapping hashes state before after asked answer state' =
-    Told before (λ store. IsDue (due mapping hashes state asked store) answer) × Stays state before after state'
-
-abbrev pub Says : Mapping → Hashes → State → Option Store → Option Store → Asked → Answer → State → Type 0
-Says mapping hashes state before after (Load body) answer state' = PostSays mapping hashes state before after (posted body) answer state'
-Says mapping hashes state before after asked answer state' = ReadSays mapping hashes state before after asked answer state'
-
 -- ---- why an answer is given, whatever the keeper tells
 
 -- the table of a stored snapshot that is asked for
 abbrev pub IsStoredFor : Mapping → Asked → SnapId → ℕ → Type 0
-IsStoredFor mapping (PitAt hub date) id at = IsPitFor mapping hub date id at
+IsStoredFor mapping (Read (PitAt hub date)) id at = IsPitFor mapping hub date id at
 IsStoredFor mapping asked id at = ⊥
 
 -- a row of the store breaks a rule of form: one that a stale office reads again, or one of the stored table that is asked for
-abbrev pub IsDamageIn : Hashes → ℕ → Asked → Moment → Moment → Store → Damage → Type 0
-IsDamageIn hashes width asked before after store damage =
-    ((before.held.stale ≡ true) × IsDamageFor before.held.vault.mapping hashes width store damage)
+abbrev pub IsDamageIn : DigestFunction → Asked → Moment → Moment → Store → Damage → Type 0
+IsDamageIn function asked before after store damage =
+    ((before.held.stale ≡ true) × IsDamageFor before.held.vault.mapping (hashes_of function) function.width store damage)
     ⊎ ((id : SnapId) × (at : ℕ) × IsStoredFor before.held.vault.mapping asked id at × IsStoredDamage after.held id at store.snapshots damage)
 
 -- whatever is stored, it names a place and a rule that there may be, by the mapping, or a row of the table that is asked for
 abbrev pub MayBe : Mapping → Asked → Damage → Type 0
 MayBe mapping asked damage = IsNamed mapping damage ⊎ ((id : SnapId) × (at : ℕ) × IsStoredFor mapping asked id at × IsRowOf mapping id damage)
 
-abbrev pub IsCauseOf : Hashes → ℕ → Asked → Moment → Moment → Answer → Type 0
-IsCauseOf hashes width asked before after answers.Keeper = Rose before.faults after.faults
-IsCauseOf hashes width asked before after (answers.Damaged damage) =
-    Told before.store (λ store. IsDamageIn hashes width asked before after store damage) × MayBe before.held.vault.mapping asked damage
-IsCauseOf hashes width asked before after answer = Unit {0}
+-- the keeper failed only where its count rose, and a damage is there
+abbrev pub IsCauseOf : DigestFunction → Asked → Moment → Moment → Answer → Type 0
+IsCauseOf function asked before after answers.Keeper = Rose before.faults after.faults
+IsCauseOf function asked before after (answers.Damaged damage) =
+    Told before.store (λ store. IsDamageIn function asked before after store damage) × MayBe before.held.vault.mapping asked damage
+IsCauseOf function asked before after answer = Unit {0}
 
 -- it isn't that the route has no such method
 abbrev pub IsAllowed : Answer → Type 0
@@ -159,10 +154,6 @@ StoreBy answers.Keeper before after = Unit {0}
 StoreBy answers.Memory before after = Unit {0}
 StoreBy answer before after = after ≡ before
 
-abbrev pub StoreThen : Asked → Answer → Option Store → Option Store → Type 0
-StoreThen (Load body) answer before after = StoreBy answer before after
-StoreThen asked answer before after = after ≡ before
-
 -- and the same holds of an office that isn't stale
 abbrev pub LoadOffice : Answer → Held → Held → Type 0
 LoadOffice (answers.Loaded rows) held held' = Unit {0}
@@ -175,16 +166,23 @@ abbrev pub ReadOffice : Answer → Held → Held → Type 0
 ReadOffice answers.Keeper held held' = held' ≡ made_stale held
 ReadOffice answer held held' = held' ≡ held
 
-abbrev pub OfficeThen : Asked → Answer → Held → Held → Type 0
-OfficeThen (Load body) answer held held' = LoadOffice answer held held'
-OfficeThen asked answer held held' = ReadOffice answer held held'
+-- what a window that is to be loaded leaves
+pub record LoadLeaves (answer : Answer) (before after : Moment) : Type 0 where
+  pub stale : StaleBy answer before.held.stale after.held.stale
+  pub store : StoreBy answer before.store after.store
+  pub office : before.held.stale ≡ false → LoadOffice answer before.held after.held
+
+-- what is only read leaves the store
+pub record ReadLeaves (answer : Answer) (before after : Moment) : Type 0 where
+  pub stale : StaleBy answer before.held.stale after.held.stale
+  pub store : after.store ≡ before.store
+  pub office : before.held.stale ≡ false → ReadOffice answer before.held after.held
 
 -- what a request leaves of the office and of the keeper's store; what is no route, or has not this method, leaves all
-pub record Leaves (asked : Asked) (answer : Answer) (before after : Moment) : Type 0 where
-  pub stale : IsThere asked → StaleBy answer before.held.stale after.held.stale
-  pub nowhere : (IsThere asked → ⊥) → after ≡ before
-  pub store : StoreThen asked answer before.store after.store
-  pub office : before.held.stale ≡ false → OfficeThen asked answer before.held after.held
+abbrev pub Leaves : Asked → Answer → Moment → Moment → Type 0
+Leaves (Load body) answer before after = LoadLeaves answer before after
+Leaves (Read query) answer before after = ReadLeaves answer before after
+Leaves asked answer before after = after ≡ before
 
 -- ---- a turn
 
@@ -199,55 +197,46 @@ pub record Leads (hashes : Hashes) (state : State) (before after : Moment) (aske
   pub left : IsLeftIn hashes state' after.held after.store
 
 -- what is asked for is answered: what that does in each state that the office and its keeper stand for, and why
-pub record Turn (hashes : Hashes) (width : ℕ) (asked : Asked) (answer : Answer) (before after : Moment) : Type 0 where
-  pub leads : (state : State) → IsIn hashes state before.held before.store → HasWidth width before → Leads hashes state before after asked answer
-  pub cause : IsCauseOf hashes width asked before after answer
+pub record Turn (function : DigestFunction) (asked : Asked) (answer : Answer) (before after : Moment) : Type 0 where
+  pub leads : (state : State) → IsIn (hashes_of function) state before.held before.store → HasWidth function.width before
+      → Leads (hashes_of function) state before after asked answer
+  pub cause : IsCauseOf function asked before after answer
   pub asked_for : IsAskedFor asked answer
   pub leaves : Leaves asked answer before after
   pub same_mapping : after.held.vault.mapping ≡ before.held.vault.mapping
-  pub wide : HasWidth width before → HasWidth width after
+  pub wide : HasWidth function.width before → HasWidth function.width after
   pub told : IsSome before.store → IsSome after.store
   pub later : before.faults ≤ after.faults
 
--- a request and what it is answered with
-pub record Exchange : Type 0 where
-  pub request : Request
+-- a request may come where the keeper's store, where it is told, is what the office holds, unless this is stale
+abbrev pub CanReply : Moment → Type 0
+CanReply moment = AgreesUnlessStale moment.held moment.store
+
+-- what is asked for is answered, and a request may come again
+pub record Answered (function : DigestFunction) (asked : Asked) (answer : Answer) (before after : Moment) : Type 0 where
+  pub turn : Turn function asked answer before after
+  pub agrees : CanReply after
+
+-- a request is answered with a reply
+pub record IsReplied (function : DigestFunction) (before : Moment) (request : Request) (reply : Reply) (after : Moment) : Type 0 where
   pub answer : Answer
+  pub turn : Turn function (asked request) answer before after
+  pub reply_is : reply ≡ reply_of answer request.last
 
--- the keeper failed in none of them
-abbrev pub IsSure : Answer → Type 0
-IsSure answers.Keeper = ⊥
-IsSure answer = Unit {0}
+-- ---- a stale office that is refreshed
 
-abbrev pub AreSure : List Exchange → Type 0
-AreSure [] = Unit {0}
-AreSure (exchange ∷ exchanges) = IsSure exchange.answer × AreSure exchanges
+-- it isn't stale then, and is what it was for each state; the store is as it was
+pub record Refreshed (function : DigestFunction) (before after : Moment) : Type 0 where
+  pub fresh : after.held.stale ≡ false
+  pub still : before.held.stale ≡ false → after.held ≡ before.held
+  pub stands : (state : State) → IsIn (hashes_of function) state before.held before.store → IsIn (hashes_of function) state after.held after.store
+  pub mapping : after.held.vault.mapping ≡ before.held.vault.mapping
+  pub width : before.held.stale ≡ true → after.held.width ≡ function.width
+  pub store : after.store ≡ before.store
+  pub agrees : CanReply after
+  pub later : before.faults ≤ after.faults
 
--- requests are answered one after another
-abbrev pub Talks : Hashes → ℕ → List Exchange → Moment → Moment → Type 0
-Talks hashes width [] before after = after ≡ before
-Talks hashes width (exchange ∷ exchanges) before after =
-    (next : Moment) × Turn hashes width (asked exchange.request) exchange.answer before next × Talks hashes width exchanges next after
-
--- ---- the talk, in states
-
--- a moment's store is told, and stands for a state by a mapping
-pub record StandsAs (mapping : Mapping) (hashes : Hashes) (state : State) (moment : Moment) : Type 0 where
-  pub store : Store
-  pub told_is : moment.store ≡ Some store
-  pub stands : Stands mapping hashes state store
-
--- there is a state before each request and one at the end, each with a store that stands for it; each request is answered
--- in its state, and leads to the next one
-abbrev pub TalksIn : Mapping → Hashes → List Exchange → State → Moment → State → Moment → Type 0
-TalksIn mapping hashes [] state before state' after = (after ≡ before) × (state' ≡ state) × StandsAs mapping hashes state before
-TalksIn mapping hashes (exchange ∷ exchanges) state before state' after =
-    (next : Moment) × (state1 : State) × StandsAs mapping hashes state before
-    × Says mapping hashes state before.store next.store (asked exchange.request) exchange.answer state1
-    × TalksIn mapping hashes exchanges state1 next state' after
-
--- the talk ends in a state that the office and its keeper stand for
-pub record Talked (mapping : Mapping) (hashes : Hashes) (exchanges : List Exchange) (state : State) (before after : Moment) : Type 0 where
-  pub state' : State
-  pub talk : TalksIn mapping hashes exchanges state before state' after
-  pub left : IsIn hashes state' after.held after.store
+-- or the answer to whatever is asked for is that it could not be
+abbrev pub Refreshes : DigestFunction → Moment → Moment → Result (Unit {0}) Answer → Type 0
+Refreshes function before after (Ok done) = Refreshed function before after
+Refreshes function before after (Err answer) = (asked : Asked) → IsThere asked → Answered function asked answer before after

@@ -2,9 +2,10 @@
 ghost use Rattle.std.specs.Prelude.{◌≡◌, IfOk};
 ghost use Rattle.dv_desk.specs.Answers as spec;
 
-use crate::bodies::{answer_body, damage_text, loaded_body, text_body};
+use crate::bodies::{answer_body, loaded_body, text_body};
 use crate::routes::Allowed;
 use dv_catalog::{Rule, rule_text};
+use dv_given::damage_text;
 use dv_http::{Reply, ReplyKind, WireError};
 use dv_mart::QueryRule;
 use dv_records::{Damage, LoadAnswer};
@@ -74,8 +75,8 @@ pub(crate) fn unrefreshed(fault: StoreFault) -> Answer
     }
 }
 
-/// What is answered where no request could be taken; none where nothing is.
-pub(crate) fn wire_answer(error: WireError) -> Option<Answer>
+// What is answered where no request could be taken; none where nothing is.
+fn wire_answer(error: WireError) -> Option<Answer>
     ensures { result ≡ spec.wire_answer error }
 {
     match error {
@@ -83,6 +84,16 @@ pub(crate) fn wire_answer(error: WireError) -> Option<Answer>
         WireError::NoLength => Some(Answer::NoLength),
         WireError::BodyTooLong => Some(Answer::TooLong),
         WireError::Cut | WireError::Spent | WireError::ReadFault | WireError::Memory => None,
+    }
+}
+
+/// The reply where no request could be taken; none where nothing is written.
+pub(crate) fn refusal(alloc: Global, error: WireError) -> Result<Option<Reply>, Memory>
+    ensures { IfOk result (λ reply. reply ≡ spec.refusal error) }
+{
+    match wire_answer(error) {
+        Some(answer) => Ok(Some(answer.into_reply(alloc, true)?)),
+        None => Ok(None),
     }
 }
 
@@ -165,7 +176,7 @@ impl Answer {
             Answer::TooLong => answer_body(alloc, "TooLong"),
             Answer::BadQuery(rule) => text_body(alloc, "Refused", rule.printed(alloc)?.bytes()),
             Answer::Damaged(damage) => {
-                text_body(alloc, "Damaged", damage_text(alloc, &damage)?.as_slice())
+                text_body(alloc, "Damaged", damage_text(alloc, &damage)?.bytes())
             }
             Answer::Keeper => answer_body(alloc, "Keeper"),
             Answer::Memory => answer_body(alloc, "Memory"),

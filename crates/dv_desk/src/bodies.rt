@@ -8,7 +8,6 @@ ghost use Rattle.dv_catalog.specs.Tables.{feed_name};
 ghost use Rattle.dv_desk.specs.Bodies as spec;
 
 use dv_catalog::Catalog;
-use dv_records::Damage;
 use dv_text::{Memory, Stamp, Text, WindowHead};
 use serde_json::{Value, json};
 use std::alloc::Global;
@@ -52,20 +51,6 @@ pub(crate) fn loaded_body(alloc: Global, rows: u64) -> Result<Text, Memory>
 {
     let value = json!(in alloc; {"answer": "Loaded", "rows": rows})?;
     text_of(alloc, &value)
-}
-
-/// A damage: the table, the row and the rule of form.
-pub(crate) fn damage_text(alloc: Global, damage: &Damage) -> Result<Vec<u8>, Memory>
-    ensures { IfOk result (λ text. text.items ≡ spec.damage_text damage.now) }
-{
-    let row = damage.row.to_string(alloc)?;
-    let rule = damage.rule.to_string(alloc)?;
-    let mut text = Vec::from_slice(alloc, damage.table.bytes())?;
-    text.push(b' ')?;
-    text.extend_from_slice(row.as_bytes())?;
-    text.extend_from_slice(b" F")?;
-    text.extend_from_slice(rule.as_bytes())?;
-    Ok(text)
 }
 
 // The name of the feed at a place; without bytes where there is no such feed.

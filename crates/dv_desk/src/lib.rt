@@ -3,22 +3,20 @@
 
 mod answers;
 mod bodies;
-mod lines;
+mod connections;
+mod desks;
 mod misfits;
 mod opened;
 mod posted;
 mod queries;
 mod routes;
-mod served;
 mod serving;
-mod turns;
 mod words;
-mod writing;
 
 pub use answers::Answer;
+pub use dv_serving::Served;
 pub use opened::serve;
 pub use posted::Posted;
 pub use routes::Allowed;
-pub use served::Served;
 pub use serving::serve_link;
 pub use words::{ServeWords, serve_words};

@@ -22,11 +22,9 @@ pub enum Allowed {
     GetPost,
 }
 
-/// What a request asks for.
+/// What is only read.
 #[derive(Clone, Copy)]
-pub(crate) enum Asked<'a> {
-    /// The window of a body is to be loaded.
-    Load { body: &'a [u8] },
+pub(crate) enum Query<'a> {
     /// The heads of the windows.
     Heads,
     /// A mart, at a date.
@@ -35,6 +33,15 @@ pub(crate) enum Asked<'a> {
     TableOf { name: &'a [u8] },
     /// The point-in-time table of a hub in the snapshot at a date.
     PitAt { hub: &'a [u8], date: &'a [u8] },
+}
+
+/// What a request asks for.
+#[derive(Clone, Copy)]
+pub(crate) enum Asked<'a> {
+    /// The window of a body is to be loaded.
+    Load { body: &'a [u8] },
+    /// This is to be read.
+    Read(Query<'a>),
     /// There is no such route.
     NotFound,
     /// The route has no such method, but these.
@@ -104,7 +111,7 @@ fn asked_of_windows(request: &Request) -> Asked<'_>
 {
     let method = request.method.bytes();
     if method == b"GET".as_slice() {
-        Asked::Heads
+        Asked::Read(Query::Heads)
     } else if method == b"POST".as_slice() {
         Asked::Load {
             body: request.body.items(),
@@ -127,15 +134,15 @@ fn asked_there<'a>(request: &'a Request, route: Route<'a>) -> Asked<'a>
         _ if !is_get => Asked::NotAllowed {
             methods: Allowed::Get,
         },
-        Route::Mart { word } => Asked::MartAt {
+        Route::Mart { word } => Asked::Read(Query::MartAt {
             word,
             date: date_of(request),
-        },
-        Route::Table { name } => Asked::TableOf { name },
-        Route::Pit { hub } => Asked::PitAt {
+        }),
+        Route::Table { name } => Asked::Read(Query::TableOf { name }),
+        Route::Pit { hub } => Asked::Read(Query::PitAt {
             hub,
             date: date_of(request),
-        },
+        }),
     }
 }
 

@@ -10,7 +10,7 @@ use Rattle.dv_desk.specs.declared.posted.Posted.TheVariants as posting
 use Rattle.dv_desk.specs.declared.routes.Allowed.TheVariants as allowed
 use Rattle.dv_desk.specs.Answers.{reply_of, status_of}
 use Rattle.dv_desk.specs.Posted.{posted}
-use Rattle.dv_desk.specs.Routes.{Heads, Load, MartAt, NotAllowed, NotFound, PitAt, TableOf, asked}
+use Rattle.dv_desk.specs.Routes.{Load, NotAllowed, NotFound, Read, asked, Heads, MartAt, PitAt, TableOf}
 use Rattle.dv_desk.specs.ServeWords.{port_in, serve_words}
 
 pub record WordsHold : Type 0 where
@@ -35,17 +35,17 @@ abbrev pub dated : List ℕ → List ℕ → Request
 dated path date = record { method = codes "GET"; path = path; at = Some date; body = []; last = false }
 
 pub record RoutesHold : Type 0 where
-  pub heads : asked (get (codes "/windows")) ≡ Heads
+  pub heads : asked (get (codes "/windows")) ≡ Read Heads
   pub load : asked (plain (codes "POST") (codes "/windows")) ≡ Load []
   pub small : asked (plain (codes "get") (codes "/windows")) ≡ NotAllowed allowed.GetPost
   pub slash : asked (get (codes "/windows/")) ≡ NotFound
-  pub mart : asked (dated (codes "/marts/feed:a") (codes "d")) ≡ MartAt (codes "feed:a") (codes "d")
-  pub undated : asked (get (codes "/marts/feed:a")) ≡ MartAt (codes "feed:a") []
+  pub mart : asked (dated (codes "/marts/feed:a") (codes "d")) ≡ Read (MartAt (codes "feed:a") (codes "d"))
+  pub undated : asked (get (codes "/marts/feed:a")) ≡ Read (MartAt (codes "feed:a") [])
   -- a name is all that follows
-  pub nameless : asked (get (codes "/marts/")) ≡ MartAt [] []
-  pub folders : asked (get (codes "/tables/a/b")) ≡ TableOf (codes "a/b")
+  pub nameless : asked (get (codes "/marts/")) ≡ Read (MartAt [] [])
+  pub folders : asked (get (codes "/tables/a/b")) ≡ Read (TableOf (codes "a/b"))
   pub post_mart : asked (plain (codes "POST") (codes "/marts/")) ≡ NotAllowed allowed.Get
-  pub pit : asked (dated (codes "/pits/a") (codes "d")) ≡ PitAt (codes "a") (codes "d")
+  pub pit : asked (dated (codes "/pits/a") (codes "d")) ≡ Read (PitAt (codes "a") (codes "d"))
   pub root : asked (plain (codes "POST") (codes "/")) ≡ NotFound
 
 pub record PostedHold : Type 0 where

@@ -1,12 +1,12 @@
 use Rattle.std.proofs.Common.{ap, ◌∙◌}
 use Rattle.dv_desk.specs.Bodies.{heads_body}
-use Rattle.dv_desk.proofs.Read.{heads_due}
+use Rattle.dv_desk.proofs.Read.{heads_looked}
 use Rattle.dv_desk.proofs.queries.heads.Goals as goal
 
-pub returns-clause-due : goal.returns-clause-due
-returns-clause-due c =
+pub returns : goal.returns
+returns c =
     let office = c.args.office.now in
-    heads_due office c.in_ok-text.text (
+    heads_looked office c.in_ok-text.text (
     c.in_ok-text.ensures
     ∙ ap (λ m. heads_body m c.items-sealed.result.now c.begun_load.result) c.catalog.ensures.value
     ∙ ap (λ heads. heads_body office.vault.mapping heads c.begun_load.result) (c.items-sealed.ensures ∙ c.heads.ensures.value)

@@ -7,13 +7,11 @@ use Rattle.dv_mart.specs.Whats.{table_named}
 use Rattle.dv_records.specs.Stores.{rows_in}
 use Rattle.dv_texts.specs.TableTexts.{table_text}
 use Rattle.dv_vault.specs.Vaults.{RawVault}
-use Rattle.dv_desk.proofs.Read.{has_there, none_of, same_behind, table_due, unknown_table}
+use Rattle.dv_desk.proofs.Read.{has_there, none_of, same_behind, table_looked, unknown_table}
 use Rattle.dv_desk.proofs.queries.table.Goals as goal
 
-pub returns-in_default-clause-due : goal.returns-in_default-clause-due
-returns-in_default-clause-due c = λ s agrees.
-    let mapping = c.args.office.now.vault.mapping in
-    unknown_table mapping s c.args.name.now
+pub returns-in_default : goal.returns-in_default
+returns-in_default c = unknown_table c.args.office.now c.args.name.now
     (ap (λ m. table_named m c.args.name.now) (sym c.catalog.ensures.value) ∙ sym c.in_ok-table.ensures.named ∙ none_of c.in_ok-table.field-0 c.in_default.not-Some)
 
 pub whole_table_text-requires-clause-among : goal.whole_table_text-requires-clause-among
@@ -22,13 +20,13 @@ whole_table_text-requires-clause-among c = subst (λ m. Contains (tables m) c.in
 pub whole_table_text-requires-clause-kind : goal.whole_table_text-requires-clause-kind
 whole_table_text-requires-clause-kind c = c.rows_begun.ensures.kind
 
-pub returns-clause-due : goal.returns-clause-due
-returns-clause-due c =
+pub returns : goal.returns
+returns c =
     let office = c.args.office.now in
     let table = c.in-Some.table in
     let more = option_map (λ rows. rows.now) c.rows_begun.result in
     let there : Contains (tables office.vault.mapping) table = subst (λ m. Contains (tables m) table) c.catalog.ensures.value (rw c.in-Some.is at c.in_ok-table.ensures.there) in
-    table_due office c.args.name.now table
+    table_looked office c.args.name.now table
     (ap (λ m. table_named m c.args.name.now) (sym c.catalog.ensures.value) ∙ sym c.in_ok-table.ensures.named ∙ c.in-Some.is)
     (has_there table office.vault office.begun c.rows_begun.ensures.among there) c.in_ok-text.text
     (c.in_ok-text.ensures (subst (λ (v : RawVault). HasKind v.tables table) (sym c.vault.ensures) c.rows_begun.ensures.held)

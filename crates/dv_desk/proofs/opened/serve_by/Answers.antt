@@ -1,0 +1,49 @@
+use Rattle.std.specs.Prelude.{Err}
+use Rattle.std.proofs.Common.{ap, inl, inr, refl, rules, ◌∙◌}
+use Rattle.dv_outside.specs.Seen.{seen}
+use Rattle.dv_desk.specs.Desks.{moment_of}
+use Rattle.dv_desk.proofs.DoorEnds.{fault_is, unstarted_cause, unstarted_damaged}
+use Rattle.dv_desk.proofs.Led.{served_doors}
+use Rattle.dv_desk.proofs.opened.serve_by.Goals as goal
+
+pub returns-in-Err-clause-sound : goal.returns-in-Err-clause-sound
+returns-in-Err-clause-sound g c = λ damaged.
+    let found = unstarted_damaged _ c.end_command.result c.in-Err.fault (rw c.from.ensures at c.end_command.ensures.says) damaged in
+    c.in-Err.ensures.undamaged found.0 (ap Err found.1)
+
+pub returns-in-Err-clause-says : goal.returns-in-Err-clause-says
+returns-in-Err-clause-says g c = inl (record {
+  fault = c.in-Err.fault;
+  is_fault = fault_is g.H.KeyDigest.function (g.K.Keeper.store c.args.keeper.now) (g.K.Keeper.faults c.args.keeper.now) (g.K.Keeper.faults c.start.new.keeper) c.in-Err.fault
+      (λ e. c.in-Err.ensures.none (ap Err e)) (λ damage e. (c.in-Err.ensures.damaged damage (ap Err e), c.in-Err.ensures.formed damage (ap Err e))) (λ e. c.in-Err.ensures.cause (ap Err e));
+  doors = refl;
+  store = c.start.ensures.store;
+  ends = rw c.from.ensures at c.end_command.ensures.says;
+})
+
+pub returns-in-Err-clause-cause : goal.returns-in-Err-clause-cause
+returns-in-Err-clause-cause g c = unstarted_cause _ _ (seen g.K.Keeper.store g.K.Keeper.faults c.args.keeper.now c.start.new.keeper) _ c.end_command.result c.in-Err.fault (λ e. c.in-Err.ensures.cause (ap Err e)) (rw c.from.ensures at c.end_command.ensures.says)
+
+pub returns-in-Ok-serve_doors-clause-says : goal.returns-in-Ok-serve_doors-clause-says
+returns-in-Ok-serve_doors-clause-says g c = inr (served_doors g.H.KeyDigest.function _ _ _ _ _ _
+    (record { held = c.in-Ok.office; store = g.K.Keeper.store c.start.new.keeper; faults = g.K.Keeper.faults c.start.new.keeper }) (moment_of g.K.Keeper c.serve_doors.new.self) c.serve_doors.result
+    (record {
+      store_is = c.start.ensures.store;
+      fresh = c.in-Ok.ensures.fresh;
+      width_is = c.in-Ok.ensures.width;
+      agrees = λ s told. c.in-Ok.ensures.agrees s (c.start.ensures.store ∙ told);
+      in_form = c.in-Ok.ensures.in_form;
+      stands = c.in-Ok.ensures.stands;
+    }) (search rules) c.start.ensures.later (search rules) c.serve_doors.ensures.serves (rw c.in-Ok-serve_doors.is (refl, refl)))
+
+pub returns-clause-says : goal.returns-clause-says
+returns-clause-says g c = inr (served_doors g.H.KeyDigest.function _ _ _ _ _ _
+    (record { held = c.in-Ok.office; store = g.K.Keeper.store c.start.new.keeper; faults = g.K.Keeper.faults c.start.new.keeper }) (moment_of g.K.Keeper c.serve_doors.new.self) c.serve_doors.result
+    (record {
+      store_is = c.start.ensures.store;
+      fresh = c.in-Ok.ensures.fresh;
+      width_is = c.in-Ok.ensures.width;
+      agrees = λ s told. c.in-Ok.ensures.agrees s (c.start.ensures.store ∙ told);
+      in_form = c.in-Ok.ensures.in_form;
+      stands = c.in-Ok.ensures.stands;
+    }) (search rules) c.start.ensures.later (search rules) c.serve_doors.ensures.serves (rw c.in-Err-serve_doors.is c.end_named.ensures.says))

@@ -1,0 +1,4 @@
+pub mod Chained
+pub mod Doored
+pub mod Linked
+pub mod Stepped

@@ -1,0 +1,5 @@
+pub mod Doors
+pub mod Exchanges
+pub mod Serving
+pub mod Steps
+pub mod Writing
