@@ -1,7 +1,8 @@
 """Checks of commands that are killed: where they write past a certain byte, and after a while.
 
-The log begins at 0 in each command, and the file takes it at the end. So a limit to the size of files kills at a certain
-place of a command, however fast the machine is. Where a kill after a while comes, nobody can say, and no check asks.
+A command writes its log from 0 on, or behind what a killed one left, and puts it into the file at the end. So a limit to the
+size of files kills at a certain place of a command, however fast the machine is. Where a kill after a while comes, nobody can
+say, and no check asks.
 """
 import collections
 import signal

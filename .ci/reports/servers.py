@@ -41,8 +41,8 @@ class Server:
         self.tools, self.folder = tools, pathlib.Path(tempfile.mkdtemp())
         self.folder.chmod(0o777)
         self.data = self.folder / "data"
-        as_postgres(tools / "initdb", "-U", "postgres", "-A", "trust", "-E", "UTF8", "--no-locale", "--wal-segsize=1", "-D",
-                    self.data)
+        as_postgres(tools / "initdb", "-U", "postgres", "-A", "trust", "-E", "UTF8", "--no-locale", "--no-sync", "--wal-segsize=1",
+                    "-D", self.data)
         options = OPTIONS.format(folder=self.folder) + more
         as_postgres(tools / "pg_ctl", "-w", "-t", LONGEST_WAIT, "-D", self.data, "-o", options, "-l", self.folder / "log", "start",
                     preexec_fn=limits)

@@ -89,8 +89,8 @@ class Pool:
 class Source:
     """What the systems have at a date."""
 
-    def __init__(self, customers):
-        self.pick = random.Random(1)
+    def __init__(self, customers, seed=1):
+        self.pick = random.Random(seed)
         self.products = max(10, customers // 20)
         self.window = 1
         self.double = customers // 1000

@@ -27,12 +27,14 @@ from runs import built_program, head, row, run  # noqa: E402
 
 TOOL = TOP / "tools/vaultdesk-report"
 DATE = "2024-03-03T02:00:00"
-MARTS = ("feed_customers", "hub_customer", "feed_lines")
+MARTS = ("feed_customers", "hub_customer", "feed_lines", "path_sold")
+PATH = 'path = [{ name = "sold", feeds = ["placements", "lines"], via = ["sales_order"] }]\n'
 
 
 def made_vault(program, folder, customers):
     """A vault with four windows, and its tables as CSV."""
     extracts.write(folder, customers, 4)
+    (folder / "mapping.toml").write_text(PATH + extracts.MAPPING)
     run([program, "init"], folder, os.devnull)
     for number in range(1, 5):
         run([program, "load", f"w{number}.toml"], folder, os.devnull)

@@ -38,8 +38,8 @@ def views_of(mapping):
 class Schema:
     """What a report of a mapping has in PostgreSQL, as statements."""
 
-    def __init__(self, mapping):
-        self.mapping, self.views_of = mapping, views_of(mapping)
+    def __init__(self, mapping, views=None):
+        self.mapping, self.views_of = mapping, views or views_of(mapping)
         self.tables, self.snapshots = list(mapping.tables()), list(taken.snapshot_tables(mapping))
         self.views = list(self.views_of.all())
         columns = {each.name: each.columns for each in (*self.tables, *self.snapshots, *self.views)}

@@ -1,5 +1,6 @@
 """A report over several servers: rows live on the server that their hash key names, so a hub or a link, its satellites and
-its statuses are together there. A first server has no rows, and asks the others by postgres_fdw.
+its statuses are together there. The keys of hubs to which links refer are on each server, as they are in the rows of feeds.
+A first server has no rows, and asks the others by postgres_fdw.
 
 Each run makes schemas of its own on the servers of the rows, called NAME#1, NAME#2 and so on, and then turns the first server
 to them in one transaction. So a run that breaks off leaves the report as it was; what it left over is removed by the next.
@@ -9,13 +10,17 @@ import contextlib
 import hashlib
 import itertools
 import re
+import shutil
+import tempfile
 
 from report import postgres
+from report.mapping import OPEN_END
 from report.names import literal, quoted
 from report.postgres import OWN_TABLES
 from report.psql import Script, copied, session
 from report.sqlite import listed
 from report.trouble import DIFFERS, USAGE, Trouble
+from report.views import View, Views, alias
 
 SETTING = re.compile(r"(\w+)\s*=\s*('(?:[^'\\]|\\.)*'|\S+)\s*")
 OF_USER = ("user", "password")
@@ -39,6 +44,55 @@ def options_of(settings):
     return ", ".join(f"{name} {literal(value)}" for name, value in settings.items())
 
 
+class SpreadViews(Views):
+    """Views over rows that are spread. What a feed of a link has is worked out where the link's rows are, with the keys of
+    hubs that each server has; a path then joins what its feeds have."""
+
+    # postgres_fdw sends no `=` with a constant to a server, where the columns have a collation of their own.
+    is_open = "{1} >= '" + OPEN_END + "'"
+
+    def __init__(self, mapping):
+        super().__init__(mapping, "greatest", "least")
+
+    def keys_table(self, hub):
+        return quoted(f"keys_{hub}")
+
+    def key_of_link(self, hash_key):
+        return hash_key
+
+    def steps(self):
+        """What each feed of a path has: the hash keys and the keys' parts of its hubs, from when to when."""
+        for name in dict.fromkeys(feed for path in self.mapping.paths.values() for feed in path.feeds):
+            yield self.step(self.mapping.feeds[name])
+
+    def step(self, feed):
+        shown, names, joins = ["p.hash_key"], ["hash_key"], []
+        for at, hub in enumerate(feed.hubs):
+            joins.append(f"JOIN {self.keys_table(hub)} h{at} ON h{at}.hash_key = l.{quoted(hub)}")
+            shown += [f"h{at}.{each}" for each in ("hash_key", *self.mapping.parts_of(hub))]
+            names += [f"{hub}.hash_key", *(f"{hub}.{number}" for number in range(1, self.mapping.hubs[hub] + 1))]
+        shown, names = [*shown, 'p."begin"', 'p."end"'], [*names, "begin", "end"]
+        query = (f"\nSELECT {', '.join(map(alias, shown, names))}\nFROM {quoted('present_' + feed.name)} p\n"
+                 f"JOIN {quoted(feed.parent)} l ON l.hash_key = p.hash_key\n" + "\n".join(joins))
+        return View(f"step_{feed.name}", tuple(names), query,
+                    f"all keys that the feed {feed.name} ever had with no reference missing, from when to when", "hash_key")
+
+    def path_query(self, path, conditions, more):
+        columns, values, joins = [], [], []
+        for at, label in enumerate(path.labels):
+            feed = self.mapping.feeds[path.feeds[at]]
+            joins.append(f"{quoted('step_' + feed.name)} p{at}")
+            if at:
+                via = quoted(f"{path.via[at - 1]}.hash_key")
+                joins[-1] = f"JOIN {joins[-1]} ON p{at}.{via} = p{at - 1}.{via}"
+            names = [f"{hub}.{number}" for hub in feed.hubs for number in range(1, self.mapping.hubs[hub] + 1)]
+            columns += [f"{label}.{name}" for name in names]
+            values += [f"p{at}.{quoted(name)}" for name in names]
+        where = f"\nWHERE {' AND '.join(conditions)}" if conditions else ""
+        shown = ", ".join([*map(alias, values, columns), *more])
+        return columns, f"\nSELECT {shown}\nFROM {chr(10).join(joins)}{where}"
+
+
 class Layout:
     """What stands where: on the servers of the rows, and on the first one."""
 
@@ -47,10 +101,11 @@ class Layout:
         self.settings, self.bounds = [settings_of(each) for each in connections], bounds_of(len(connections))
         self.local = [view for view in schema.views if view.of_key]
         self.marts = [view for view in schema.views if not view.of_key]
+        self.known_keys = sorted({hub for hubs in schema.mapping.links.values() for hub in hubs})
 
     def digest(self):
         """Tells this report from one of another mapping or other servers."""
-        told = [*self.schema.before(), *self.schema.after(), *map(str, self.settings)]
+        told = [*self.before(), *self.schema.after(), *map(str, self.settings)]
         return hashlib.sha256("\n".join(told).encode()).hexdigest()
 
     def parted(self):
@@ -62,13 +117,22 @@ class Layout:
         for view in self.local:
             yield view.name, view.columns, view.of_key
 
+    def before(self):
+        """Statements of a server of rows, before the rows: the tables."""
+        yield from self.schema.before()
+        for hub in self.known_keys:
+            parts = ", ".join(f'{part} text COLLATE "C" NOT NULL' for part in self.schema.mapping.parts_of(hub))
+            yield f'CREATE TABLE {quoted("keys_" + hub)} (hash_key text COLLATE "C" NOT NULL, {parts})'
+
     def of_rows(self):
         """Statements of a server of rows, behind the rows: keys, indexes, references, and the views of one hash key."""
         yield from self.schema.keys()
+        yield from (f"ALTER TABLE {quoted('keys_' + hub)} ADD PRIMARY KEY (hash_key)" for hub in self.known_keys)
         for view in self.local:
             yield f"CREATE VIEW {quoted(view.name)} ({listed(view.columns)}) AS{view.query}"
         yield from self.schema.references()
-        yield from (f"ANALYZE {quoted(table.name)}" for table in self.schema.tables)
+        yield from (f"ANALYZE {quoted(name)}" for name in (*(table.name for table in self.schema.tables),
+                                                           *(f"keys_{hub}" for hub in self.known_keys)))
 
     def server(self, number):
         return quoted(f"{self.name}#{number + 1}")
@@ -110,8 +174,9 @@ class ShardedReport:
 
     def __init__(self, mapping, options):
         if options.since or options.out:
-            raise Trouble("--shards goes with neither --since nor --out: the report is written anew", USAGE)
-        self.schema, self.database, self.name_of_schema = postgres.Schema(mapping), options.database, options.schema
+            raise Trouble("--shards goes with neither --since nor --out: over several servers a report is written anew", USAGE)
+        self.schema = postgres.Schema(mapping, SpreadViews(mapping))
+        self.database, self.name_of_schema = options.database, options.schema
         self.layout = Layout(self.schema, options.shards, options.schema)
         self.is_there, self.run_number, self.scripts = False, 1, []
 
@@ -152,10 +217,23 @@ class ShardedReport:
             self.scripts.append(script)
             run(script, *postgres.SETTINGS, *(f"DROP SCHEMA {quoted(name)} CASCADE" for name in left),
                 f"CREATE SCHEMA {quoted(self.rows_schema(self.run_number))}",
-                f"SET LOCAL search_path TO {quoted(self.rows_schema(self.run_number))}", *self.schema.before())
+                f"SET LOCAL search_path TO {quoted(self.rows_schema(self.run_number))}", *self.layout.before())
 
     def take(self, table, rows):
-        self.copy(table, rows, 0)
+        if table.name in {f"hub_{hub}" for hub in self.layout.known_keys}:
+            self.copy_hub(table, rows)
+        else:
+            self.copy(table, rows, 0)
+
+    def copy_hub(self, table, rows):
+        """Sends a hub's rows, and their keys to each server."""
+        with tempfile.TemporaryFile("w+", encoding="utf-8", newline="") as keys:
+            self.copy(table, noted(rows, keys), 0)
+            for script in self.scripts:
+                keys.seek(0)
+                script.write(f"COPY {quoted('keys_' + table.name.removeprefix('hub_'))} FROM STDIN;\n")
+                shutil.copyfileobj(keys, script)
+                script.write("\\.\n")
 
     def copy(self, table, rows, key):
         """Sends each row to the server that its hash key names. Takes the place of the hash key in a row."""
@@ -197,6 +275,13 @@ class ShardedReport:
             f"INSERT INTO report_about VALUES ('schema', {literal(self.layout.digest())}), ('run', '{self.run_number}')",
             *postgres.own_rows(windows, dates), "COMMIT")
         self.scripts.pop().close()
+
+
+def noted(rows, keys):
+    """The same rows of a hub, of which hash keys and keys' parts are written to a file as COPY takes them."""
+    for row in rows:
+        keys.write(copied((row[0], *row[3:])))
+        yield row
 
 
 def run(script, *statements):

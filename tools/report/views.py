@@ -46,6 +46,9 @@ class Views:
     """The views over a mapping's raw tables. Takes the mapping, and the words of the database for the later and the
     earlier of two texts."""
 
+    # The condition that a row is in a mart after the last window.
+    is_open = "{1} = '" + OPEN_END + "'"
+
     def __init__(self, mapping, later, earlier):
         self.mapping, self.later, self.earlier = mapping, later, earlier
 
@@ -55,6 +58,7 @@ class Views:
         yield from map(self.present, feeds)
         yield from map(self.now_status, feeds)
         yield from (self.rows(feed) for feed in feeds if feed.described_by)
+        yield from self.steps()
         for history in self.histories():
             yield history.view
         for history in self.histories():
@@ -69,7 +73,7 @@ class Views:
 
     def now_view(self, history):
         """The mart after the last window."""
-        return View(history.now_name, history.mart_columns, self.mart_query(history, "{1} = '" + OPEN_END + "'"),
+        return View(history.now_name, history.mart_columns, self.mart_query(history, self.is_open),
                     f"the mart {history.mart} after the last window")
 
     def mart_query(self, history, condition):
@@ -83,7 +87,19 @@ class Views:
         where = condition.format(f"m.{quoted(history.begin)}", f"m.{quoted(history.end)}")
         return f"\nSELECT {columns}\nFROM {quoted(history.view.name)} m\nWHERE {where}"
 
+    def steps(self):
+        """Views on which the marts of paths stand, if there are such."""
+        return ()
+
     # ---- keys
+
+    def keys_table(self, hub):
+        """The table that has the key's parts of each hash key of a hub to which a link refers."""
+        return quoted(f"hub_{hub}")
+
+    def key_of_link(self, hash_key):
+        """The column of a link's hash key, where a row is made of rows of one hash key and of the keys of hubs."""
+        return ""
 
     def present(self, feed):
         """From when to when each key was in a feed."""
@@ -113,7 +129,7 @@ JOIN (SELECT hash_key, max(load_date) AS load_date FROM {quoted('status_' + feed
                 f"h0.{part}" for part in self.mapping.parts_of(feed.of)]
         joins, parts = [f"JOIN {quoted(feed.parent)} k ON k.hash_key = {hash_key}"], []
         for at, hub in enumerate(feed.hubs):
-            joins.append(f"LEFT JOIN {quoted('hub_' + hub)} h{at} ON h{at}.hash_key = k.{quoted(hub)}")
+            joins.append(f"LEFT JOIN {self.keys_table(hub)} h{at} ON h{at}.hash_key = k.{quoted(hub)}")
             parts += [f"coalesce(h{at}.{part}, '')" for part in self.mapping.parts_of(hub)]
         return "\n".join(joins), parts
 
@@ -132,7 +148,8 @@ JOIN (SELECT hash_key, max(load_date) AS load_date FROM {quoted('status_' + feed
         columns = [alias(key, hash_key), *map(alias, [*parts, *values], feed.columns), alias(since, begin), alias(until, end)]
         query = f"\nSELECT {', '.join(columns)}\nFROM {source} r\n{joins}"
         view = View(f"history_feed_{feed.name}", (hash_key, *feed.columns, begin, end), query,
-                    f"all rows that the feed {feed.name} ever had, each from when to when", hash_key if feed.is_of_hub else "")
+                    f"all rows that the feed {feed.name} ever had, each from when to when",
+                    hash_key if feed.is_of_hub else self.key_of_link(hash_key))
         return History(view, f"feed:{feed.name}", feed.columns, feed.columns, begin, end, feed.columns)
 
     def rows(self, feed):
@@ -274,5 +291,5 @@ FROM (SELECT t.hash_key, t.load_date, t."begin", t."end",
       FROM {quoted('eff_' + feed.name)} t) e
 {joins}"""
         view = View(f"history_period_{feed.name}", (hash_key, *columns, known, until), query,
-                    f"all periods of the feed {feed.name}, as they were known from when to when")
+                    f"all periods of the feed {feed.name}, as they were known from when to when", self.key_of_link(hash_key))
         return History(view, f"period:{feed.name}", columns, columns, known, until, columns)

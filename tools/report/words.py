@@ -45,7 +45,7 @@ def read_words(words):
     postgres.add_argument("--out", type=pathlib.Path, metavar="FILE", help="writes a script for psql, and asks no server")
     for each in (sqlite, postgres):
         each.add_argument("--since", type=date, metavar="DATE",
-                          help="brings only later load dates; the rows up to it are compared")
+                          help="brings only later load dates; the rows up to it are compared; not with --shards")
     compare = commands.add_parser("compare", help="compares a report with the vault")
     compare.add_argument("--sqlite", type=pathlib.Path, metavar="FILE", help="a report in SQLite; else one in PostgreSQL")
     compare.add_argument("--at", type=date, action="append", default=[], metavar="DATE",
@@ -55,7 +55,8 @@ def read_words(words):
     for each in (postgres, compare, warehouse):
         add_server(each)
     postgres.add_argument("--shards", action="append", default=[], metavar="CONNECTION",
-                          help="a server of the rows, such as 'host=db1 dbname=vault user=report'; given once for each")
+                          help="a server of the rows, such as 'host=db1 dbname=vault user=report'; given once for each. The report "
+                               "is written anew each time: no transaction is over several servers, so --since could be half done")
     for each in (sqlite, postgres, compare):
         add_common(each)
     return reader.parse_args(words)
