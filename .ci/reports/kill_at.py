@@ -1,7 +1,7 @@
 """Runs tools/vaultdesk-report and kills it at one of its steps: before or after a call by which it changes something outside.
 
-Usage: kill_at.py STEP WORD.. Steps count from 1. A run that has fewer steps goes to its end, and its number is written to
-standard error where STEP is 0.
+Usage: kill_at.py STEP WORD.. Steps count from 1. A run that has fewer steps goes to its end. Where STEP is 0, their number is
+written to standard error, and behind it the first and the last step of each place in the code.
 """
 import os
 import pathlib
@@ -20,6 +20,7 @@ FUNCTIONS = {"begun", "end", "answer", "asked", "finish", "abandon"}
 UNEVEN = {"wait_for", "has_port", "free_port", "windows"}
 ours = str(TOOLS / "report")
 count, last = 0, int(sys.argv[1])
+places = {}  # the first and the last step of each place in the code
 
 
 def is_uneven(frame):
@@ -38,6 +39,8 @@ def step(frame, event, called):
     name = getattr(called, "__name__", "") if event.startswith("c_") else frame.f_code.co_name
     if name in (CALLS if event.startswith("c_") else FUNCTIONS):
         count += 1
+        place = frame.f_code.co_filename, frame.f_lineno, event, name
+        places[place] = places.get(place, (count,))[0], count
         if count == last:
             os.kill(os.getpid(), signal.SIGKILL)
 
@@ -46,5 +49,5 @@ sys.setprofile(step)
 status = run.main(sys.argv[2:])
 sys.setprofile(None)
 if last == 0:
-    print(count, file=sys.stderr)
+    print(count, *sorted({step for pair in places.values() for step in pair}), file=sys.stderr)
 sys.exit(status)

@@ -10,7 +10,7 @@ from reports.bench import LONGEST_RUN
 from reports.refused import contents
 
 KILL_AT = pathlib.Path(__file__).resolve().parent / "kill_at.py"
-FEW, ALL = 4, 60
+FEW = 4
 BEFORE, AFTER = "2024-03-01T02:00:00", "2024-04-01T02:00:00"
 
 
@@ -24,9 +24,10 @@ def killed(vault, step, words):
 
 
 def steps_of(bench, vault, words):
-    """At which steps a run is killed: at some from the first to the last."""
-    count, most = int(killed(vault, 0, words).err), ALL if bench.is_all else FEW
-    return sorted({1 + at * (count - 1) // (most - 1) for at in range(most)})
+    """At which steps a run is killed: at a few from the first to the last, or at the first and the last of each place in the
+    code."""
+    count, *placed = map(int, killed(vault, 0, words).err.split())
+    return placed if bench.is_all else sorted({1 + at * (count - 1) // (FEW - 1) for at in range(FEW)})
 
 
 def kill_each(bench, vault, target, words, old):
