@@ -18,9 +18,9 @@ use Rattle.dv_records.specs.declared.stores.Store.{Store}
 use Rattle.dv_records.specs.Changes.{Changes, changed}
 use Rattle.dv_records.specs.Steps.{InitStep, IsStored}
 use Rattle.dv_records.specs.Stores.{with_mapping}
-use Rattle.dv_start.specs.Damages.{IsNotRead, IsReadAs, mapping_damage}
-use Rattle.dv_start.specs.declared.faults.StoreFault.{StoreFault}
-use Rattle.dv_start.specs.declared.faults.StoreFault.TheVariants as faults
+use Rattle.dv_restore.specs.Damages.{IsNotRead, IsReadAs, mapping_damage}
+use Rattle.dv_restore.specs.declared.faults.StoreFault.{StoreFault}
+use Rattle.dv_restore.specs.declared.faults.StoreFault.TheVariants as faults
 use Rattle.dv_given.specs.declared.endings.Ending.{Ending}
 use Rattle.dv_given.specs.declared.endings.Ending.TheVariants as endings
 use Rattle.dv_given.specs.declared.mapping_files.MappingFile.{MappingFile}

@@ -10,8 +10,8 @@ use Rattle.dv_records.specs.declared.answers.Damage.{Damage}
 use Rattle.dv_records.specs.declared.stores.Store.{Store}
 use Rattle.dv_records.specs.Standing.{Stands}
 use Rattle.dv_records.specs.States.{State}
-use Rattle.dv_start.specs.Damages.{IsNamedBySome}
-use Rattle.dv_start.specs.declared.faults.StoreFault.TheVariants as unread
+use Rattle.dv_restore.specs.Damages.{IsNamedBySome}
+use Rattle.dv_restore.specs.declared.faults.StoreFault.TheVariants as unread
 use Rattle.dv_window.specs.declared.faults.StartFault.{StartFault}
 use Rattle.dv_window.specs.declared.faults.StartFault.TheVariants as faults
 use Rattle.dv_window.specs.Offices.{Held, IsIn, IsLeftIn}

@@ -11,15 +11,15 @@ use Rattle.dv_mart.specs.declared.query_rules.QueryRule.{QueryRule}
 use Rattle.dv_mart.specs.declared.whats.What.{What}
 use Rattle.dv_mart.specs.MartTexts.{mart_text, rows_behind as behind_in_marts}
 use Rattle.dv_mart.specs.Whats.{offered_mart, table_named}
-use Rattle.dv_texts.specs.TableTexts.{table_text}
-use Rattle.dv_texts.specs.Texts.{windows_text}
+use Rattle.dv_print.specs.TableTexts.{table_text}
+use Rattle.dv_print.specs.Texts.{windows_text}
 use Rattle.dv_records.specs.declared.stores.Rows.{Rows}
 use Rattle.dv_records.specs.declared.stores.Store.{Store}
 use Rattle.dv_records.specs.Standing.{Stands}
 use Rattle.dv_records.specs.States.{State, head_of}
 use Rattle.dv_records.specs.Stores.{rows_in}
-use Rattle.dv_start.specs.Completions.{rows_there}
-use Rattle.dv_start.specs.declared.restored.Begun.{Begun}
+use Rattle.dv_restore.specs.Completions.{rows_there}
+use Rattle.dv_restore.specs.declared.restored.Begun.{Begun}
 use Rattle.dv_vault.specs.Vaults.{HasSealed, IsVaultOf, RawVault, has_table}
 use Rattle.dv_vault.proofs.OtherTables.{with_has}
 use Rattle.dv_vault.proofs.VaultFacts.{vault_has}

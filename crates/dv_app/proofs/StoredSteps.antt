@@ -10,7 +10,7 @@ use Rattle.dv_text.specs.Stamps.{stamp_of}
 use Rattle.dv_text.specs.Told.{Told}
 use Rattle.dv_catalog.specs.Entries.{Mapping}
 use Rattle.dv_catalog.specs.MappingFiles.{read_mapping}
-use Rattle.dv_form.proofs.Widths.{of_width}
+use Rattle.dv_store_rules.proofs.Widths.{of_width}
 use Rattle.dv_mart.specs.declared.query_rules.QueryRule.TheVariants.{NoSnapshot}
 use Rattle.dv_records.specs.declared.answers.Damage.{Damage}
 use Rattle.dv_records.specs.declared.snapshots.SnapHead.{SnapHead}

@@ -4,7 +4,7 @@ use Rattle.dv_text.specs.Keys.{DigestFunction, hashes_of}
 use Rattle.dv_text.specs.Stamps.{stamp_of}
 use Rattle.dv_text.specs.Told.{Told}
 use Rattle.dv_catalog.specs.Entries.{Mapping}
-use Rattle.dv_form.specs.SnapshotHeads.{snapshot_heads}
+use Rattle.dv_store_rules.specs.SnapshotHeads.{snapshot_heads}
 use Rattle.dv_outside.specs.declared.statuses.Status.TheVariants as statuses
 use Rattle.dv_records.specs.declared.answers.Damage.{Damage}
 use Rattle.dv_records.specs.declared.snapshots.SnapHead.{SnapHead}
@@ -12,7 +12,7 @@ use Rattle.dv_records.specs.declared.snapshots.SnapId.{SnapId}
 use Rattle.dv_records.specs.declared.stores.Store.{Store}
 use Rattle.dv_snapshots.specs.StoredRows.{asked_of, head_at}
 use Rattle.dv_snapshots.specs.StoredTexts.{IsDamageOf, IsRowOf}
-use Rattle.dv_start.specs.Damages.{IsFirstDamage, IsNamedBySome, IsNotRead, mapping_damage}
+use Rattle.dv_restore.specs.Damages.{IsFirstDamage, IsNamedBySome, IsNotRead, mapping_damage}
 use Rattle.dv_given.specs.Tried.{Tried}
 use Rattle.dv_app.specs.Kept.{IsOpenedBy, IsStanding, damaged_said, stored_id}
 use Rattle.dv_app.specs.Words.{Init, KeptCommand, Stored, StoredTable}

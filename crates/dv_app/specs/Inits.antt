@@ -8,9 +8,9 @@ use Rattle.dv_records.specs.declared.answers.InitAnswer.{InitAnswer}
 use Rattle.dv_records.specs.declared.answers.InitAnswer.TheVariants as init
 use Rattle.dv_records.specs.declared.stores.Store.{Store}
 use Rattle.dv_records.specs.Steps.{InitStep}
-use Rattle.dv_start.specs.Damages.{IsNotRead, mapping_damage}
-use Rattle.dv_start.specs.declared.faults.StoreFault.{StoreFault}
-use Rattle.dv_start.specs.declared.faults.StoreFault.TheVariants as faults
+use Rattle.dv_restore.specs.Damages.{IsNotRead, mapping_damage}
+use Rattle.dv_restore.specs.declared.faults.StoreFault.{StoreFault}
+use Rattle.dv_restore.specs.declared.faults.StoreFault.TheVariants as faults
 
 -- the file is as the stored mapping is, or another one
 abbrev pub Compares : Mapping → Mapping → InitAnswer → Type 0

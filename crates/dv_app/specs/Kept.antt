@@ -14,8 +14,8 @@ use Rattle.dv_mart.specs.declared.query_rules.QueryRule.{QueryRule}
 use Rattle.dv_mart.specs.declared.query_rules.QueryRule.TheVariants.{UnknownMart, BadDate, TooLarge, Future, NoSnapshot, UnknownTable, SnapshotsFull, NothingOpen}
 use Rattle.dv_mart.specs.declared.whats.What.{What}
 use Rattle.dv_mart.specs.MartTexts.{mart_text, name_of_path}
-use Rattle.dv_texts.specs.TableTexts.{table_text}
-use Rattle.dv_texts.specs.Texts.{windows_text}
+use Rattle.dv_print.specs.TableTexts.{table_text}
+use Rattle.dv_print.specs.Texts.{windows_text}
 use Rattle.dv_mart.specs.Whats.{hub_place, offered_mart, path_place, table_named}
 use Rattle.dv_outside.specs.declared.folders.NamedFile.{NamedFile}
 use Rattle.dv_outside.specs.declared.statuses.Status.TheVariants as statuses
@@ -37,7 +37,7 @@ use Rattle.dv_records.specs.Steps.{InitStep, LoadStep, ResumeStep, SnapStep}
 use Rattle.dv_records.specs.Stores.{rows_in}
 use Rattle.dv_records.specs.Vault.{vault}
 use Rattle.dv_snapshots.specs.StoredTexts.{table_text as snap_text}
-use Rattle.dv_start.specs.Damages.{IsFirstDamage, IsInForm, IsNotRead, mapping_damage}
+use Rattle.dv_restore.specs.Damages.{IsFirstDamage, IsInForm, IsNotRead, mapping_damage}
 use Rattle.dv_given.specs.Given.{absent_line, query_line, read_fault_line, refused_mapping_line}
 use Rattle.dv_given.specs.Lines.{damaged_line, differs_line, keeper_line, mapping_file, memory_line, none_line}
 use Rattle.dv_given.specs.Says.{IsReadFor}

@@ -16,7 +16,7 @@ use dv_catalog::Catalog;
 use dv_given::{Ending, MappingFile, read_mapping_file};
 use dv_outside::{Folder, Gate};
 use dv_records::{InitAnswer, Keeper, KeeperError};
-use dv_start::{StoreFault, stored_mapping};
+use dv_restore::{StoreFault, stored_mapping};
 use dv_text::{KeyDigest, Text};
 use std::alloc::Global;
 

@@ -6,7 +6,7 @@ use crate::fault::BridgeFault;
 use crate::joins::{check_room, joined, rows_of};
 use crate::keyed_links::by_key;
 use crate::whole_links::whole_links;
-use dv_keys::LinkTable;
+use dv_hub_link::LinkTable;
 use dv_records::BridgeRow;
 use dv_text::{List, Stamp};
 use dv_track::StatusTable;

@@ -7,7 +7,7 @@ ghost use Rattle.dv_bridge.specs.Joins.{row_of};
 ghost use Rattle.dv_bridge.specs.ZeroKeys as spec;
 ghost use Rattle.dv_records.specs.ReadBack.{link_row_by};
 
-use dv_keys::LinkTable;
+use dv_hub_link::LinkTable;
 use dv_text::{Digest, List, Memory, Stamp};
 use dv_track::StatusTable;
 use std::alloc::Global;

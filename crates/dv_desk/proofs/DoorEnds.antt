@@ -11,8 +11,8 @@ use Rattle.dv_outside.specs.declared.statuses.Status.TheVariants as statuses
 use Rattle.dv_given.specs.Endings.{EndsBy, EndsOrMemory, ending_of_start}
 use Rattle.dv_records.specs.declared.answers.Damage.{Damage}
 use Rattle.dv_records.specs.declared.stores.Store.{Store}
-use Rattle.dv_start.specs.Damages.{IsFirstDamage, IsNamedBySome}
-use Rattle.dv_start.specs.declared.faults.StoreFault.TheVariants as unread
+use Rattle.dv_restore.specs.Damages.{IsFirstDamage, IsNamedBySome}
+use Rattle.dv_restore.specs.declared.faults.StoreFault.TheVariants as unread
 use Rattle.dv_window.specs.declared.faults.StartFault.{StartFault}
 use Rattle.dv_window.specs.declared.faults.StartFault.TheVariants as faults
 use Rattle.dv_desk.specs.Doors.{IsFaultOf, IsServeCause}

@@ -13,7 +13,7 @@ use Rattle.dv_bridge.specs.ZeroKeys.{HasZeroKeys}
 use Rattle.dv_catalog.specs.Entries.{Mapping}
 use Rattle.dv_catalog.specs.Tables.{tables}
 use Rattle.dv_catalog.specs.declared.tables.TableId.{TableId}
-use Rattle.dv_form.proofs.Widths.{of_width}
+use Rattle.dv_store_rules.proofs.Widths.{of_width}
 use Rattle.dv_mart.proofs.OfferedTables.{named_among}
 use Rattle.dv_mart.specs.MartTexts.{mart_text, rows_behind as behind_in_marts}
 use Rattle.dv_mart.specs.Whats.{hub_place, offered_mart, table_named}
@@ -32,10 +32,10 @@ use Rattle.dv_snapshots.specs.declared.stored.StoredFault.{StoredFault}
 use Rattle.dv_snapshots.specs.declared.stored.StoredFault.TheVariants as stored
 use Rattle.dv_snapshots.specs.StoredRows.{head_at}
 use Rattle.dv_snapshots.specs.StoredTexts.{AreInNoState, IsRowOf, IsStoredDamage, table_text as snap_text}
-use Rattle.dv_start.specs.declared.restored.Begun.{Begun}
-use Rattle.dv_start.specs.Completions.{rows_there}
-use Rattle.dv_texts.specs.TableTexts.{table_text}
-use Rattle.dv_texts.specs.Texts.{pit_text}
+use Rattle.dv_restore.specs.declared.restored.Begun.{Begun}
+use Rattle.dv_restore.specs.Completions.{rows_there}
+use Rattle.dv_print.specs.TableTexts.{table_text}
+use Rattle.dv_print.specs.Texts.{pit_text}
 use Rattle.dv_vault.proofs.OtherTables.{with_has}
 use Rattle.dv_vault.proofs.VaultFacts.{vault_has}
 use Rattle.dv_vault.specs.Vaults.{HasSealed, IsVaultOf, RawVault, has_table}

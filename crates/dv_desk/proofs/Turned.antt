@@ -20,9 +20,9 @@ use Rattle.dv_serving.specs.declared.steps.Came.{Came}
 use Rattle.dv_serving.specs.declared.steps.Came.TheVariants as came
 use Rattle.dv_serving.specs.Steps.{RepliedTo, Said, came_of}
 use Rattle.dv_snapshots.specs.StoredTexts.{IsStoredDamage}
-use Rattle.dv_start.specs.Damages.{IsNamed}
-use Rattle.dv_start.specs.declared.faults.StoreFault.{StoreFault}
-use Rattle.dv_start.specs.declared.faults.StoreFault.TheVariants as faults
+use Rattle.dv_restore.specs.Damages.{IsNamed}
+use Rattle.dv_restore.specs.declared.faults.StoreFault.{StoreFault}
+use Rattle.dv_restore.specs.declared.faults.StoreFault.TheVariants as faults
 use Rattle.dv_window.specs.Offices.{AgreesUnlessStale, Held, IsDamageFor, IsIn, IsLeftIn, LeavesOffice, LeavesStore, StaleAfter, StepsTo, made_stale}
 use Rattle.dv_desk.specs.declared.answers.Answer.{Answer}
 use Rattle.dv_desk.specs.declared.answers.Answer.TheVariants as answers

@@ -9,8 +9,8 @@ use Rattle.dv_http.specs.declared.replies.ReplyKind.TheVariants.{Json, Csv}
 use Rattle.dv_http.specs.declared.requests.WireError.{WireError}
 use Rattle.dv_http.specs.declared.requests.WireError.TheVariants as errors
 use Rattle.dv_mart.specs.QueryTexts.{query_text}
-use Rattle.dv_start.specs.declared.faults.StoreFault.{StoreFault}
-use Rattle.dv_start.specs.declared.faults.StoreFault.TheVariants as faults
+use Rattle.dv_restore.specs.declared.faults.StoreFault.{StoreFault}
+use Rattle.dv_restore.specs.declared.faults.StoreFault.TheVariants as faults
 use Rattle.dv_given.specs.Lines.{damage_text}
 use Rattle.dv_desk.specs.Bodies.{answer_body, loaded_body, text_body}
 use Rattle.dv_desk.specs.declared.answers.Answer.{Answer}

@@ -13,8 +13,8 @@ use Rattle.dv_catalog.specs.Entries.{Mapping}
 use Rattle.dv_records.specs.declared.stores.Store.{Store}
 use Rattle.dv_records.specs.Standing.{Stands}
 use Rattle.dv_records.specs.States.{State}
-use Rattle.dv_start.specs.Damages.{IsFirstDamage, IsInForm, IsNamedBySome}
-use Rattle.dv_start.specs.declared.faults.StoreFault.TheVariants as unread
+use Rattle.dv_restore.specs.Damages.{IsFirstDamage, IsInForm, IsNamedBySome}
+use Rattle.dv_restore.specs.declared.faults.StoreFault.TheVariants as unread
 use Rattle.dv_window.specs.declared.faults.StartFault.{StartFault}
 use Rattle.dv_window.specs.declared.faults.StartFault.TheVariants as faults
 use Rattle.dv_window.specs.Offices.{Agrees, StandsFor}

@@ -19,8 +19,8 @@ use Rattle.dv_records.specs.Snapshots.{pit}
 use Rattle.dv_records.specs.States.{State}
 use Rattle.dv_records.specs.Stores.{rows_in}
 use Rattle.dv_records.specs.Vault.{vault}
-use Rattle.dv_texts.specs.TableTexts.{table_text}
-use Rattle.dv_texts.specs.Texts.{pit_text}
+use Rattle.dv_print.specs.TableTexts.{table_text}
+use Rattle.dv_print.specs.Texts.{pit_text}
 use Rattle.dv_desk.specs.Bodies.{heads_body}
 use Rattle.dv_desk.specs.declared.answers.Answer.{Answer}
 use Rattle.dv_desk.specs.declared.answers.Answer.TheVariants.{Heads, Rows, NotFound, BadQuery}

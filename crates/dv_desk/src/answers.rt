@@ -9,7 +9,7 @@ use dv_given::damage_text;
 use dv_http::{Reply, ReplyKind, WireError};
 use dv_mart::QueryRule;
 use dv_records::{Damage, LoadAnswer};
-use dv_start::StoreFault;
+use dv_restore::StoreFault;
 use dv_text::{Memory, Text};
 use std::alloc::Global;
 

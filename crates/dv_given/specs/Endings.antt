@@ -19,8 +19,8 @@ use Rattle.dv_outside.specs.declared.statuses.Status.{Status}
 use Rattle.dv_outside.specs.declared.statuses.Status.TheVariants as statuses
 use Rattle.dv_records.specs.declared.keepers.KeeperError.{KeeperError}
 use Rattle.dv_records.specs.declared.keepers.KeeperError.TheVariants as keeper_errors
-use Rattle.dv_start.specs.declared.faults.StoreFault.{StoreFault}
-use Rattle.dv_start.specs.declared.faults.StoreFault.TheVariants as store_faults
+use Rattle.dv_restore.specs.declared.faults.StoreFault.{StoreFault}
+use Rattle.dv_restore.specs.declared.faults.StoreFault.TheVariants as store_faults
 use Rattle.dv_vault.specs.Vaults.{HasSealed, RawVault}
 use Rattle.dv_window.specs.declared.faults.StartFault.{StartFault}
 use Rattle.dv_window.specs.declared.faults.StartFault.TheVariants as start_faults

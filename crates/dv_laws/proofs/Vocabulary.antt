@@ -7,7 +7,7 @@ pub use Rattle.dv_records.proofs.Vocabulary.{delivers, eq-eqb, extract_of, filte
 pub use Rattle.dv_records.proofs.Vocabulary.{multi_row, multi_rows, multi_rows_in, nat_cmp-IsAntisymmetric, newest_rows, offered_refs, on_total, option_map_or, present_at, present_parents, refs_eq-Decides, refs_exact, refs_total, reverse_member, row_cmp-IsAntisymmetric, row_count, row_total}
 pub use Rattle.dv_records.proofs.Vocabulary.{rows_in, rows_of, rows_then, sat_cmp, sat_row, some_passes, some_passes_at, sorted_by-members, source, status_batch, status_cmp, status_row, status_rows_in, sum_by, table_after, table_batch, then_total, up_to, valid_feed, vault, ◌&&◌}
 pub use Rattle.dv_index.proofs.Vocabulary.{Contains-cons_cases, Contains-cons_here, Contains-cons_there, ascending-sorted_by, filter_map_member, find, le-leb, leb-true, member_after_sort, member_of_filter_map, not-true, reverse-append, same_ascending}
-pub use Rattle.dv_keys.proofs.Vocabulary.{collision_free, collision_tied, eqb-true, table_has, table_row}
+pub use Rattle.dv_hub_link.proofs.Vocabulary.{collision_free, collision_tied, eqb-true, table_has, table_row}
 pub use Rattle.dv_digest.proofs.Vocabulary.{append-nil}
 pub use Rattle.dv_catalog.proofs.Vocabulary.{Mapping, bytes_eq, is_valid, map_member, nil_from_length, parent_hubs, tables}
 pub use Rattle.dv_track.proofs.Vocabulary.{Contains-all_refs, given, status_tied}
@@ -16,7 +16,7 @@ pub use Rattle.dv_catalog.specs.declared.entries.Parent.{Parent}
 pub use Rattle.dv_catalog.specs.declared.entries.Parent.TheVariants.{Hub, Link}
 pub use Rattle.dv_catalog.specs.declared.tables.TableId.{TableId}
 pub use Rattle.dv_catalog.specs.declared.tables.TableId.TheVariants.{Multi, Status}
-pub use Rattle.dv_keys.proofs.HubWindows.{next_batch, next_collides, next_free}
+pub use Rattle.dv_hub_link.proofs.HubWindows.{next_batch, next_collides, next_free}
 pub use Rattle.dv_laws.specs.Laws.{Closes, ExtractBatchesAscend, HoldsKeys, HoldsLists, PartialEnds, SameAt, SameMarts, SameOfFeed, WindowBatchesAscend}
 pub use Rattle.dv_laws.specs.Ties.{IsEndedPeriod, IsOpenPeriod, IsPeriod}
 pub use Rattle.dv_records.proofs.BatchTies.{batch_made, tied_by_digest, tied_whole}

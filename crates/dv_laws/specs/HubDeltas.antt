@@ -10,7 +10,7 @@ use Rattle.dv_records.specs.declared.raw_rows.HubRow.{HubRow}
 use Rattle.dv_records.specs.Collisions.{Pair, collision_in}
 use Rattle.dv_records.specs.Deltas.{HasNoClash, IsLeastClash}
 use Rattle.dv_records.specs.Hubs.{hub_batch}
-use Rattle.dv_keys.specs.HubDeltas.{IsNext, hub_delta, hub_hashed}
+use Rattle.dv_hub_link.specs.HubDeltas.{IsNext, hub_delta, hub_hashed}
 
 -- where the windows don't collide in the hub, the delta is the batch
 abbrev pub HubDeltaIsBatch : Type 0

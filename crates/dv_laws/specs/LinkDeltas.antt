@@ -11,7 +11,7 @@ use Rattle.dv_records.specs.Collisions.{Pair, collision_in}
 use Rattle.dv_records.specs.Deltas.{HasNoClash, IsLeastClash}
 use Rattle.dv_records.specs.HubNames.{HubName}
 use Rattle.dv_records.specs.Hubs.{link_batch}
-use Rattle.dv_keys.specs.LinkDeltas.{IsNext, link_delta, link_hashed}
+use Rattle.dv_hub_link.specs.LinkDeltas.{IsNext, link_delta, link_hashed}
 
 -- where the windows don't collide in the link, the delta is the batch
 abbrev pub LinkDeltaIsBatch : Type 0

@@ -12,7 +12,7 @@ use Rattle.dv_records.specs.Standing.{IsFresh, Stands}
 use Rattle.dv_records.specs.States.{State, beginning}
 use Rattle.dv_records.specs.Steps.{InitBroke, InitStep, snapshot_refusal, with_date}
 use Rattle.dv_records.specs.Stores.{is_new_snapshot, is_well_formed, with_snapshot}
-use Rattle.dv_form.specs.Damages.{form_damage}
+use Rattle.dv_store_rules.specs.Damages.{form_damage}
 use Rattle.dv_records.specs.declared.answers.InitAnswer.TheVariants as init
 
 -- ---- a mapping

@@ -15,16 +15,16 @@ use Rattle.dv_records.specs.declared.stores.TableRows.{TableRows}
 use Rattle.dv_records.specs.ReadBack.{any_content_read, any_content_read_by, content_read, content_read_by, multi_content_read, multi_content_read_by, present_parents, row_read, rows_read, status_rows_in}
 use Rattle.std.specs.List.{filter_map, flat_map}
 use Rattle.dv_mart.specs.declared.hub_contents.FeedRows.{FeedRows}
-use Rattle.dv_texts.specs.declared.hub_feeds.HubFeed.{HubFeed}
+use Rattle.dv_print.specs.declared.hub_feeds.HubFeed.{HubFeed}
 use Rattle.std.specs.Option.{is_some}
 use Rattle.std.specs.Prelude.{filter, find, option_map}
 use Rattle.dv_text.specs.declared.rows.Key.{Key}
 use Rattle.dv_text.specs.Keys.{refs_eq}
 use Rattle.dv_text.proofs.Passing.{find-filter}
-use Rattle.dv_keys.proofs.Placed.{some_found}
+use Rattle.dv_hub_link.proofs.Placed.{some_found}
 use Rattle.dv_records.specs.Marts.{attrs_or_blanks, hub_cell, hub_feeds, hub_rows}
 use Rattle.dv_mart.specs.HubContents.{cell_of, keys_of, row_of, told_rows}
-use Rattle.dv_texts.specs.HubFeeds.{told}
+use Rattle.dv_print.specs.HubFeeds.{told}
 
 -- ---- what is read from the tables stands in order
 

@@ -11,9 +11,9 @@ use Rattle.dv_records.specs.Marts.{hub_feeds}
 use Rattle.dv_records.specs.ReadBack.{hub_rows_in}
 use Rattle.dv_pit.specs.PitRows.{bare_row, known_keys, with_cell}
 use Rattle.dv_pit.specs.PitTables.{cell_read, pit_read}
-use Rattle.dv_texts.specs.HubFeeds.{told}
+use Rattle.dv_print.specs.HubFeeds.{told}
 use Rattle.dv_mart.specs.PitCells.{with_cells}
-use Rattle.dv_texts.specs.declared.hub_feeds.HubFeed.{HubFeed}
+use Rattle.dv_print.specs.declared.hub_feeds.HubFeed.{HubFeed}
 
 -- no cell more leaves the rows
 pub none_more : (rows : List PitRow) → map (with_cells (λ key. [])) rows ≡ rows

@@ -1,9 +1,9 @@
 -- What the proofs of this crate, and of those above it, take from elsewhere.
 pub use Rattle.dv_catalog.proofs.Vocabulary.{Mapping, bytes_eq, first_of, found_member, is_table_of, nat_lt, passes_at, table_name, tables}
-pub use Rattle.dv_keys.proofs.Vocabulary.{option_map}
+pub use Rattle.dv_hub_link.proofs.Vocabulary.{option_map}
 pub use Rattle.dv_records.proofs.Vocabulary.{Hashes, hub_rows, if◌then◌else◌, link_rows, rows_in, sat_rows, status_rows, table_after}
 pub use Rattle.dv_text.proofs.Vocabulary.{Bool, Contains, List, None, Option, Some, [], ap, arith, codes, false, false≢true, inl, inr, length, map, nat_tests, position_or_len, range_with_len, refl, slice_get, subst, sym, take, true, ℕ, ◌++◌, ◌+◌, ◌<◌, ◌==◌, ◌∙◌, ◌∷◌, ◌≡◌}
-pub use Rattle.dv_texts.proofs.Vocabulary.{Appends, IfOk-weaker, IsBetweenRecords, append-nil, csv_text, decimal, flat_map, text_written}
+pub use Rattle.dv_print.proofs.Vocabulary.{Appends, IfOk-weaker, IsBetweenRecords, append-nil, csv_text, decimal, flat_map, text_written}
 pub use Rattle.dv_vault.proofs.Vocabulary.{HasSealed, RawVault, tables_in}
 pub use Rattle.dv_catalog.specs.declared.tables.TableId.{TableId}
 pub use Rattle.dv_catalog.specs.declared.tables.TableId.TheVariants.{Effect, Hub, Link, Multi, Sat, Status}
@@ -20,7 +20,7 @@ pub use Rattle.dv_records.specs.declared.stores.Rows.{Rows}
 pub use Rattle.dv_records.specs.declared.stores.Rows.TheVariants.{Effects, Hubs, Links, Multis, Sats, Statuses}
 pub use Rattle.dv_records.specs.declared.stores.TableRows.{TableRows}
 pub use Rattle.dv_text.specs.declared.rows.Window.{Window}
-pub use Rattle.dv_texts.specs.TableTexts.{raw_records, table_text}
+pub use Rattle.dv_print.specs.TableTexts.{raw_records, table_text}
 pub use Rattle.std.proofs.lemmas.List.{map-append}
 pub use Rattle.std.specs.Option.{option_map_or}
 pub use Rattle.std.specs.Prelude.{IfSome, Ok, cond, option_and_then}

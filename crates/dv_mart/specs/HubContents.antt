@@ -9,7 +9,7 @@ use Rattle.dv_records.specs.declared.mart_rows.HubCell.{HubCell}
 use Rattle.dv_records.specs.declared.mart_rows.HubMartRow.{HubMartRow}
 use Rattle.dv_records.specs.Marts.{hub_cell}
 use Rattle.dv_mart.specs.declared.hub_contents.FeedRows.{FeedRows}
-use Rattle.dv_texts.specs.HubFeeds.{told}
+use Rattle.dv_print.specs.HubFeeds.{told}
 
 -- a feed with its place, and its rows
 abbrev pub told_rows : FeedRows → (ℕ × FeedDef) × List NRow

@@ -18,8 +18,8 @@ use Rattle.dv_mart.specs.declared.query_rules.QueryRule.{QueryRule}
 use Rattle.dv_mart.specs.declared.query_rules.QueryRule.TheVariants.{TooLarge}
 use Rattle.dv_mart.specs.declared.whats.What.{What}
 use Rattle.dv_mart.specs.declared.whats.What.TheVariants as what
-use Rattle.dv_texts.specs.TableTexts.{table_text}
-use Rattle.dv_texts.specs.Texts.{bridge_text, feed_text, hub_text, path_text, period_text, pit_text}
+use Rattle.dv_print.specs.TableTexts.{table_text}
+use Rattle.dv_print.specs.Texts.{bridge_text, feed_text, hub_text, path_text, period_text, pit_text}
 
 -- ---- raw tables
 

@@ -18,10 +18,10 @@ ghost use Rattle.dv_mart.specs.PathTables.{AreFirstRows, HasTooMany, IfSealed};
 use crate::mart_faults::MartFault;
 use dv_bridge::{BridgeFault, bridge_first, bridge_step};
 use dv_catalog::{Catalog, Parent, PathDef};
-use dv_keys::LinkTable;
+use dv_hub_link::LinkTable;
+use dv_print::feed_hubs;
 use dv_records::BridgeRow;
 use dv_text::{List, Stamp};
-use dv_texts::feed_hubs;
 use dv_vault::Vault;
 use std::alloc::Global;
 

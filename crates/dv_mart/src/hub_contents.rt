@@ -7,13 +7,13 @@ ghost use Rattle.dv_text.specs.Orders.{refs_cmp, row_cmp};
 ghost use Rattle.dv_records.specs.Marts as marts;
 ghost use Rattle.dv_records.specs.ReadBack.{any_content_read};
 ghost use Rattle.dv_mart.specs.HubContents as spec;
-ghost use Rattle.dv_texts.specs.HubFeeds.{told};
+ghost use Rattle.dv_print.specs.HubFeeds.{told};
 ghost use Rattle.dv_vault.specs.Contents.{missing_keys};
 
 use dv_catalog::FeedDef;
+use dv_print::HubFeed;
 use dv_records::HubCell;
 use dv_text::{Duplicate, Key, List, Memory, Stamp, Text};
-use dv_texts::HubFeed;
 use dv_vault::{ContentRow, Vault};
 use std::alloc::Global;
 use std::cmp::Ordering;

@@ -9,9 +9,9 @@ ghost use Rattle.dv_vault.specs.Vaults.{HasSealed};
 ghost use Rattle.dv_mart.specs.HubContents as spec;
 
 use crate::hub_contents::{FeedRows, cells_of, contents_of, keys_of};
+use dv_print::feeds_of;
 use dv_records::HubMartRow;
 use dv_text::{Duplicate, Key, List, Memory, Stamp, sorted_list};
-use dv_texts::feeds_of;
 use dv_vault::Vault;
 use std::alloc::Global;
 

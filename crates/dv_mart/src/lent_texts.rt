@@ -3,14 +3,14 @@
 ghost use Rattle.std.specs.Prelude.{◌≡◌, map, IfOk, OnOk};
 ghost use Rattle.std.specs.Io.KnownBytes.{Appends};
 ghost use Rattle.csv.specs.Writing.{text_written};
-ghost use Rattle.dv_texts.specs.Texts as spec;
-ghost use Rattle.dv_texts.specs.Texts.{csv_text};
-ghost use Rattle.dv_texts.specs.Writers.{IsBetweenRecords};
+ghost use Rattle.dv_print.specs.Texts as spec;
+ghost use Rattle.dv_print.specs.Texts.{csv_text};
+ghost use Rattle.dv_print.specs.Writers.{IsBetweenRecords};
 
 use csv::Writer;
 use dv_catalog::FeedDef;
+use dv_print::{Fields, Recorded, feed_header, new_writer, put_record, put_row, text_of};
 use dv_text::{Memory, Text};
-use dv_texts::{Fields, Recorded, feed_header, new_writer, put_record, put_row, text_of};
 use dv_vault::ContentRow;
 use std::alloc::Global;
 use std::io::Write;

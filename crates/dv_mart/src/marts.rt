@@ -9,7 +9,7 @@ ghost use Rattle.dv_vault.specs.Vaults.{HasSealed};
 ghost use Rattle.dv_records.specs.Snapshots as snapshots;
 ghost use Rattle.dv_bridge.specs.ZeroKeys.{HasZeroKeys};
 ghost use Rattle.dv_mart.specs.MartTexts as spec;
-ghost use Rattle.dv_texts.specs.Texts as texts;
+ghost use Rattle.dv_print.specs.Texts as texts;
 ghost use Rattle.dv_mart.specs.declared.query_rules.QueryRule.TheVariants as rules;
 ghost use Rattle.dv_mart.specs.OfferedMarts.{IsOffered};
 
@@ -22,9 +22,9 @@ use crate::pits::pit_rows;
 use crate::vault_tables::table_text;
 use crate::whats::What;
 use dv_catalog::TableId;
+use dv_print::{bridge_text, hub_text, path_text, period_text, pit_text};
 use dv_records::PeriodRow;
 use dv_text::{List, Memory, NRow, Stamp, Text};
-use dv_texts::{bridge_text, hub_text, path_text, period_text, pit_text};
 use dv_vault::Vault;
 use std::alloc::Global;
 

@@ -14,9 +14,9 @@ ghost use Rattle.dv_mart.specs.PathTables.{path_row, steps_read};
 
 use crate::bridges::bridge_rows;
 use crate::mart_faults::MartFault;
+use dv_print::feed_hubs;
 use dv_records::{BridgeRow, PathRow};
 use dv_text::{Digest, Duplicate, Key, List, Memory, Stamp, sorted_list};
-use dv_texts::feed_hubs;
 use dv_vault::Vault;
 use std::alloc::Global;
 

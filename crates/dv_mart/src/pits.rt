@@ -3,7 +3,7 @@
 ghost use Rattle.std.specs.Prelude.{◌≡◌, ◌<◌, All, List as list_of, Some, length, map, slice_get, IfOk, OnOk};
 ghost use Rattle.dv_text.specs.declared.rows.Window.{Window};
 ghost use Rattle.dv_text.specs.Keys.{Hashes};
-ghost use Rattle.dv_texts.specs.HubFeeds.{told};
+ghost use Rattle.dv_print.specs.HubFeeds.{told};
 ghost use Rattle.dv_mart.specs.PitCells.{with_cells};
 ghost use Rattle.dv_records.specs.Snapshots as snapshots;
 ghost use Rattle.dv_vault.specs.Vaults.{HasSealed};
@@ -11,9 +11,9 @@ ghost use Rattle.dv_pit.specs.PitRows.{with_cell};
 ghost use Rattle.dv_pit.specs.PitTables.{cell_read, pit_read};
 
 use dv_pit::{add_bare, add_multi, add_plain, pit_keys};
+use dv_print::{HubFeed, feeds_of};
 use dv_records::PitRow;
 use dv_text::{List, Memory, Stamp};
-use dv_texts::{HubFeed, feeds_of};
 use dv_vault::Vault;
 use std::alloc::Global;
 

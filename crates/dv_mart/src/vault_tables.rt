@@ -5,11 +5,11 @@ ghost use Rattle.dv_catalog.specs.Tables.{tables};
 ghost use Rattle.dv_mart.specs.MartTexts.{HasKind, raw_text};
 
 use dv_catalog::TableId;
-use dv_text::{Memory, Stamp, Text};
-use dv_texts::{
+use dv_print::{
     effect_table_text, hub_table_text, link_table_text, multi_table_text, sat_table_text,
     status_table_text,
 };
+use dv_text::{Memory, Stamp, Text};
 use dv_vault::Vault;
 use std::alloc::Global;
 

@@ -3,7 +3,7 @@ pub use Rattle.dv_catalog.specs.declared.entries.FeedDef.{FeedDef}
 pub use Rattle.dv_catalog.specs.declared.entries.Parent.{Parent}
 pub use Rattle.dv_catalog.specs.declared.entries.Parent.TheVariants.{Hub}
 pub use Rattle.dv_catalog.specs.declared.tables.TableId.TheVariants.{Multi}
-pub use Rattle.dv_keys.proofs.Vocabulary.{table_has, table_row}
+pub use Rattle.dv_hub_link.proofs.Vocabulary.{table_has, table_row}
 pub use Rattle.dv_records.proofs.FeedSteps.{feed_rows}
 pub use Rattle.dv_records.proofs.KnownRefs.{known_apart, offers_apart}
 pub use Rattle.dv_records.proofs.LastChange.{apart-reversed}

@@ -1,7 +1,7 @@
 ghost use Rattle.std.specs.Prelude.{◌≡◌, filter, map, nat_le, IfOk};
 ghost use Rattle.dv_pit.specs.PitRows.{bare_row, known_keys};
 
-use dv_keys::HubTable;
+use dv_hub_link::HubTable;
 use dv_records::{HubRow, PitRow};
 use dv_text::{Digest, List, Memory, Stamp, sorted_list};
 use std::alloc::Global;

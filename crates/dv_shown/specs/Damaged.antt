@@ -25,8 +25,8 @@ use Rattle.dv_records.specs.MemoryKeepers.{empty_store}
 use Rattle.dv_records.specs.States.{head_of}
 use Rattle.dv_records.specs.Stores.{table_eq}
 use Rattle.dv_records.specs.Vault.{partial, vault}
-use Rattle.dv_form.specs.Damages.{head_damage, raw_damage, stage_damage}
-use Rattle.dv_form.specs.StoredRows.{flaw_in}
+use Rattle.dv_store_rules.specs.Damages.{head_damage, raw_damage, stage_damage}
+use Rattle.dv_store_rules.specs.StoredRows.{flaw_in}
 use Rattle.dv_shown.specs.Mappings.{with_accounts, with_all_kinds, with_drivers, with_lines, with_names, with_orders, with_phones, with_places, with_sites, with_staff, with_stocks}
 use Rattle.dv_shown.specs.Windows.{all_kinds, assignments, emptied, moved_phones, one_absent, one_site, orders_again, phones, placed_sites, staffed, stocked}
 use Rattle.dv_shown.specs.Words.{bare_row, day, key, named_row, pair_row, place, row, staged, window}

@@ -9,7 +9,7 @@ use Rattle.dv_records.specs.declared.snapshots.SnapHead.{SnapHead}
 use Rattle.dv_records.specs.declared.stores.Rows.TheVariants.{Statuses}
 use Rattle.dv_records.specs.declared.stores.Store.{Store}
 use Rattle.dv_records.specs.MemoryKeepers.{empty_store}
-use Rattle.dv_form.specs.SnapshotHeads.{snapshot_rule}
+use Rattle.dv_store_rules.specs.SnapshotHeads.{snapshot_rule}
 use Rattle.dv_shown.specs.Damaged.{at, coded, customers_store, with_other}
 use Rattle.dv_shown.specs.DamagedStores.{damage}
 use Rattle.dv_shown.specs.Mappings.{with_names}

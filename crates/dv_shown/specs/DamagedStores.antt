@@ -21,11 +21,11 @@ use Rattle.dv_records.specs.declared.stores.Store.{Store}
 use Rattle.dv_records.specs.declared.stores.TableRows.{TableRows}
 use Rattle.dv_records.specs.MemoryKeepers.{empty_store}
 use Rattle.dv_records.specs.Weights.{rows_weight, tables_weight}
-use Rattle.dv_form.specs.declared.flaws.Flaw.{Flaw}
-use Rattle.dv_form.specs.Damages.{damage_in, form_damage}
-use Rattle.dv_form.specs.FormRules.{Known, is_light}
-use Rattle.dv_form.specs.StoredHeads.{head_rule, is_later, is_stage}
-use Rattle.dv_form.specs.StoredRows.{effect_rule, flaw_in, hub_rule, link_rule, multi_rule, sat_rule, status_rule}
+use Rattle.dv_store_rules.specs.declared.flaws.Flaw.{Flaw}
+use Rattle.dv_store_rules.specs.Damages.{damage_in, form_damage}
+use Rattle.dv_store_rules.specs.FormRules.{Known, is_light}
+use Rattle.dv_store_rules.specs.StoredHeads.{head_rule, is_later, is_stage}
+use Rattle.dv_store_rules.specs.StoredRows.{effect_rule, flaw_in, hub_rule, link_rule, multi_rule, sat_rule, status_rule}
 use Rattle.dv_shown.specs.Damaged.{at, coded, customer, customers_store, head, in_effect, kept, kept_open, named, phoned, stage_of, third_day, two_customers, wide, with_other, working}
 use Rattle.dv_shown.specs.Mappings.{with_accounts, with_all_kinds, with_drivers, with_names, with_orders, with_phones, with_stocks}
 use Rattle.dv_shown.specs.Windows.{all_kinds, assignments, coming_and_going, emptied, one_absent, orders_again, phones, stocked, tiers_later}

@@ -5,7 +5,7 @@ use Rattle.dv_catalog.specs.declared.tables.TableId.TheVariants.{Hub as HubTable
 use Rattle.dv_catalog.specs.Entries.{Mapping}
 use Rattle.dv_records.specs.Vault.{partial, vault}
 use Rattle.dv_mart.specs.MartTexts.{mart_text}
-use Rattle.dv_texts.specs.Texts.{windows_text}
+use Rattle.dv_print.specs.Texts.{windows_text}
 use Rattle.dv_mart.specs.Whats.{what_of, offered_mart}
 use Rattle.dv_mart.specs.declared.query_rules.QueryRule.{QueryRule}
 use Rattle.dv_mart.specs.declared.whats.What.{What}

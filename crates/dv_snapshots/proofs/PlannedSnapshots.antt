@@ -2,7 +2,7 @@
 use Rattle.dv_snapshots.proofs.Vocabulary.{Hashes, IsOf, List, None, Option, RawVault, SnapAnswer, SnapHead, SnapTable, Some, State, ap, early_refusal, first_large, last_head, last_load, late_refusal, snap_head, snap_tables, snapshot, sym, ℕ, ◌∙◌, ◌≡◌}
 use Rattle.dv_records.specs.declared.answers.SnapAnswer.TheVariants.{TooLarge}
 use Rattle.dv_records.specs.Steps.{snapshot_refusal}
-use Rattle.dv_start.specs.Restored.{heads_of_state}
+use Rattle.dv_restore.specs.Restored.{heads_of_state}
 use Rattle.dv_vault.proofs.AddedWindows.{last_same}
 use Rattle.dv_snapshots.proofs.RefusedStates.{refusal_told, refused_first, refused_large}
 

@@ -2,7 +2,7 @@
 use Rattle.dv_snapshots.proofs.Vocabulary.{Hashes, List, Mapping, None, Option, Some, SnapAnswer, SnapHead, State, [], ap, arith, first_large, first_of, if◌then◌else◌, last_load, length-map, list_any-map, map, option_map, option_or, refl, snapshot, snapshots_weight, sum_by, sum_by-append, sum_by-cons, sym, ℕ, ◌+◌, ◌++◌, ◌==◌, ◌∙◌, ◌∷◌, ◌≡◌}
 use Rattle.dv_records.specs.declared.answers.SnapAnswer.TheVariants.{Repeated, TooLarge}
 use Rattle.dv_records.specs.Steps.{full_with, future, snapshot_refusal, snapshots_full, taken, too_large}
-use Rattle.dv_form.specs.SnapshotHeads.{heads_weight}
+use Rattle.dv_store_rules.specs.SnapshotHeads.{heads_weight}
 use Rattle.dv_snapshots.specs.Refusals.{early_refusal, late_refusal, taken_among}
 
 -- what is made of items weighs what each weighs

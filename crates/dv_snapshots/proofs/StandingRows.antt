@@ -1,7 +1,7 @@
 -- The rows of a stored table of a snapshot, in a store that stands for a state: all of the table at the date.
 use Rattle.dv_snapshots.proofs.Vocabulary.{Bool, Bridges, Hashes, List, Mapping, Pits, Rows, Snap, SnapHead, SnapId, SnapTable, Some, Stands, State, Store, [], ap, append-nil, arith, asked_of, bridge_table, eqb-true, false, head_at, length, map, nat_tests, page, pit, pit_table, range_with_len}
 use Rattle.dv_snapshots.proofs.Vocabulary.{read_rows, refl, row_count, rows_of_snap, snap_id_eq, snapshot, snapshot_rows, suc, sum_by, sum_by-cons, sym, true, zero, ℕ, ◌+◌, ◌++◌, ◌<◌, ◌==◌, ◌∙◌, ◌∷◌, ◌≡◌, ◌≤◌}
-use Rattle.dv_form.proofs.RowPages.{whole_page}
+use Rattle.dv_store_rules.proofs.RowPages.{whole_page}
 use Rattle.dv_records.specs.declared.snapshots.SnapId.TheVariants.{Pit, Bridge}
 use Rattle.dv_records.specs.Snapshots.{bridge}
 use Rattle.dv_records.specs.Stores.{no_snap_rows}

@@ -5,7 +5,7 @@ use Rattle.dv_records.specs.declared.snapshots.SnapId.TheVariants.{Pit, Bridge}
 use Rattle.dv_snapshots.proofs.SoundTables.{unflawed_rows}
 use Rattle.dv_snapshots.proofs.StandingRows.{head_dated, rows_stand, table_rows}
 use Rattle.dv_snapshots.specs.StoredTexts.{HasTable, IsStoredDamage, IsStoredText, flawed_row, rows_text, table_text}
-use Rattle.dv_start.specs.Restored.{heads_of_state}
+use Rattle.dv_restore.specs.Restored.{heads_of_state}
 use Rattle.dv_window.specs.Offices.{Held, IsIn}
 
 -- the text of a table's own rows

@@ -2,7 +2,7 @@
 use Rattle.dv_snapshots.proofs.Vocabulary.{AreFirst, Bool, Flawed, Last, List, None, Option, Rows, Some, TellsPage, [], all_pass, all_pass_both, ap, arith, drop, eqb-true, false, first_flaw, first_place, flaw_in, flaw_place, if◌then◌else◌, length}
 use Rattle.dv_snapshots.proofs.Vocabulary.{length-take, list_all, min, nat_tests, none_placed, not, not-false, option_map, own_rows, page, passes_at, position, refl, row_count, same_Some, subst, suc, sym, take, take-add, take-nil, take_all, take_min, true, unplaced, zero, ℕ}
 use Rattle.dv_snapshots.proofs.Vocabulary.{◌+◌, ◌++◌, ◌-◌, ◌<◌, ◌==◌, ◌∙◌, ◌≡◌, ◌≤◌}
-use Rattle.dv_form.proofs.RowPages.{page_count}
+use Rattle.dv_store_rules.proofs.RowPages.{page_count}
 use Rattle.dv_snapshots.proofs.Places.{position-behind, position-front}
 
 -- ---- lists

@@ -26,7 +26,7 @@ pub use Rattle.dv_text.specs.Told.{Told}
 pub use Rattle.dv_text.specs.declared.rows.Key.{Key}
 pub use Rattle.dv_text.specs.declared.rows.Window.{Window}
 pub use Rattle.dv_bridge.specs.ZeroKeys.{HasZeroKeys}
-pub use Rattle.dv_form.specs.SnapshotHeads.{heads_weight}
+pub use Rattle.dv_store_rules.specs.SnapshotHeads.{heads_weight}
 pub use Rattle.dv_vault.specs.Vaults.{HasSealed, RawVault, last_head}
 pub use Rattle.dv_snapshots.specs.Pages.{AreFirst, TellsPage}
 pub use Rattle.dv_snapshots.specs.Plans.{IsOf}

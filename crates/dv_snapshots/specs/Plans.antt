@@ -10,7 +10,7 @@ use Rattle.dv_records.specs.States.{State}
 use Rattle.dv_records.specs.Steps.{snapshot_refusal}
 use Rattle.dv_snapshots.specs.declared.plans.Planned.{Planned}
 use Rattle.dv_snapshots.specs.declared.plans.Planned.TheVariants.{New, Refused}
-use Rattle.dv_start.specs.Restored.{heads_of_state}
+use Rattle.dv_restore.specs.Restored.{heads_of_state}
 use Rattle.dv_vault.specs.Vaults.{HasSealed, RawVault}
 use Rattle.dv_window.specs.Snapshots.{MayKeep}
 

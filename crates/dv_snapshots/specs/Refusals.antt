@@ -2,7 +2,7 @@
 use Rattle.std.specs.List.{list_any}
 use Rattle.std.specs.Prelude.{ℕ, ◌+◌, ◌==◌, List, [], ◌∷◌, Option, Some, None, length, if◌then◌else◌}
 use Rattle.dv_catalog.specs.FirstOf.{first_of}
-use Rattle.dv_form.specs.SnapshotHeads.{heads_weight}
+use Rattle.dv_store_rules.specs.SnapshotHeads.{heads_weight}
 use Rattle.dv_records.specs.declared.answers.SnapAnswer.{SnapAnswer}
 use Rattle.dv_records.specs.declared.answers.SnapAnswer.TheVariants.{Future, Repeated}
 use Rattle.dv_records.specs.declared.snapshots.SnapHead.{SnapHead}

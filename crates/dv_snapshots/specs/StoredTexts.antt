@@ -18,7 +18,7 @@ use Rattle.dv_records.specs.States.{State}
 use Rattle.dv_snapshots.specs.declared.asked.Asked.{Asked}
 use Rattle.dv_snapshots.specs.RowForms.{bridge_form, bridges_in, is_sound_bridge, is_sound_pit, pit_form, pits_in}
 use Rattle.dv_snapshots.specs.StoredRows.{asked_of, first_flaw, head_at, own_rows, read_rows}
-use Rattle.dv_texts.specs.Texts.{bridge_text, pit_text}
+use Rattle.dv_print.specs.Texts.{bridge_text, pit_text}
 use Rattle.dv_window.specs.Offices.{Held, IsIn}
 
 -- ---- a table of a snapshot

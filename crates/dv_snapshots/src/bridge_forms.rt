@@ -6,9 +6,9 @@ ghost use Rattle.dv_snapshots.specs.RowForms as spec;
 
 use crate::row_forms::{RowForm, are_wide};
 use dv_catalog::Catalog;
+use dv_print::feed_hubs;
 use dv_records::{BridgeRow, Rows};
 use dv_text::List;
-use dv_texts::feed_hubs;
 
 /// The form of the rows of a path's bridge: they have so many hash keys of links and of hubs, of so
 /// many bytes each.

@@ -1,7 +1,7 @@
 // Why no snapshot is made at a date.
 ghost use Rattle.std.specs.Prelude.{◌≡◌, ◌+◌, ◌==◌, IfOk};
 ghost use Rattle.std.specs.List.{list_any};
-ghost use Rattle.dv_form.specs.SnapshotHeads.{heads_weight};
+ghost use Rattle.dv_store_rules.specs.SnapshotHeads.{heads_weight};
 ghost use Rattle.dv_snapshots.specs.Refusals as spec;
 
 use dv_records::{SnapAnswer, SnapHead};

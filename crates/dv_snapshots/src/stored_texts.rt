@@ -17,9 +17,9 @@ use crate::pages::{Read, read_rows};
 use crate::pit_forms::pit_form;
 use crate::stored::StoredFault;
 use dv_catalog::Catalog;
+use dv_print::{bridge_text, pit_text};
 use dv_records::{Keeper, SnapId};
 use dv_text::{Stamp, Text};
-use dv_texts::{bridge_text, pit_text};
 use dv_window::Office;
 use std::alloc::Global;
 

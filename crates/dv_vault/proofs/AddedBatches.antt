@@ -6,7 +6,7 @@ use Rattle.dv_vault.proofs.Vocabulary.{status_delta, sat_delta, IsPlain, FeedDef
 use Rattle.dv_vault.proofs.Vocabulary.{All-contains, Contains-append_cases, Contains-append_left, Contains-append_right, IsApart, collision, collision_in, parents, sat_batch, status_batch, next_delta as hub_delta_is, none_collide}
 use Rattle.dv_vault.proofs.Vocabulary.{appended-history, delta_is_batch as sat_delta_is, extract_added}
 use Rattle.dv_catalog.specs.declared.tables.TableId.TheVariants as ids
-use Rattle.dv_keys.proofs.LinkWindows.{next_delta as link_delta_is}
+use Rattle.dv_hub_link.proofs.LinkWindows.{next_delta as link_delta_is}
 use Rattle.dv_track.proofs.DeltaBatch.{delta_is_batch as status_delta_is}
 use Rattle.dv_track.proofs.EffectBatches.{delta_is_batch as effect_delta_is}
 use Rattle.dv_track.specs.EffectRows.{effect_delta}

@@ -4,7 +4,7 @@ use Rattle.dv_vault.proofs.Vocabulary.{HasNoClash, IsLeastClash, Hashed, HubName
 use Rattle.dv_vault.proofs.Vocabulary.{table_entry, vault, table_of, Mapping, feed_tables, tables, is_valid, map-append, map-map, reverse-append, reverse-reverse, Parent, Hub, Link, TableId, TableRows, Window, AreApart, AreApartBy}
 use Rattle.dv_vault.proofs.Vocabulary.{IsFirstClash, HasSealed, RawVault, hashed_in, hub_names, Pair, collision, collision_in, first_collision, parents, none_from, vault_weight, TellLists, collision_free, none_collide}
 use Rattle.dv_vault.proofs.Vocabulary.{next_least as hub_least, next_none as hub_none, hub_apart}
-use Rattle.dv_keys.proofs.LinkWindows.{next_least as link_least, next_none as link_none}
+use Rattle.dv_hub_link.proofs.LinkWindows.{next_least as link_least, next_none as link_none}
 use Rattle.dv_vault.proofs.FeedLists.{reversed_whole}
 use Rattle.dv_vault.proofs.FeedTables.{of_feeds}
 use Rattle.dv_vault.proofs.NamedHubs.{hubs_named}

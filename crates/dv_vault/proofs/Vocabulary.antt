@@ -11,8 +11,8 @@ pub use Rattle.dv_records.proofs.Vocabulary.{newest_rows, no_rows, none_behind, 
 pub use Rattle.dv_records.proofs.Vocabulary.{sat_rows_in, slice_set, some_passes, some_passes_at, source, status_batch, status_rows, status_rows_in, sum_by, sum_by-cons, table_after, table_batch, table_entry, table_eq, table_of, up_to, valid_at, valid_feed, valid_link, vault, vault_weight}
 pub use Rattle.dv_catalog.proofs.Vocabulary.{Mapping, all_pass, all_pass_both, bytes_eq, drop, effect_tables, feed_tables, found_member, is_declared, is_table_of, is_valid, map-append, map-range_with_len_more, map_member, nat_lt, nil_from_length, none_from, parent_hubs, parts_of, passes_at}
 pub use Rattle.dv_catalog.proofs.Vocabulary.{sat_tables, tables}
-pub use Rattle.dv_keys.proofs.Vocabulary.{AreHubItems, AreLinkItems, Bor, HasNoClash, Hashed, HubName, IfCollides, IfOk, IsHubItem, IsItem, IsLeastClash, Result, TellLists, are_keys_of, collision_free, deliveries_member, delta, first_offer-member, first_offer-refs, has_row_under, hashed_item}
-pub use Rattle.dv_keys.proofs.Vocabulary.{hashes_of, hub_delta, hub_hashed, hub_place, hub_row_of, hubs_by, key_named, key_with, link_delta, link_hashed, link_place, link_row, new_row, parent_eq, row_cmp, ◌||◌}
+pub use Rattle.dv_hub_link.proofs.Vocabulary.{AreHubItems, AreLinkItems, Bor, HasNoClash, Hashed, HubName, IfCollides, IfOk, IsHubItem, IsItem, IsLeastClash, Result, TellLists, are_keys_of, collision_free, deliveries_member, delta, first_offer-member, first_offer-refs, has_row_under, hashed_item}
+pub use Rattle.dv_hub_link.proofs.Vocabulary.{hashes_of, hub_delta, hub_hashed, hub_place, hub_row_of, hubs_by, key_named, key_with, link_delta, link_hashed, link_place, link_row, new_row, parent_eq, row_cmp, ◌||◌}
 pub use Rattle.dv_index.proofs.Vocabulary.{Contains-cons_cases, Contains-cons_here, Contains-cons_there, Contains-range, IsStrictlySortedBy-filter_map, Place, always_returns_same, ascending-sorted_by, drop_all, filter_map_member, find, find-append, if◌then◌else◌, list_all-map}
 pub use Rattle.dv_index.proofs.Vocabulary.{member_of_filter_map, reverse-append, rules, same_ascending, take-append-drop}
 pub use Rattle.dv_track.proofs.Vocabulary.{is_ok, status_delta}
@@ -27,9 +27,9 @@ pub use Rattle.dv_catalog.specs.declared.entries.Parent.TheVariants.{Hub, Link}
 pub use Rattle.dv_catalog.specs.declared.rules.Rule.{Rule}
 pub use Rattle.dv_catalog.specs.declared.tables.TableId.{TableId}
 pub use Rattle.dv_index.specs.Places.{Indexed}
-pub use Rattle.dv_keys.proofs.HubWindows.{hub_row_has, next_delta, next_least, next_none}
-pub use Rattle.dv_keys.specs.HubRows.{are_hub_rows}
-pub use Rattle.dv_keys.specs.HashedLists.{HashedList}
+pub use Rattle.dv_hub_link.proofs.HubWindows.{hub_row_has, next_delta, next_least, next_none}
+pub use Rattle.dv_hub_link.specs.HubRows.{are_hub_rows}
+pub use Rattle.dv_hub_link.specs.HashedLists.{HashedList}
 pub use Rattle.dv_records.proofs.CollisionTies.{none_collide}
 pub use Rattle.dv_records.proofs.Delivered.{deliveries-apart}
 pub use Rattle.dv_records.proofs.FeedSteps.{appended-history}
@@ -118,8 +118,8 @@ pub use Rattle.std.proofs.lemmas.List.{map-id, nil_from_length, take_all}
 pub use Rattle.dv_records.proofs.WellFormedTables.{table_eq-itself}
 pub use Rattle.std.proofs.lemmas.List.FromFn.{get_or-map-range_with_len, length-range_with_len}
 pub use Rattle.dv_text.proofs.Members.{filter_map_more}
-pub use Rattle.dv_keys.proofs.Batches.{filter_map_same}
-pub use Rattle.dv_keys.proofs.KeyDeltas.{map_filter}
+pub use Rattle.dv_hub_link.proofs.Batches.{filter_map_same}
+pub use Rattle.dv_hub_link.proofs.KeyDeltas.{map_filter}
 pub use Rattle.dv_records.proofs.Vocabulary.{ordering_then}
 pub use Rattle.std.proofs.lemmas.List.FromFn.{get_or-map-range_with_len, length-map-range_with_len}
 pub use Rattle.std.specs.Cmp.Derive.Mapped.{lex_map}

@@ -7,7 +7,7 @@ use Rattle.dv_records.specs.declared.raw_rows.HubRow.{HubRow}
 use Rattle.dv_records.specs.HubNames.{HubName, are_names_apart, is_named}
 use Rattle.dv_records.specs.HubPlaces.{hub_place}
 use Rattle.dv_index.specs.Places.{are_in_load_order}
-use Rattle.dv_keys.specs.HubRows.{are_digests_apart, are_hub_rows, has_digest}
+use Rattle.dv_hub_link.specs.HubRows.{are_digests_apart, are_hub_rows, has_digest}
 use Rattle.dv_vault.specs.Vaults.{names_of_hub, names_of_rows}
 
 not_before : (hub other : ℕ) → hub < other → (other == hub) ≡ false

@@ -27,9 +27,9 @@ use Rattle.dv_records.specs.RowViews.{are_up_to}
 use Rattle.dv_records.specs.States.{are_windows_valid, head_of}
 use Rattle.dv_records.specs.Stores.{no_rows, row_count, rows_then, table_eq}
 use Rattle.dv_records.specs.Vault.{vault}
-use Rattle.dv_keys.specs.HubDeltas.{hub_delta, hub_hashed}
-use Rattle.dv_keys.specs.LinkDeltas.{link_delta, link_hashed}
-use Rattle.dv_keys.specs.RawTables.{HubsFollow, LinksFollow}
+use Rattle.dv_hub_link.specs.HubDeltas.{hub_delta, hub_hashed}
+use Rattle.dv_hub_link.specs.LinkDeltas.{link_delta, link_hashed}
+use Rattle.dv_hub_link.specs.RawTables.{HubsFollow, LinksFollow}
 use Rattle.dv_sat.specs.FeedTables.{Follow as SatsFollow, sats_added}
 use Rattle.dv_sat.specs.MultiFeedTables.{Follow as MultisFollow, multis_added}
 use Rattle.dv_track.specs.EffectFeedTables.{Follow as EffectsFollow, effects_added}

@@ -1,6 +1,6 @@
 // The business keys of the hubs of a vault, by their hash keys.
 ghost use Rattle.std.specs.Prelude.{◌≡◌, IfOk, IsTrue};
-ghost use Rattle.dv_keys.specs.HubRows.{are_hub_rows};
+ghost use Rattle.dv_hub_link.specs.HubRows.{are_hub_rows};
 ghost use Rattle.dv_records.specs.ReadBack.{hub_rows_in};
 ghost use Rattle.dv_vault.specs.Vaults as spec;
 ghost use Rattle.dv_vault.specs.Vaults.{entries_of};
@@ -8,7 +8,7 @@ ghost use Rattle.dv_vault.specs.Vaults.{entries_of};
 pub(crate) use crate::named_hubs::HubKeys;
 use crate::raw_tables::RawTables;
 use dv_catalog::{Catalog, TableId};
-use dv_keys::HubTable;
+use dv_hub_link::HubTable;
 use dv_records::HubNames;
 use dv_text::{Digest, Key, Memory};
 use std::alloc::Global;

@@ -1,9 +1,9 @@
 // The hubs whose business keys are looked up by their hash keys.
 ghost use Rattle.std.specs.Prelude.{IsTrue, map};
 ghost use Rattle.std.specs.List.{list_all};
-ghost use Rattle.dv_keys.specs.HubRows.{are_hub_rows};
+ghost use Rattle.dv_hub_link.specs.HubRows.{are_hub_rows};
 
-use dv_keys::HubTable;
+use dv_hub_link::HubTable;
 
 /// The hubs of a vault, in declared order. No two rows of a hub have one hash key.
 #[derive(Drop)]

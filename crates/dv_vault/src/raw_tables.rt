@@ -7,7 +7,7 @@ ghost use Rattle.dv_vault.specs.Vaults as spec;
 
 use crate::tables::Table;
 use dv_catalog::{Catalog, TableId};
-use dv_keys::{HubTable, LinkTable};
+use dv_hub_link::{HubTable, LinkTable};
 use dv_sat::{MultiTable, SatTable};
 use dv_text::Memory;
 use dv_track::{EffectTable, StatusTable};

@@ -20,7 +20,7 @@ use crate::hashed_windows::HashedWindow;
 use crate::offers::deliveries;
 use dv_catalog::{Catalog, Parent, TableId};
 use dv_digest::HashedExtract;
-use dv_keys::{HubTable, LinkTable};
+use dv_hub_link::{HubTable, LinkTable};
 use dv_records::{DeltaFault, HubNames, RawTable, Rows};
 use dv_sat::{MultiTable, SatTable};
 use dv_text::{KeyDigest, List, Memory, Stamp};

@@ -18,7 +18,7 @@ use crate::hub_keys::hub_keys;
 use crate::raw_tables::RawTables;
 use crate::tables::Table;
 use dv_catalog::{Catalog, TableId};
-use dv_keys::{HubTable, LinkTable};
+use dv_hub_link::{HubTable, LinkTable};
 use dv_records::Rows;
 use dv_sat::{MultiTable, SatTable};
 use dv_text::{KeyDigest, List, Memory, Stamp, Window, WindowHead};

@@ -5,7 +5,7 @@ use Rattle.dv_window.proofs.Vocabulary.{HasTables, IsMappedBy, Stands, State, St
 use Rattle.dv_window.proofs.Vocabulary.{batch_count, partly_after, sealed_after, entries_with, reached, HasRows, IsOpen, KeepsOthers, TookWindow, has_all, same_tables}
 use Rattle.dv_records.specs.Backwards.{backwards, with_newest}
 use Rattle.dv_records.specs.States.{all_windows}
-use Rattle.dv_start.specs.Restored.{heads_of_state}
+use Rattle.dv_restore.specs.Restored.{heads_of_state}
 use Rattle.dv_vault.proofs.AddedWindows.{last_same}
 use Rattle.dv_window.proofs.StoredDates.{dates_still_valid, stored_heads_stay, stored_stay}
 use Rattle.dv_records.specs.Standing.{TablesStand}

@@ -14,7 +14,7 @@ use Rattle.dv_records.specs.declared.snapshots.Snap.{Snap}
 use Rattle.dv_records.specs.declared.snapshots.SnapHead.{SnapHead}
 use Rattle.dv_records.specs.Steps.{snapshot_refusal, with_date}
 use Rattle.dv_records.specs.Stores.{is_new_snapshot, snap_cmp, with_snapshot}
-use Rattle.dv_start.specs.Restored.{heads_of_state}
+use Rattle.dv_restore.specs.Restored.{heads_of_state}
 use Rattle.dv_window.specs.Snapshots.{IsSnapshotIn, KeepsTo, MayKeep, head_cmp}
 use Rattle.dv_window.specs.Stopping.{is_failed}
 

@@ -3,8 +3,8 @@ use Rattle.dv_window.proofs.Vocabulary.{None, Some, ap, inl, inr, same_Some, sym
 use Rattle.dv_window.proofs.Vocabulary.{refl, CompletesTo, Held, IsLeftIn, Option, StoreFault, StepsTo, WindowIn, unrefreshed, unresumed, Err, Ok, Result}
 use Rattle.dv_records.specs.declared.answers.LoadAnswer.TheVariants as answers
 use Rattle.dv_records.specs.declared.answers.ResumeAnswer.TheVariants as resumed
-use Rattle.dv_start.specs.declared.faults.StoreFault.TheVariants as faults
-use Rattle.dv_start.proofs.StandingStores.{never_unread, same_mapping}
+use Rattle.dv_restore.specs.declared.faults.StoreFault.TheVariants as faults
+use Rattle.dv_restore.proofs.StandingStores.{never_unread, same_mapping}
 
 -- ---- the stored text is not another mapping
 

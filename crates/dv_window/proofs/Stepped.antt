@@ -5,7 +5,7 @@ use Rattle.dv_window.proofs.Vocabulary.{StandsFor, StepsTo, Stop, Stops, TookOrB
 use Rattle.dv_records.specs.declared.answers.Outcome.TheVariants as outcomes
 use Rattle.dv_records.specs.declared.answers.ResumeAnswer.TheVariants.{NothingOpen}
 use Rattle.dv_records.specs.declared.keepers.KeeperError.TheVariants.{Failed, Memory}
-use Rattle.dv_start.proofs.StoreReads.{staged_is}
+use Rattle.dv_restore.proofs.StoreReads.{staged_is}
 use Rattle.dv_window.proofs.Agreed.{none_staged}
 use Rattle.dv_window.proofs.Answered.{StopSays, begun_adds, can_add, completes, is_given, loads, rows, stopped}
 use Rattle.dv_window.proofs.BrokenOff.{LeftState, broken, taken}

@@ -5,14 +5,14 @@ use Rattle.std.proofs.lemmas.Bool.{le-leb, ltb-true}
 use Rattle.std.proofs.lemmas.Bool.Decides.{nat_tests}
 use Rattle.std.specs.List.{last_or, list_all}
 use Rattle.std.specs.Prelude.{Contains, suc}
-use Rattle.dv_form.proofs.SoundSnapshots.{weighed}
-use Rattle.dv_form.proofs.Vocabulary.{Contains-nil, all_pass, map-map, passes_at}
-use Rattle.dv_form.specs.SnapshotHeads.{heads_weight}
+use Rattle.dv_store_rules.proofs.SoundSnapshots.{weighed}
+use Rattle.dv_store_rules.proofs.Vocabulary.{Contains-nil, all_pass, map-map, passes_at}
+use Rattle.dv_store_rules.specs.SnapshotHeads.{heads_weight}
 use Rattle.dv_records.proofs.LaterWindows.{snapshots_same}
 use Rattle.dv_records.specs.declared.snapshots.Snap.{Snap}
 use Rattle.dv_records.specs.Limits.{most_snapshot_weight, most_snapshots}
-use Rattle.dv_start.proofs.HeadsHeld.{last_or_pushed}
-use Rattle.dv_start.specs.Restored.{heads_of_state}
+use Rattle.dv_restore.proofs.HeadsHeld.{last_or_pushed}
+use Rattle.dv_restore.specs.Restored.{heads_of_state}
 use Rattle.dv_vault.proofs.Afterwards.{later_than_last}
 
 -- a date that is not later than the last sealed window is earlier than a window behind it

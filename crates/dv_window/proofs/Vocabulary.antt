@@ -6,11 +6,11 @@ pub use Rattle.dv_records.proofs.Vocabulary.{Contains-cons_there, Hashes, append
 pub use Rattle.dv_records.specs.ReadBack.{any_content_read}
 pub use Rattle.dv_mapfile.proofs.Vocabulary.{IfSome, if◌then◌else◌}
 pub use Rattle.dv_vault.proofs.Vocabulary.{AreApart, HasSealed, IsAddition, RawVault, TableRows, TakesWindow, Told, and_parts, are_heads_of, arith, full_at, hashes_of, head_of, last_head, last_load, late_after, loaded, map-append, ◌≤◌, ◌⊎◌}
-pub use Rattle.dv_judge.proofs.Vocabulary.{feed_twice, no_extracts, unknown_feed, window_of, window_rule}
+pub use Rattle.dv_window_rules.proofs.Vocabulary.{feed_twice, no_extracts, unknown_feed, window_of, window_rule}
 pub use Rattle.dv_catalog.specs.declared.rules.Rule.{Rule}
 pub use Rattle.dv_catalog.specs.declared.rules.Rule.TheVariants.{Collision, OpenOther}
 pub use Rattle.dv_catalog.specs.declared.windows.WindowIn.{WindowIn}
-pub use Rattle.dv_judge.proofs.ReadWindows.{window_of-is_window}
+pub use Rattle.dv_window_rules.proofs.ReadWindows.{window_of-is_window}
 pub use Rattle.dv_records.specs.Outcomes.{accepted, collides, differs, has_same_extracts, staged_eq, differs_from, if_new, late, open_other, outcome, refusal, too_long, vault_full, window_at}
 pub use Rattle.dv_records.specs.Snapshots.{snapshot}
 pub use Rattle.dv_records.specs.Standing.{HasTables, IsMappedBy, Stands}
@@ -28,12 +28,12 @@ pub use Rattle.dv_vault.proofs.AddedWindows.{batch_count, full_with, last_same, 
 pub use Rattle.dv_vault.proofs.EmptyTables.{empty_rows}
 pub use Rattle.dv_records.proofs.NoWindows.{none_valid}
 pub use Rattle.dv_vault.proofs.NoWindows.{none_sealed}
-pub use Rattle.dv_start.specs.Completions.{IsBegunAs, MayBeTaken}
+pub use Rattle.dv_restore.specs.Completions.{IsBegunAs, MayBeTaken}
 pub use Rattle.dv_catalog.specs.MappingFiles.{read_mapping}
-pub use Rattle.dv_start.specs.Damages.{BreaksRule, IsFirstDamage, IsInForm, IsNotRead, IsReadAs}
+pub use Rattle.dv_restore.specs.Damages.{BreaksRule, IsFirstDamage, IsInForm, IsNotRead, IsReadAs}
 pub use Rattle.std.specs.Prelude.{not}
-pub use Rattle.dv_start.specs.Restored.{HasKept, IsOfState}
-pub use Rattle.dv_start.specs.declared.restored.Begun.{Begun}
+pub use Rattle.dv_restore.specs.Restored.{HasKept, IsOfState}
+pub use Rattle.dv_restore.specs.declared.restored.Begun.{Begun}
 pub use Rattle.dv_vault.proofs.OtherTables.{has_all, same_tables}
 pub use Rattle.dv_vault.specs.Keeping.{Became, BreaksWindow, BrokeOff, HasRows, IsAsFar, IsBegun, IsLeftOpen, IsOpen, KeepsOthers, TookWindow, reached}
 pub use Rattle.dv_vault.specs.Vaults.{entries_with}
@@ -59,8 +59,8 @@ pub use Rattle.std.specs.Cmp.Lexicographic.{pointwise}
 pub use Rattle.dv_text.specs.Keys.{row_eq}
 pub use Rattle.dv_vault.proofs.Vocabulary.{map-map}
 pub use Rattle.std.proofs.lemmas.List.{map-id, take-append-drop}
-pub use Rattle.dv_start.specs.declared.faults.StoreFault.{StoreFault}
+pub use Rattle.dv_restore.specs.declared.faults.StoreFault.{StoreFault}
 pub use Rattle.dv_vault.proofs.Vocabulary.{AllZip, AllZip-long, Bor, Follow, has_table, is_of_kind, length-map, none_pass, rows_then, slice_get, suc, table_eq, zero, ◌<◌}
 pub use Rattle.dv_records.proofs.Vocabulary.{by_place, is_placed, position}
-pub use Rattle.dv_start.specs.Completions.{rows_there}
+pub use Rattle.dv_restore.specs.Completions.{rows_there}
 pub use Rattle.std.proofs.Common.{length-take}

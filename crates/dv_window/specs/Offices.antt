@@ -18,10 +18,10 @@ use Rattle.dv_records.specs.Standing.{IsMappedBy, Stands}
 use Rattle.dv_records.specs.States.{State, is_valid_state}
 use Rattle.dv_records.specs.Steps.{LoadStep, ResumeStep}
 use Rattle.dv_records.specs.Stores.{rows_then}
-use Rattle.dv_start.specs.declared.restored.Begun.{Begun}
-use Rattle.dv_start.specs.Completions.{IsBegunAs}
-use Rattle.dv_start.specs.Damages.{IsFirstDamage, IsReadAs, mapping_damage}
-use Rattle.dv_start.specs.Restored.{HasKept, heads_of_state}
+use Rattle.dv_restore.specs.declared.restored.Begun.{Begun}
+use Rattle.dv_restore.specs.Completions.{IsBegunAs}
+use Rattle.dv_restore.specs.Damages.{IsFirstDamage, IsReadAs, mapping_damage}
+use Rattle.dv_restore.specs.Restored.{HasKept, heads_of_state}
 use Rattle.dv_vault.specs.Vaults.{HasSealed, RawVault}
 
 -- what an office holds: the vault of the sealed windows, the open window with what it adds, the heads of the snapshots,

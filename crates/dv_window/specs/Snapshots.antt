@@ -5,7 +5,7 @@ use Rattle.std.specs.Prelude.{◌≡◌, ◌<◌, ◌≤◌, ◌+◌, ◌==◌, 
 use Rattle.std.specs.declared.cmp.Ordering.{Ordering}
 use Rattle.dv_text.specs.Keys.{Hashes}
 use Rattle.dv_catalog.specs.Entries.{Mapping}
-use Rattle.dv_form.specs.SnapshotHeads.{heads_weight}
+use Rattle.dv_store_rules.specs.SnapshotHeads.{heads_weight}
 use Rattle.dv_records.specs.declared.answers.SnapAnswer.{SnapAnswer}
 use Rattle.dv_records.specs.declared.answers.SnapAnswer.TheVariants as answers
 use Rattle.dv_records.specs.declared.keepers.KeeperError.{KeeperError}

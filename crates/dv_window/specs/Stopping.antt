@@ -4,8 +4,8 @@ use Rattle.dv_records.specs.declared.keepers.KeeperError.{KeeperError}
 use Rattle.dv_records.specs.declared.keepers.KeeperError.TheVariants as error
 use Rattle.dv_records.specs.declared.answers.ResumeAnswer.{ResumeAnswer}
 use Rattle.dv_records.specs.declared.answers.ResumeAnswer.TheVariants as resumed
-use Rattle.dv_start.specs.declared.faults.StoreFault.{StoreFault}
-use Rattle.dv_start.specs.declared.faults.StoreFault.TheVariants as unread
+use Rattle.dv_restore.specs.declared.faults.StoreFault.{StoreFault}
+use Rattle.dv_restore.specs.declared.faults.StoreFault.TheVariants as unread
 use Rattle.dv_stage.specs.declared.faults.StageFault.{StageFault}
 use Rattle.dv_stage.specs.declared.faults.StageFault.TheVariants as fault
 use Rattle.dv_records.specs.declared.answers.LoadAnswer.{LoadAnswer}

@@ -2,8 +2,8 @@
 use Rattle.std.specs.Prelude.{◌≡◌, ℕ, Option, Some, None, Result, Ok, Err}
 use Rattle.dv_records.specs.declared.keepers.KeeperError.{KeeperError}
 use Rattle.dv_records.specs.declared.stores.Store.{Store}
-use Rattle.dv_start.specs.declared.restored.Begun.{Begun}
-use Rattle.dv_start.specs.Completions.{MayBeTaken}
+use Rattle.dv_restore.specs.declared.restored.Begun.{Begun}
+use Rattle.dv_restore.specs.Completions.{MayBeTaken}
 use Rattle.dv_vault.specs.declared.additions.Addition.{Addition}
 use Rattle.dv_vault.specs.Keeping.{BreaksWindow, TakesWindow}
 use Rattle.dv_window.specs.Offices.{Held}

@@ -1,6 +1,6 @@
 ghost use Rattle.std.specs.Prelude.{◌≡◌};
 
-use dv_start::StoreFault;
+use dv_restore::StoreFault;
 
 /// Why an office could not start.
 #[derive(Debug, PartialEq, Eq, Drop)]

@@ -14,6 +14,6 @@ mod starts;
 mod stops;
 mod takings;
 
-pub use dv_start::StoreFault;
+pub use dv_restore::StoreFault;
 pub use faults::StartFault;
 pub use offices::{Office, Order};

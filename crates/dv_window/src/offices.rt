@@ -1,16 +1,16 @@
 ghost use Rattle.std.specs.Option.{option_map};
 ghost use Rattle.std.specs.Prelude.{◌≡◌, ◌<◌, IfOk, IfSome, IsTrue, length, slice_get, true};
-ghost use Rattle.dv_form.specs.SnapshotHeads.{KeepLimits};
+ghost use Rattle.dv_store_rules.specs.SnapshotHeads.{KeepLimits};
 ghost use Rattle.dv_records.specs.ReadBack.{any_content_read};
 ghost use Rattle.dv_records.specs.Stores.{is_of_kind, rows_in};
-ghost use Rattle.dv_start.specs.Completions.{rows_there};
+ghost use Rattle.dv_restore.specs.Completions.{rows_there};
 ghost use Rattle.dv_catalog.specs.Mappings.{is_valid};
 ghost use Rattle.dv_vault.specs.Vaults.{IsVaultOf, are_heads_of, last_head};
 ghost use Rattle.dv_window.specs.Offices as spec;
 
 use dv_catalog::{Catalog, TableId};
 use dv_records::{Rows, SnapHead};
-use dv_start::Begun;
+use dv_restore::Begun;
 use dv_text::{List, Memory, NRow, Stamp, Window, WindowHead};
 use dv_vault::Vault;
 use std::alloc::Global;
@@ -29,8 +29,8 @@ pub struct Office {
 
 impl Model for Office {
     ghost use Rattle.std.specs.Prelude.{IfSome};
-    ghost use Rattle.dv_form.specs.SnapshotHeads.{KeepLimits};
-    ghost use Rattle.dv_start.specs.Completions.{MayBeTaken};
+    ghost use Rattle.dv_store_rules.specs.SnapshotHeads.{KeepLimits};
+    ghost use Rattle.dv_restore.specs.Completions.{MayBeTaken};
     ghost use Rattle.dv_window.specs.Offices.{Held};
 
     ghost Value = { Held };

@@ -14,9 +14,9 @@ use crate::offices::Office;
 use crate::refusals::addition;
 use crate::stops::Stop;
 use dv_catalog::{Rule, WindowIn};
-use dv_judge::{differs, full, given_rule, late, open_other, stage_window, too_long};
 use dv_text::{KeyDigest, List, Memory, Staged, Stamp, Window, WindowHead};
 use dv_vault::{Addition, Vault};
+use dv_window_rules::{differs, full, given_rule, late, open_other, stage_window, too_long};
 use std::alloc::Global;
 
 /// What is to be done for a window that breaks no rule: what it adds is taken, or the open window, which it is again, is

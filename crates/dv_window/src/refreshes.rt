@@ -5,13 +5,13 @@ ghost use Rattle.dv_text.specs.Keys.{hashes_of};
 ghost use Rattle.dv_text.specs.Told.{Told};
 ghost use Rattle.dv_records.specs.declared.answers.Damage.{Damage};
 ghost use Rattle.dv_records.specs.States.{State};
-ghost use Rattle.dv_start.specs.Damages.{IsInForm, IsNamed, IsNotRead, IsReadAs, mapping_damage as spec_damage};
+ghost use Rattle.dv_restore.specs.Damages.{IsInForm, IsNamed, IsNotRead, IsReadAs, mapping_damage as spec_damage};
 ghost use Rattle.dv_window.specs.Offices.{AgreesUnlessStale, IsDamageFor, IsIn, IsOtherMapping};
 
 use crate::offices::Office;
 use dv_catalog::Catalog;
 use dv_records::Keeper;
-use dv_start::{StoreFault, mapping_damage, read_store, stored_mapping};
+use dv_restore::{StoreFault, mapping_damage, read_store, stored_mapping};
 use dv_text::KeyDigest;
 
 impl Office {

@@ -5,7 +5,7 @@ ghost use Rattle.dv_text.specs.Keys.{Hashes, hashes_of};
 ghost use Rattle.dv_text.specs.Told.{Told};
 ghost use Rattle.dv_records.specs.declared.answers.Damage.{Damage};
 ghost use Rattle.dv_records.specs.States.{State};
-ghost use Rattle.dv_start.specs.Damages.{IsNamed};
+ghost use Rattle.dv_restore.specs.Damages.{IsNamed};
 ghost use Rattle.dv_window.specs.Offices.{AgreesUnlessStale, CompletesTo, IsDamageFor, IsIn, LeavesStill, StaleThen, StandsFor};
 
 use crate::offices::Office;

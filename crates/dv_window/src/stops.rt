@@ -3,8 +3,8 @@ ghost use Rattle.dv_window.specs.Stopping as spec;
 
 use dv_catalog::Rule;
 use dv_records::{KeeperError, LoadAnswer, ResumeAnswer};
+use dv_restore::StoreFault;
 use dv_stage::StageFault;
-use dv_start::StoreFault;
 use dv_text::Memory;
 
 /// Why a window is not loaded: it repeats a sealed one, or breaks a rule; or want of memory.

@@ -11,7 +11,7 @@ ghost use Rattle.dv_window.specs.Takings.{CompletesAs, TookOrBroke};
 
 use crate::offices::Office;
 use dv_records::{Keeper, KeeperError};
-use dv_start::Begun;
+use dv_restore::Begun;
 use dv_vault::Addition;
 
 /// Whether a keeper failed.

@@ -3,7 +3,7 @@ use Rattle.std.specs.List.{Contains}
 use Rattle.std.specs.Prelude.{option_map}
 use Rattle.dv_catalog.specs.Tables.{tables}
 use Rattle.dv_mart.specs.MartTexts.{HasKind, rows_behind}
-use Rattle.dv_texts.specs.TableTexts.{table_text}
+use Rattle.dv_print.specs.TableTexts.{table_text}
 use Rattle.dv_mart.specs.Whats.{table_named}
 use Rattle.dv_records.specs.Stores.{rows_in}
 use Rattle.dv_app.specs.Queries.{TableEnds}

@@ -1,4 +1,4 @@
-use Rattle.dv_keys.proofs.LinkWindows.{next_batch, next_collides, next_free}
+use Rattle.dv_hub_link.proofs.LinkWindows.{next_batch, next_collides, next_free}
 use Rattle.dv_laws.proofs.deltas.link_delta_is_batch.Goals as goal
 
 pub returns-clause-batch : goal.returns-clause-batch

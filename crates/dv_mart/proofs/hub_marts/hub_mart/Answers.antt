@@ -7,7 +7,7 @@ use Rattle.dv_records.specs.Marts.{hub_feeds, hub_rows}
 use Rattle.dv_records.specs.ReadBack.{any_content_read}
 use Rattle.dv_records.proofs.MultiReadBack.{vault_tells}
 use Rattle.dv_mart.specs.HubContents.{keys_of, told_rows}
-use Rattle.dv_texts.specs.HubFeeds.{told}
+use Rattle.dv_print.specs.HubFeeds.{told}
 use Rattle.dv_mart.proofs.HubContents.{mart_is}
 use Rattle.dv_mart.proofs.hub_marts.hub_mart.Goals as goal
 

@@ -1,5 +1,5 @@
 use Rattle.std.specs.Prelude.{◌≡◌, map, take}
-use Rattle.dv_texts.specs.HubFeeds.{told}
+use Rattle.dv_print.specs.HubFeeds.{told}
 use Rattle.dv_mart.specs.PitCells.{with_cells}
 use Rattle.dv_pit.specs.PitTables.{cell_read}
 use Rattle.dv_mart.proofs.pits.add_cells.Given as goal

@@ -3,7 +3,7 @@ use Rattle.dv_catalog.specs.Entries.{Mapping}
 use Rattle.dv_records.specs.declared.stores.TableRows.{TableRows}
 use Rattle.dv_records.specs.Marts.{hub_feeds}
 use Rattle.dv_mart.proofs.Vocabulary.{List}
-use Rattle.dv_texts.specs.HubFeeds.{told}
+use Rattle.dv_print.specs.HubFeeds.{told}
 use Rattle.dv_pit.specs.PitTables.{pit_read}
 use Rattle.dv_pit.proofs.PitTells.{pit_tells}
 use Rattle.dv_mart.proofs.PitCells.{table_of}

@@ -1,0 +1,17 @@
+-- Deliveries to a link.
+use Rattle.dv_hub_link.proofs.Vocabulary.{◌≡◌, ℕ, true, List, ◌∙◌, ap, length, lt-ltb, ltb-true, Link, Mapping, Delivery, AreItems}
+use Rattle.dv_hub_link.proofs.Vocabulary.{are_items as is_items, AreLinkItems, are_of_links, is_of_link, all_pass}
+use Rattle.dv_hub_link.proofs.ItemTests.{passed}
+
+pub are_items : (mapping : Mapping) (items : List Delivery) → AreLinkItems mapping items → AreItems mapping items
+are_items mapping items are = record { parent = Link are.link; declared = lt-ltb are.link (length mapping.links) are.declared; each = are.each; apart = are.apart }
+
+pub items_of_links : (mapping : Mapping) (items : List Delivery) → AreLinkItems mapping items → are_of_links mapping items ≡ true
+items_of_links mapping items are =
+    all_pass (λ (item : Delivery). is_of_link mapping item.table) items
+    (λ item has. ap (is_of_link mapping) (are.each item has).table ∙ lt-ltb are.link (length mapping.links) are.declared)
+
+pub link_items : (mapping : Mapping) (link : ℕ) (items : List Delivery) → is_items mapping (Link link) items ≡ true → AreLinkItems mapping items
+link_items mapping link items e =
+    let is = passed mapping (Link link) items e in
+    record { link = link; declared = ltb-true link (length mapping.links) is.declared; each = is.each; apart = is.apart }

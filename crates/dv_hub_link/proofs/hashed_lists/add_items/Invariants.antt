@@ -1,0 +1,5 @@
+use Rattle.dv_hub_link.proofs.Vocabulary.{◌≡◌, ◌++◌, map, take, list_beside, told}
+use Rattle.dv_hub_link.proofs.hashed_lists.add_items.Given as goal
+
+abbrev pub invariant-loop-item : goal.invariant-loop-item
+invariant-loop-item l = map told l.made.items ≡ map told l.initial.made.items ++ map list_beside (take l.item-index l.items)

@@ -1,0 +1,5 @@
+use Rattle.dv_hub_link_tests.proofs.Vocabulary.{◌≡◌, take, hashes_of, AreHashed, delivered}
+use Rattle.dv_hub_link_tests.proofs.deliveries.hashed.Given as goal
+
+abbrev pub invariant-loop-delivery : goal.invariant-loop-delivery
+invariant-loop-delivery g l = (delivered l.made ≡ take l.delivery-index l.delivery-items) × AreHashed (hashes_of g.H.KeyDigest.function) l.made

@@ -1,9 +1,0 @@
-use Rattle.dv_judge.proofs.Vocabulary.{◌∙◌, sym}
-use Rattle.dv_judge.proofs.TextForms.{raised_part, untrimmed_part}
-use Rattle.dv_judge.proofs.text_forms.is_normal_part.Goals as goal
-
-pub returns-then-is_trimmed : goal.returns-then-is_trimmed
-returns-then-is_trimmed c = c.is_raised.ensures ∙ raised_part c.args.text.now (sym c.is_trimmed.ensures ∙ c.if-is_trimmed.true)
-
-pub returns-else-is_trimmed : goal.returns-else-is_trimmed
-returns-else-is_trimmed c = c.if-is_trimmed.false ∙ untrimmed_part c.args.text.now (sym c.is_trimmed.ensures ∙ c.if-is_trimmed.false)

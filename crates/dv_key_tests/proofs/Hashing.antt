@@ -1,8 +1,0 @@
--- A delivery that is put behind others with its hash key.
-use Rattle.dv_key_tests.proofs.Vocabulary.{◌≡◌, List, [], ◌∷◌, ◌++◌, All-push, AreHashed, HashedDelivery, Hashes, delivered, delivery_of, map-append}
-
-pub delivered_more : (items : List HashedDelivery) (item : HashedDelivery) → delivered (items ++ item ∷ []) ≡ delivered items ++ delivery_of item ∷ []
-delivered_more items item = map-append delivery_of items (item ∷ [])
-
-pub hashed_more : (hashes : Hashes) (items : List HashedDelivery) (item : HashedDelivery) → item.digest ≡ hashes.hash item.refs.now → AreHashed hashes items → AreHashed hashes (items ++ item ∷ [])
-hashed_more hashes items item is are = All-push (λ (item : HashedDelivery). item.digest ≡ hashes.hash item.refs.now) items item are is

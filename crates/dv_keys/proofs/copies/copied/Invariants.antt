@@ -1,6 +1,0 @@
-use Rattle.dv_keys.proofs.Vocabulary.{◌≡◌, take}
-use Rattle.dv_keys.proofs.copies.copied.Given as goal
-
--- the copies so far are the first keys
-abbrev pub invariant-loop-key : goal.invariant-loop-key
-invariant-loop-key l = l.made ≡ take l.key-index l.refs

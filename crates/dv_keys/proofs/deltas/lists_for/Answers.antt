@@ -1,5 +1,0 @@
-use Rattle.dv_keys.proofs.Held.{held_apart_rows}
-use Rattle.dv_keys.proofs.deltas.lists_for.Goals as goal
-
-pub new_lists-requires-clause-held : goal.new_lists-requires-clause-held
-new_lists-requires-clause-held g c κs within = held_apart_rows g.R.Placed.place (g.L.TellsLists.list c.args.lists.now) c.args.rows.now.rows c.note_rows.ensures

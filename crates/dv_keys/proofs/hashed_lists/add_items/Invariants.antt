@@ -1,5 +1,0 @@
-use Rattle.dv_keys.proofs.Vocabulary.{◌≡◌, ◌++◌, map, take, list_beside, told}
-use Rattle.dv_keys.proofs.hashed_lists.add_items.Given as goal
-
-abbrev pub invariant-loop-item : goal.invariant-loop-item
-invariant-loop-item l = map told l.made.items ≡ map told l.initial.made.items ++ map list_beside (take l.item-index l.items)

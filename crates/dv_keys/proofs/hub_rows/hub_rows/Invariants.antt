@@ -1,5 +1,0 @@
-use Rattle.dv_keys.proofs.Vocabulary.{◌≡◌, take, filter_map, hub_row_of, told}
-use Rattle.dv_keys.proofs.hub_rows.hub_rows.Given as goal
-
-abbrev pub invariant-loop-list : goal.invariant-loop-list
-invariant-loop-list l = l.rows ≡ filter_map (λ list. hub_row_of l.catalog l.load (told list)) (take l.list-index l.lists)

@@ -1,8 +1,0 @@
-use Rattle.dv_keys.proofs.Vocabulary.{◌≡◌, length, are_apart}
-use Rattle.dv_keys.proofs.items.are_apart.Given as goal
-
-abbrev pub decreases-loop-item : goal.decreases-loop-item
-decreases-loop-item l = length l.left
-
-abbrev pub invariant-loop-item : goal.invariant-loop-item
-invariant-loop-item l = are_apart l.items ≡ are_apart l.left

@@ -1,7 +1,0 @@
-use Rattle.dv_keys.proofs.Placed.{none_later}
-use Rattle.dv_keys.proofs.key_rows.KeyRows.last_load.Goals as goal
-
-pub returns-in-Some : goal.returns-in-Some
-returns-in-Some g c =
-    rw (← c.self.view_is, c.load.ensures)
-    (none_later g.R.Placed.place c.self.inside.indexed.rows c.self.invariant c.rows.result.now c.rows.ensures c.in-Some.last.now c.in-Some.ensures.value)

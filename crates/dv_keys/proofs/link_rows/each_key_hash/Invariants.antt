@@ -1,5 +1,0 @@
-use Rattle.dv_keys.proofs.Vocabulary.{◌≡◌, take, hashes_of, each_hash}
-use Rattle.dv_keys.proofs.link_rows.each_key_hash.Given as goal
-
-abbrev pub invariant-loop-key : goal.invariant-loop-key
-invariant-loop-key g l = l.made ≡ each_hash (hashes_of g.H.KeyDigest.function) (take l.key-index l.refs)

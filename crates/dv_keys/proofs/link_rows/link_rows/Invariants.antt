@@ -1,5 +1,0 @@
-use Rattle.dv_keys.proofs.Vocabulary.{◌≡◌, map, take, hashes_of, link_row, told}
-use Rattle.dv_keys.proofs.link_rows.link_rows.Given as goal
-
-abbrev pub invariant-loop-list : goal.invariant-loop-list
-invariant-loop-list g l = l.rows ≡ map (λ list. link_row l.catalog (hashes_of g.H.KeyDigest.function) l.load (told list)) (take l.list-index l.lists)

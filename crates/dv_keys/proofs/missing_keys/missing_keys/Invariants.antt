@@ -1,5 +1,0 @@
-use Rattle.dv_keys.proofs.Vocabulary.{◌≡◌, map, take, missing_key}
-use Rattle.dv_keys.proofs.missing_keys.missing_keys.Given as goal
-
-abbrev pub invariant-loop-hub : goal.invariant-loop-hub
-invariant-loop-hub l = l.keys ≡ map (missing_key l.catalog) (take l.hub-index l.hubs)

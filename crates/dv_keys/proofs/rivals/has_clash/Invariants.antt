@@ -1,5 +1,0 @@
-use Rattle.dv_keys.proofs.Vocabulary.{◌≡◌, ◌∷◌, drop, map, has_clash, told}
-use Rattle.dv_keys.proofs.rivals.has_clash.Given as goal
-
-abbrev pub invariant-loop-next : goal.invariant-loop-next
-invariant-loop-next l = has_clash (map told l.lists) ≡ has_clash (map told (l.last ∷ drop l.next-index l.rest))

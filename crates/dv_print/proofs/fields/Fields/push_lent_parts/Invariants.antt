@@ -1,0 +1,5 @@
+use Rattle.dv_print.proofs.Vocabulary.{◌≡◌, ◌++◌, map, take, all_parts}
+use Rattle.dv_print.proofs.fields.Fields.push_lent_parts.Given as goal
+
+abbrev pub invariant-loop-key : goal.invariant-loop-key
+invariant-loop-key l = l.self ≡ l.initial.self ++ all_parts (map (λ key. key.now) (take l.key-index l.refs))

@@ -1,0 +1,119 @@
+-- One raw table more that is gathered, behind those before it in table order.
+use Rattle.dv_store_rules.proofs.Vocabulary.{arith, zero, suc, ◌≡◌, ◌∙◌, ℕ, ◌+◌, ◌<◌, false, true, List, [], ◌∷◌, ◌++◌, Option, Some, None, refl, sym, ap, subst, append-nil, get_or, length, take, drop, take_more, list_any, map, option_map, sum_by_push, tables, table_name, flaw_in, rows_at}
+use Rattle.dv_store_rules.proofs.Vocabulary.{rows_in, rows_weight, table_eq, tables_weight, IsKnown, Known, Hubs, Links, Indexed, Store, TableId, TableRows, Told, take-append-drop}
+use Rattle.std.proofs.Common.{add-one, drop-cons}
+use Rattle.dv_store_rules.proofs.KnownSteps.{feed_known, hub_known, link_known}
+use Rattle.dv_store_rules.specs.Damages.{damage_at}
+use Rattle.dv_store_rules.specs.declared.known.Known.{Known as KnownTables}
+use Rattle.dv_store_rules.specs.KnownTables.{is_of_feed}
+use Rattle.dv_catalog.specs.declared.tables.TableId.TheVariants.{Hub as HubId, Link as LinkId}
+use Rattle.dv_records.specs.declared.answers.Damage.{Damage}
+use Rattle.dv_vault.specs.declared.tables.Table.{Table}
+use Rattle.dv_vault.specs.declared.tables.Table.TheVariants as table
+use Rattle.dv_vault.specs.Vaults.{entry_of}
+use Rattle.dv_restore.specs.declared.gathered.Gathered.{Gathered}
+use Rattle.dv_restore.specs.Readings.{AreGathered, HasPut, IsKnownBy, IsPut, IsRawDamage, TellsKnown, entries_in, AreRead, hub_entries, link_entries}
+use Rattle.dv_restore.proofs.GatheredEntries.{IsNext, entries_put}
+use Rattle.dv_restore.proofs.ReadSteps.{more_read, none_read, read_damaged}
+use Rattle.dv_restore.proofs.TablePlaces.{IsPlaced, counted_put, next_of, none_before, placed}
+
+-- ---- what is known
+
+module _ (first : Known) (old new : Gathered) (weight : ℕ) (known : KnownTables) (is : IsKnownBy first.mapping first.heads old known) (tells : TellsKnown first old) where
+  abbrev read : Known
+  read = record first { tables = entries_in old }
+
+  feed_tells : (next : Table) → is_of_feed (entry_of next).table ≡ true → HasPut old [] [] (next ∷ []) weight new → weight ≡ known.weight + rows_weight (entry_of next).rows
+      → entries_in new ≡ entries_in old ++ entry_of next ∷ [] → TellsKnown first new
+  feed_tells next of put sum entries known' is' =
+      subst (λ l. IsKnown first.hashes first.width known' (record first { tables = l })) (sym entries)
+      (feed_known first.hashes first.width known read (tells known is) known' (is'.catalog_is ∙ sym is.catalog_is) (is'.heads_are ∙ sym is.heads_are) (entry_of next) of
+      (is'.hubs_are ∙ put.hubs_are ∙ append-nil old.hubs.items ∙ sym is.hubs_are) (is'.links_are ∙ put.links_are ∙ append-nil old.links.items ∙ sym is.links_are) (is'.weight_is ∙ put.weight_is ∙ sum))
+
+  known_put : (next : Table) → IsPut old next weight new → IsNext old (entry_of next).table → list_any (λ other. table_eq other.table (entry_of next).table) (entries_in old) ≡ false
+      → weight ≡ known.weight + rows_weight (entry_of next).rows → TellsKnown first new
+  known_put (table.Hub hub rows) put next none sum known' is' =
+      let place : length known.hubs.now ≡ hub = ap length is.hubs_are ∙ sym next.0 in
+      let entries : entries_in old ++ record { table = HubId (length known.hubs.now); rows = Hubs rows.rows } ∷ [] ≡ entries_in new =
+      ap (λ n. entries_in old ++ record { table = HubId n; rows = Hubs rows.rows } ∷ []) place ∙ sym (entries_put old new weight (table.Hub hub rows) put next) in
+      subst (λ l. IsKnown first.hashes first.width known' (record first { tables = l })) entries
+      (hub_known first.hashes first.width known read (tells known is) known' (is'.catalog_is ∙ sym is.catalog_is) (is'.heads_are ∙ sym is.heads_are) rows
+      (is'.hubs_are ∙ put.hubs_are ∙ ap (λ l. l ++ rows ∷ []) (sym is.hubs_are)) (is'.links_are ∙ put.links_are ∙ append-nil old.links.items ∙ sym is.links_are) (is'.weight_is ∙ put.weight_is ∙ sum)
+      (ap (λ n. list_any (λ other. table_eq other.table (HubId n)) (entries_in old)) place ∙ none))
+  known_put (table.Link link rows) put next none sum known' is' =
+      let place : length known.links.now ≡ link = ap length is.links_are ∙ sym next.0 in
+      let entries : entries_in old ++ record { table = LinkId (length known.links.now); rows = Links rows.rows } ∷ [] ≡ entries_in new =
+      ap (λ n. entries_in old ++ record { table = LinkId n; rows = Links rows.rows } ∷ []) place ∙ sym (entries_put old new weight (table.Link link rows) put next) in
+      subst (λ l. IsKnown first.hashes first.width known' (record first { tables = l })) entries
+      (link_known first.hashes first.width known read (tells known is) known' (is'.catalog_is ∙ sym is.catalog_is) (is'.heads_are ∙ sym is.heads_are) rows
+      (is'.hubs_are ∙ put.hubs_are ∙ append-nil old.hubs.items ∙ sym is.hubs_are) (is'.links_are ∙ put.links_are ∙ ap (λ l. l ++ rows ∷ []) (sym is.links_are)) (is'.weight_is ∙ put.weight_is ∙ sum)
+      (ap (λ n. list_any (λ other. table_eq other.table (LinkId n)) (entries_in old)) place ∙ none))
+  known_put (table.Sat feed rows) put next none sum known' is' = feed_tells (table.Sat feed rows) refl put sum (entries_put old new weight (table.Sat feed rows) put next) known' is'
+  known_put (table.Multi feed rows) put next none sum known' is' = feed_tells (table.Multi feed rows) refl put sum (entries_put old new weight (table.Multi feed rows) put next) known' is'
+  known_put (table.Status feed rows) put next none sum known' is' = feed_tells (table.Status feed rows) refl put sum (entries_put old new weight (table.Status feed rows) put next) known' is'
+  known_put (table.Effect feed rows) put next none sum known' is' = feed_tells (table.Effect feed rows) refl put sum (entries_put old new weight (table.Effect feed rows) put next) known' is'
+
+put_weight : (old new : Gathered) (weight : ℕ) (next : Table) → IsPut old next weight new → new.weight ≡ weight
+put_weight old new weight (table.Hub hub rows) put = put.weight_is
+put_weight old new weight (table.Link link rows) put = put.weight_is
+put_weight old new weight (table.Sat feed rows) put = put.weight_is
+put_weight old new weight (table.Multi feed rows) put = put.weight_is
+put_weight old new weight (table.Status feed rows) put = put.weight_is
+put_weight old new weight (table.Effect feed rows) put = put.weight_is
+
+-- ---- no table
+
+nothing_at : {R : Type 0} (tables : List (Indexed R)) (place : ℕ) → tables ≡ [] → [] ≡ rows_at tables place
+nothing_at tables zero none = ap (λ l. rows_at l 0) (sym none)
+nothing_at tables (suc place) none = ap (λ l. rows_at l (suc place)) (sym none)
+
+pub none_gathered : (first : Known) (told : Option Store) (items : List TableId) (gathered : Gathered) → gathered.hubs.items ≡ [] → gathered.links.items ≡ [] → gathered.feeds.items ≡ [] → gathered.weight ≡ 0
+    → AreGathered first told (take 0 items) 0 gathered
+none_gathered first told items gathered no_hubs no_links no_feeds no_weight =
+    let empty : [] ≡ entries_in gathered = λ i. hub_entries 0 (sym no_hubs i) ++ link_entries 0 (sym no_links i) ++ map entry_of (sym no_feeds i) in
+    record {
+      read = subst (AreRead first told []) empty (none_read first told);
+      known = λ known is. subst (λ l. IsKnown first.hashes first.width known (record first { tables = l })) empty (record {
+        mapping = sym is.catalog_is;
+        hashes = refl;
+        width = refl;
+        heads = sym is.heads_are;
+        hubs = λ hub. nothing_at known.hubs.now hub (is.hubs_are ∙ no_hubs);
+        links = λ link. nothing_at known.links.now link (is.links_are ∙ no_links);
+        weight = sym (is.weight_is ∙ no_weight);
+      });
+      weight = no_weight ∙ ap tables_weight empty;
+      counted = record { hubs = omega (arith, ap length no_hubs); links = omega (arith, ap length no_links); feeds = omega (arith, ap length no_feeds) };
+    }
+
+-- ---- one table more
+
+module _ (first : Known) (told : Option Store) (items : List TableId) (all : items ≡ tables first.mapping) (i : ℕ) (id : TableId) (within : i < length items) (here : get_or items i id ≡ id)
+    (old : Gathered) (is : AreGathered first told (take i items) i old) where
+  split : tables first.mapping ≡ take i items ++ id ∷ drop (i + 1) items
+  split =
+      sym all ∙ sym (take-append-drop i items)
+      ∙ ap (λ l. take i items ++ l) (drop-cons items i id within ∙ ap (λ t. t ∷ drop (suc i) items) here ∙ ap (λ n. id ∷ drop n items) (sym (add-one i)))
+
+  pub gathered_more : (new : Gathered) (next : Table) (weight : ℕ) (known : KnownTables) → IsKnownBy first.mapping first.heads old known → IsPut old next weight new → (entry_of next).table ≡ id → weight ≡ known.weight + rows_weight (entry_of next).rows
+      → flaw_in (record first { tables = entries_in old }) id (entry_of next).rows ≡ None → Told told (λ s. (entry_of next).rows ≡ rows_in id s.tables) → AreGathered first told (take (i + 1) items) (i + 1) new
+  gathered_more new next weight known by put same sum clear stored =
+      let at : IsPlaced first.mapping i id = placed first.mapping i id (subst (λ l. i < length l) all within) (subst (λ l. get_or l i id ≡ id) all here) in
+      let place : IsPlaced first.mapping i (entry_of next).table = subst (IsPlaced first.mapping i) (sym same) at in
+      let behind : IsNext old (entry_of next).table = next_of first.mapping i old is.counted (entry_of next).table place in
+      let none : list_any (λ other. table_eq other.table (entry_of next).table) (entries_in old) ≡ false =
+      none_before first.mapping (entries_in old) (entry_of next).table (drop (i + 1) items) ((λ j. is.read.ids_are j ++ same j ∷ drop (i + 1) items) ∙ sym split) in
+      let entries : entries_in new ≡ entries_in old ++ entry_of next ∷ [] = entries_put old new weight next put behind in
+      let taken : take (i + 1) items ≡ take i items ++ id ∷ [] = take_more items i id within ∙ ap (λ t. take i items ++ t ∷ []) here in
+      record {
+        read = subst (λ l. AreRead first told l (entries_in new)) (sym taken)
+            (subst (AreRead first told (take i items ++ id ∷ [])) (sym entries) (more_read first told (take i items) (entries_in old) is.read id (entry_of next) same clear stored));
+        known = known_put first old new weight known by is.known next put behind none sum;
+        weight =
+            put_weight old new weight next put ∙ sum ∙ ap (λ n. n + rows_weight (entry_of next).rows) (by.weight_is ∙ is.weight)
+            ∙ sym (sum_by_push (λ (other : TableRows). rows_weight other.rows) (entries_in old) (entry_of next)) ∙ ap tables_weight (sym entries);
+        counted = counted_put first.mapping i old is.counted weight new next put place;
+      }
+
+  pub gathered_damaged : (damage : Damage) → Told told (λ s. option_map (damage_at (table_name first.mapping id)) (flaw_in (record first { tables = entries_in old }) id (rows_in id s.tables)) ≡ Some damage) → IsRawDamage first told damage
+  gathered_damaged damage found = read_damaged first told (take i items) (entries_in old) is.read id (drop (i + 1) items) split damage found

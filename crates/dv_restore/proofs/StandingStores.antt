@@ -1,0 +1,219 @@
+-- A store that stands for a state of the warehouse: what is restored of it is of that state, and it is in form.
+use Rattle.dv_store_rules.proofs.Vocabulary.{Contains, Hashes, List, Mapping, None, Ok, Option, Some, Store, TableId, TableRows, Window, [], and_parts, ap, append-nil, are_windows_valid, arith, backwards, drop, hashes_of, head_of}
+use Rattle.dv_store_rules.proofs.Vocabulary.{is_window, length, length-append, length-map, map, map-append, map-map, map_member, most_weight, most_windows, nat_le, nat_lt, nat_tests, option_to_list, passes_at, refl, inl, inr, reverse, same_Some}
+use Rattle.dv_store_rules.proofs.Vocabulary.{false, load_order, reverse-append, reverse_member, subst, sym, table_entry, tables, take, take-append-drop, true, vault, vault_weight, ℕ, ◌++◌, ◌+◌, ◌<◌, ◌∙◌, ◌∷◌, ◌≡◌, ◌≤◌}
+use Rattle.dv_text.specs.Keys.{DigestFunction}
+use Rattle.dv_catalog.specs.MappingFiles.{read_mapping}
+use Rattle.dv_catalog.specs.Mappings.{is_valid}
+use Rattle.dv_mapfile.proofs.ReadMappings.{read_valid}
+use Rattle.dv_store_rules.proofs.FewerWindows.{fewer_valid, parts_of_valid}
+use Rattle.dv_store_rules.proofs.Splits.{item_in, last_in}
+use Rattle.dv_store_rules.proofs.Undamaged.{undamaged_if_valid}
+use Rattle.dv_store_rules.specs.Damages.{stored_entries}
+use Rattle.dv_store_rules.specs.SnapshotHeads.{snapshot_heads}
+use Rattle.dv_records.specs.declared.snapshots.Snap.{Snap}
+use Rattle.dv_records.specs.declared.snapshots.SnapHead.{SnapHead}
+use Rattle.dv_records.specs.Snapshots.{snapshot}
+use Rattle.dv_records.proofs.Reversing.{AllBefore, newest_first}
+use Rattle.dv_records.specs.Backwards.{Backwards, with_newest}
+use Rattle.dv_records.specs.Outcomes.{full_at, late_after}
+use Rattle.dv_records.specs.Standing.{HasTables, Stands, TablesStand}
+use Rattle.dv_records.specs.States.{State, all_windows, are_dates_valid, is_valid_state, last_load}
+use Rattle.dv_records.specs.Vault.{partial, table_batch}
+use Rattle.dv_records.specs.declared.answers.Damage.{Damage}
+use Rattle.dv_vault.proofs.AddedBatches.{added_is_batch}
+use Rattle.dv_vault.proofs.AddedWindows.{full_with, last_same}
+use Rattle.dv_vault.proofs.Afterwards.{vault_reached}
+use Rattle.dv_vault.specs.Additions.{AreApart, all_added}
+use Rattle.dv_vault.specs.Vaults.{HasSealed, RawVault, entries_with, last_head}
+use Rattle.dv_restore.proofs.LoadedRows.{rows_left}
+use Rattle.dv_restore.proofs.StoredTables.{read_partial, read_vault}
+use Rattle.dv_restore.proofs.VaultsApart.{vault_is_apart}
+use Rattle.dv_restore.specs.Completions.{IsBegunAs, MayBeCompleted, MayGoOn}
+use Rattle.dv_restore.specs.Damages.{BreaksRule, IsFirstDamage, IsInForm, IsNotRead, IsReadAs, KeepsF15}
+use Rattle.dv_restore.specs.Restored.{IsOfState, heads_of_state}
+use Rattle.dv_restore.specs.Sealed.{sealed_entry, sealed_of}
+use Rattle.dv_restore.specs.declared.restored.Begun.{Begun}
+
+-- ---- the vault of the sealed windows
+
+module _ (mapping : Mapping) (hashes : Hashes) (sealed : List Window) (window : Window) (valid : are_windows_valid mapping hashes (sealed ++ window ∷ []) ≡ true) where
+  -- the windows before the last one are earlier
+  all_earlier : AllBefore (λ (other : Window). other.load) window.load (reverse sealed)
+  all_earlier =
+      let order = newest_first (λ (other : Window). other.load) (sealed ++ window ∷ []) (load_order mapping hashes (sealed ++ window ∷ []) valid) in
+      (rw reverse-append at order).0
+
+  abbrev newer : Backwards
+  newer = with_newest window (backwards sealed)
+
+  -- the rows of tables without those of the window
+  without_newest : (ids : List TableId) → map (sealed_entry (Some window)) (map (table_entry mapping hashes newer) ids) ≡ map (table_entry mapping hashes (backwards sealed)) ids
+  without_newest ids =
+      map-map (sealed_entry (Some window)) (table_entry mapping hashes newer) ids
+      ∙ (λ i. map (λ id. record { table = id; rows = (rows_left mapping hashes (backwards sealed) window all_earlier id).with_batch i }) ids)
+
+  all_older : (ids : List TableId) → map (sealed_entry (Some window)) (map (table_entry mapping hashes (backwards sealed)) ids) ≡ map (table_entry mapping hashes (backwards sealed)) ids
+  all_older ids =
+      map-map (sealed_entry (Some window)) (table_entry mapping hashes (backwards sealed)) ids
+      ∙ (λ i. map (λ id. record { table = id; rows = (rows_left mapping hashes (backwards sealed) window all_earlier id).before i }) ids)
+
+  without_window : (k : ℕ) → map (sealed_entry (Some window)) (partial mapping hashes sealed window k) ≡ vault mapping hashes sealed
+  without_window k =
+      let first = without_newest (take k (tables mapping)) in
+      let rest = all_older (drop k (tables mapping)) in
+      map-append (sealed_entry (Some window)) (map (table_entry mapping hashes newer) (take k (tables mapping))) (map (table_entry mapping hashes (backwards sealed)) (drop k (tables mapping)))
+      ∙ (λ i. first i ++ rest i)
+      ∙ sym (map-append (table_entry mapping hashes (backwards sealed)) (take k (tables mapping)) (drop k (tables mapping)))
+      ∙ ap (map (table_entry mapping hashes (backwards sealed))) (take-append-drop k (tables mapping))
+
+none_left_out : (entries : List TableRows) → map (sealed_entry None) entries ≡ entries
+none_left_out [] = refl
+none_left_out (entry ∷ entries) = ap (λ rest. entry ∷ rest) (none_left_out entries)
+
+module _ (mapping : Mapping) (hashes : Hashes) (store : Store) (sealed : List Window) (windows : store.windows ≡ map head_of sealed) where
+  sealed_there : (begun : Option Window) → store.stage ≡ begun → are_windows_valid mapping hashes (sealed ++ option_to_list begun) ≡ true → TablesStand mapping hashes sealed begun store → HasSealed hashes sealed (sealed_of mapping store)
+  sealed_there None stage valid stand = record {
+    valid = rw append-nil at valid;
+    tables_are = (λ i. map (sealed_entry (stage i)) (read_vault mapping hashes store sealed stand i)) ∙ none_left_out (vault mapping hashes sealed);
+    heads_are = windows;
+  }
+  sealed_there (Some window) stage valid (k, within, stand) = record {
+    valid = fewer_valid mapping hashes sealed window valid;
+    tables_are = (λ i. map (sealed_entry (stage i)) (read_partial mapping hashes store sealed window k stand i)) ∙ without_window mapping hashes sealed window valid k;
+    heads_are = windows;
+  }
+
+-- ---- the open window
+
+-- a load date is not late behind earlier ones
+not_late : (sealed : List Window) (load : ℕ) → AllBefore (λ (window : Window). window.load) load (reverse sealed) → late_after (last_load sealed) load ≡ None
+not_late sealed load early = by (last_load sealed) refl
+  where
+    earlier : (n : ℕ) → Contains (map (λ (window : Window). window.load) sealed) n → n < load
+    earlier n has =
+        let (window, member, same) = map_member (λ (window : Window). window.load) sealed n has in
+        subst (λ n. n < load) same (early window ((reverse_member sealed window).1 member))
+
+    later : (last : ℕ) → last < load → nat_le load last ≡ false
+    later last less = grind (arith, nat_tests)
+
+    by : (last : Option ℕ) → last_load sealed ≡ last → late_after last load ≡ None
+    by None e = refl
+    by (Some last) e = rw (later last (earlier last (last_in (map (λ (window : Window). window.load) sealed) last e))) refl
+
+-- a vault that keeps its limits is not full
+not_full : (weight windows : ℕ) → weight ≤ most_weight → windows + 1 ≤ most_windows → full_at weight windows ≡ None
+not_full weight windows light few =
+    let no_more : nat_lt most_weight weight ≡ false = grind (arith, nat_tests, light) in
+    let no_most : nat_le most_windows windows ≡ false = grind (arith, nat_tests, few) in
+    rw (no_more, no_most) refl
+
+module _ (mapping : Mapping) (hashes : Hashes) (store : Store) (sealed : List Window) (window : Window) (valid_mapping : is_valid mapping ≡ true) (has : HasSealed hashes sealed (sealed_of mapping store)) (valid : are_windows_valid mapping hashes (sealed ++ window ∷ []) ≡ true) where
+  abbrev raw : RawVault
+  raw = sealed_of mapping store
+
+  whole : is_window mapping window ≡ true
+  whole = passes_at (is_window mapping) (sealed ++ window ∷ []) window (parts_of_valid mapping hashes (sealed ++ window ∷ []) valid).whole (item_in sealed window [])
+
+  apart : AreApart hashes (sealed_of mapping store) window
+  apart = vault_is_apart hashes sealed raw has valid_mapping window (parts_of_valid mapping hashes (sealed ++ window ∷ []) valid).apart
+
+  late : late_after (last_load sealed) window.load ≡ None
+  late = not_late sealed window.load (all_earlier mapping hashes sealed window valid)
+
+  late_behind : late_after (last_head store.windows) window.load ≡ None
+  late_behind = ap (λ (last : Option ℕ). late_after last window.load) (ap last_head has.heads_are ∙ sym (last_same sealed)) ∙ late
+
+  may_complete : (k : ℕ) → k ≤ length (tables mapping) → HasTables store (partial mapping hashes sealed window k) → MayBeCompleted hashes (sealed_of mapping store) (stored_entries store (tables mapping)) window
+  may_complete k within stand =
+      let parts = parts_of_valid mapping hashes (sealed ++ window ∷ []) valid in
+      let batches : all_added hashes raw window ≡ map (λ table. table_batch mapping hashes table (backwards sealed) window) (tables mapping) = added_is_batch hashes sealed raw has valid_mapping window whole late apart in
+      let counts = length-append sealed (window ∷ []) in
+      record {
+        apart = apart;
+        room = full_with hashes sealed raw has valid_mapping window whole late_behind apart ∙ not_full (vault_weight mapping hashes (sealed ++ window ∷ [])) (length sealed) parts.light (omega (arith, counts, parts.few));
+        there = k;
+        within = subst (λ n. k ≤ n) (sym (ap length has.tables_are ∙ length-map (tables mapping) (table_entry mapping hashes (backwards sealed)))) within;
+        entries_are = read_partial mapping hashes store sealed window k stand
+            ∙ sym ((λ i. entries_with (has.tables_are i) (take k (batches i))) ∙ vault_reached mapping hashes sealed window k);
+      }
+
+-- ---- a store that stands for a state
+
+windows_valid : (mapping : Mapping) (hashes : Hashes) (state : State) → is_valid_state mapping hashes state ≡ true → are_windows_valid mapping hashes (all_windows state) ≡ true
+windows_valid mapping hashes state valid = (and_parts (are_windows_valid mapping hashes (all_windows state)) (are_dates_valid mapping hashes state) valid).0
+
+module _ (mapping : Mapping) (hashes : Hashes) (state : State) (store : Store) (stands : Stands mapping hashes state store) where
+  -- without the rows of the open window it has the vault of the sealed ones
+  pub has_sealed : HasSealed hashes state.sealed (sealed_of mapping store)
+  has_sealed = sealed_there mapping hashes store state.sealed stands.windows state.begun stands.stage (windows_valid mapping hashes state stands.valid) stands.tables_stand
+
+  -- what is restored of it is of the state
+  pub of_state : (raw : RawVault) → raw ≡ sealed_of mapping store → (begun : Option Begun) → IsBegunAs hashes raw store.stage begun → (snapshots : List SnapHead) → snapshots ≡ snapshot_heads store → IsOfState hashes state raw begun snapshots
+  of_state raw is begun begun_as snapshots are = record {
+    valid = ap (λ (raw : RawVault). is_valid_state raw.mapping hashes state) is ∙ stands.valid;
+    sealed_are = subst (HasSealed hashes state.sealed) (sym is) has_sealed;
+    begun_is = subst (λ (stage : Option Window). IsBegunAs hashes raw stage begun) stands.stage begun_as;
+    snapshots_are = are
+        ∙ ap (map (λ (snap : Snap). snap.head)) stands.snapshots
+        ∙ map-map (λ (snap : Snap). snap.head) (snapshot mapping hashes state.sealed) state.dates
+        ∙ ap (λ (raw : RawVault). heads_of_state raw.mapping hashes state) (sym is);
+  }
+
+  -- its mapping is valid
+  pub valid_mapping : is_valid mapping ≡ true
+  valid_mapping = read_valid stands.mapped.text mapping stands.mapped.reads
+
+  goes_on : (begun : Option Window) → state.begun ≡ begun → MayGoOn hashes (sealed_of mapping store) (stored_entries store (tables mapping)) begun
+  goes_on None e = tt
+  goes_on (Some window) e =
+      let valid = subst (λ (begun : Option Window). are_windows_valid mapping hashes (state.sealed ++ option_to_list begun) ≡ true) e (windows_valid mapping hashes state stands.valid) in
+      let (k, within, stand) = subst (λ (begun : Option Window). TablesStand mapping hashes state.sealed begun store) e stands.tables_stand in
+      may_complete mapping hashes store state.sealed window valid_mapping has_sealed valid k within stand
+
+  -- the open window may be completed
+  pub may_be_completed : (window : Window) → state.begun ≡ Some window → MayBeCompleted hashes (sealed_of mapping store) (stored_entries store (tables mapping)) window
+  may_be_completed window = goes_on (Some window)
+
+  pub keeps_f15 : KeepsF15 hashes mapping store
+  keeps_f15 = goes_on store.stage (sym stands.stage)
+
+-- ---- no damage
+
+-- two mappings that the stored text is read as are one
+pub same_mapping : (a b : Mapping) (store : Store) → IsReadAs a store → IsReadAs b store → a ≡ b
+same_mapping a b store of_a of_b =
+    let texts : Some of_a.text ≡ Some of_b.text = sym of_a.stored_is ∙ of_b.stored_is in
+    let text : of_a.text ≡ of_b.text = same_Some of_a.text of_b.text texts in
+    let both : Ok a ≡ Ok b = sym of_a.reads ∙ ap read_mapping text ∙ of_b.reads in
+    cc
+
+-- nor is its mapping not read
+pub never_unread : (mapping : Mapping) (hashes : Hashes) (state : State) (store : Store) → Stands mapping hashes state store → (damage : Damage) → IsNotRead store damage → ⊥
+never_unread mapping hashes state store stands damage unread =
+    let here = stands.mapped in
+    let text : here.text ≡ unread.text = same_Some here.text unread.text (sym here.stored_is ∙ unread.stored_is) in
+    unread.refused mapping (ap read_mapping (sym text) ∙ here.reads)
+
+module _ (mapping : Mapping) (function : DigestFunction) (state : State) (store : Store) (stands : Stands mapping (hashes_of function) state store) where
+  -- it is in form
+  pub in_form : IsInForm (hashes_of function) function.width mapping store
+  in_form = record {
+    undamaged = undamaged_if_valid mapping function (valid_mapping mapping (hashes_of function) state store stands) state store stands;
+    goes_on = keeps_f15 mapping (hashes_of function) state store stands;
+  }
+
+  -- so none of the rules behind that of the mapping is broken
+  pub none_broken : (damage : Damage) → BreaksRule (hashes_of function) function.width mapping store damage → ⊥
+  none_broken damage (inl broken) =
+      let none : None ≡ Some damage = sym in_form.undamaged ∙ broken in
+      cc
+  none_broken damage (inr broken) = broken.stops in_form.goes_on
+
+  -- and nothing in it is its first damage
+  pub never_damaged : (damage : Damage) → IsFirstDamage (hashes_of function) function.width store damage → ⊥
+  never_damaged damage (inl unread) = never_unread mapping (hashes_of function) state store stands damage unread
+  never_damaged damage (inr (other, other_read, broken)) =
+      let same = same_mapping other mapping store other_read stands.mapped in
+      none_broken damage (subst (λ (read : Mapping). BreaksRule (hashes_of function) function.width read store damage) same broken)

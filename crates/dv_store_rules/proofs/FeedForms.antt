@@ -1,0 +1,40 @@
+-- What the rules of a feed's rows look up is what is read of a store.
+use Rattle.dv_store_rules.proofs.Vocabulary.{◌≡◌, ℕ, false, List, Option, Some, None, map, refl, sym, option_map, option_map_or, slice_get, has_number, is_delivered, is_source, has_parent, source_by, list_any, bytes_eq, Hashes, FeedDef, Parent, Known, KnownTables, IsKnown, is_under, is_in_parent}
+use Rattle.dv_store_rules.proofs.Vocabulary.{◌==◌, ◌+◌, ◌≤◌, Mapping, true, and_from, and_parts, are_texts, arith, attrs_fit, eqb-true, is_valid, le-leb, length, sum_by, valid_feed}
+use Rattle.dv_store_rules.proofs.RuleParts.{source_told}
+use Rattle.dv_store_rules.specs.OwnRules.{is_among}
+use Rattle.dv_catalog.specs.declared.entries.Parent.TheVariants.{Hub, Link}
+
+module _ (hashes : Hashes) (width : ℕ) (known : KnownTables) (read : Known) (is : IsKnown hashes width known read) (feed : ℕ) where
+  pub delivered_told : (loads : List ℕ) (load : ℕ) → has_number loads load ≡ is_delivered known.heads.now feed load → is_delivered read.heads feed load ≡ has_number loads load
+  delivered_told loads load told = rw is.heads (sym told)
+
+  pub source_is_told : (sources : List (List ℕ)) (source : List ℕ) → sources ≡ map (λ feed. source_by (Some feed)) known.catalog.now.feeds → is_source read.mapping source ≡ is_among sources source
+  source_is_told sources source from = rw is.mapping (source_told known.catalog.now sources source from)
+
+  parent_is : (parent : Parent) (digest : List ℕ) → is_in_parent read.tables parent digest ≡ is_under known.hubs.now known.links.now (Some parent) digest
+  parent_is (Hub hub) digest = λ i. list_any (λ row. bytes_eq row.digest digest) (is.hubs hub i)
+  parent_is (Link link) digest = λ i. list_any (λ row. bytes_eq row.digest digest) (is.links link i)
+
+  by_parent : (def : Option FeedDef) (digest : List ℕ)
+      → option_map_or (λ feed. is_in_parent read.tables feed.parent digest) def false ≡ is_under known.hubs.now known.links.now (option_map (λ feed. feed.parent) def) digest
+  by_parent None digest = refl
+  by_parent (Some def) digest = parent_is def.parent digest
+
+  pub parent_told : (digest : List ℕ) → has_parent read feed digest ≡ is_under known.hubs.now known.links.now (option_map (λ def. def.parent) (slice_get known.catalog.now.feeds feed)) digest
+  parent_told digest = rw is.mapping (by_parent (slice_get known.catalog.now.feeds feed) digest)
+
+-- ---- how many texts there are
+
+fewer : (keys sub attrs : ℕ) → keys + sub + attrs ≤ 32 → attrs ≤ 32
+fewer keys sub attrs few = omega arith
+
+pub few_attrs : (mapping : Mapping) (feed : ℕ) (def : FeedDef) → is_valid mapping ≡ true → slice_get mapping.feeds feed ≡ Some def → length def.attrs ≤ 32
+few_attrs mapping feed def valid there = fewer (sum_by length def.keys) (length def.sub) (length def.attrs) (valid_feed mapping valid feed def there).few_columns
+
+-- few texts, none of them too long, fit a room
+pub texts_fit : (count : ℕ) (texts : List (List ℕ)) → count ≤ 32 → are_texts count texts ≡ true → attrs_fit texts ≡ true
+texts_fit count texts few form =
+    let (counted, short) = and_parts (length texts == count) _ form in
+    let is : length texts ≡ count = eqb-true (length texts) count counted in
+    and_from _ _ (le-leb (length texts) 32 (omega arith)) short

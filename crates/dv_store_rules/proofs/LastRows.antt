@@ -1,0 +1,26 @@
+-- The last item of a list.
+use Rattle.dv_store_rules.proofs.Vocabulary.{◌≡◌, ◌-◌, List, [], ◌∷◌, Option, Some, length, last_or, map, refl, arith, ◌∙◌, ap, sym, option_map, slice_get, ℕ, None, is_lt, nat_cmp, nat_lt, nat_tests, option_map_or, true}
+
+last_got : {X : Type 0} (o : Option X) (x : X) (xs : List X) → last_or o (x ∷ xs) ≡ slice_get (x ∷ xs) (length xs)
+last_got o x [] = refl
+last_got o x (y ∷ xs) = last_got (Some x) y xs
+
+pub last_is : {X : Type 0} (o : Option X) (xs : List X) (x : X) → Some x ≡ slice_get xs (length xs - 1) → last_or o xs ≡ Some x
+last_is o [] x there = cc
+last_is o (y ∷ xs) x there =
+    let place : length xs ≡ length (y ∷ xs) - 1 = omega arith in
+    last_got o y xs ∙ ap (slice_get (y ∷ xs)) place ∙ sym there
+
+pub last_map : {X Y : Type 0} (f : X → Y) (o : Option X) (xs : List X) → last_or (option_map f o) (map f xs) ≡ option_map f (last_or o xs)
+last_map f o [] = refl
+last_map f o (x ∷ xs) = last_map f (Some x) xs
+
+-- a date later than that of the last item
+lt_is : (a b : ℕ) → is_lt (nat_cmp a b) ≡ nat_lt a b
+lt_is a b = grind (arith, nat_tests)
+
+pub later_than : {X : Type 0} (date_of : X → ℕ) (items : List X) (last : X) (date : ℕ) → Some last ≡ slice_get items (length items - 1)
+    → is_lt (nat_cmp (date_of last) date) ≡ option_map_or (λ before. nat_lt before date) (last_or None (map date_of items)) true
+later_than date_of items last date there =
+    let is : last_or None (map date_of items) ≡ Some (date_of last) = last_map date_of None items ∙ ap (option_map date_of) (last_is None items last there) in
+    rw is (lt_is (date_of last) date)

@@ -1,0 +1,71 @@
+-- The rules of a row in their parts: those for a row by itself, that of the turns, and that of the weight.
+use Rattle.dv_store_rules.proofs.Vocabulary.{◌≡◌, ℕ, Bool, true, false, not, List, [], ◌∷◌, ◌++◌, Option, Some, None, map, refl, sym, ◌∙◌, ap, option_or, option_or-none, or_none, find, reverse, is_none, list_any, list_any-map, bytes_eq, first_of, if_broken, source_by, false≢true, found_member, none_found_at, none_passes, reverse_member, some_passes}
+use Rattle.dv_store_rules.proofs.Vocabulary.{AreClear, FeedDef, Mapping, Ordering, Place, is_source, own_rule, plain_rule, turn_rule, turning_rule}
+use Rattle.dv_store_rules.specs.OwnRules.{is_among}
+
+-- ---- the first of tests
+
+pub first_append : {R : Type 0} (xs ys : List (Option R)) → first_of (xs ++ ys) ≡ option_or (first_of xs) (first_of ys)
+first_append [] ys = refl
+first_append (None ∷ xs) ys = first_append xs ys
+first_append (Some x ∷ xs) ys = refl
+
+or_assoc : {R : Type 0} (a b c : Option R) → option_or (option_or a b) c ≡ option_or a (option_or b c)
+or_assoc None b c = refl
+or_assoc (Some x) b c = refl
+
+-- the rules before that of the hash, that, those behind it, that of the turns, and that of the weight
+pub in_parts : {R : Type 0} (early : List (Option R)) (hash : Option R) (late : List (Option R)) (turn weight : Option R)
+    → first_of (early ++ hash ∷ (late ++ turn ∷ weight ∷ [])) ≡ option_or (option_or (first_of early) (option_or hash (first_of late))) (option_or turn weight)
+in_parts early hash late turn weight =
+    first_append early (hash ∷ (late ++ turn ∷ weight ∷ []))
+    ∙ ap (λ rest. option_or (first_of early) (option_or hash rest)) (first_append late (turn ∷ weight ∷ []) ∙ ap (λ rest. option_or (first_of late) (option_or turn rest)) (option_or-none weight))
+    ∙ ap (option_or (first_of early)) (sym (or_assoc hash (first_of late) (option_or turn weight)))
+    ∙ sym (or_assoc (first_of early) (option_or hash (first_of late)) (option_or turn weight))
+
+-- the same without a rule of turns
+pub in_plain_parts : {R : Type 0} (early : List (Option R)) (hash : Option R) (late : List (Option R)) (weight : Option R)
+    → first_of (early ++ hash ∷ (late ++ weight ∷ [])) ≡ option_or (option_or (first_of early) (option_or hash (first_of late))) weight
+in_plain_parts early hash late weight =
+    first_append early (hash ∷ (late ++ weight ∷ []))
+    ∙ ap (λ rest. option_or (first_of early) (option_or hash rest)) (first_append late (weight ∷ []) ∙ ap (option_or (first_of late)) (option_or-none weight))
+    ∙ ap (option_or (first_of early)) (sym (or_assoc hash (first_of late) weight))
+    ∙ sym (or_assoc (first_of early) (option_or hash (first_of late)) weight)
+
+-- ---- record sources
+
+pub source_told : (mapping : Mapping) (sources : List (List ℕ)) (source : List ℕ) → sources ≡ map (λ feed. source_by (Some feed)) mapping.feeds → is_source mapping source ≡ is_among sources source
+source_told mapping sources source e = rw e (sym (list_any-map (bytes_eq source) (λ (feed : FeedDef). source_by (Some feed)) mapping.feeds))
+
+-- ---- hash keys that stand once
+
+pub none_found : {X : Type 0} (p : X → Bool) (xs : List X) → is_none (find p (reverse xs)) ≡ not (list_any p xs)
+none_found p xs = by (find p (reverse xs)) refl (list_any p xs) refl
+  where
+    by : (o : Option _) → find p (reverse xs) ≡ o → (b : Bool) → list_any p xs ≡ b → is_none (find p (reverse xs)) ≡ not (list_any p xs)
+    by None none false e = rw (none, e) refl
+    by None none true e =
+        let (x, member, passes) = some_passes p xs e in
+        absurd (false≢true (sym (none_found_at p (reverse xs) x none ((reverse_member xs x).1 member)) ∙ passes))
+    by (Some x) some true e = rw (some, e) refl
+    by (Some x) some false e =
+        let (member, passes) = found_member p (reverse xs) x some in
+        absurd (false≢true (sym (none_passes p xs x e ((reverse_member xs x).0 member)) ∙ passes))
+
+-- a rule that isn't broken holds
+pub held : (rule : ℕ) (holds : Bool) → if_broken rule holds ≡ None → holds ≡ true
+held rule true e = refl
+held rule false e = cc
+
+-- ---- the parts of a clear table
+
+module _ {R : Type 0} (place : R → Place) (order : R → R → Ordering) (own : R → Bool → Option ℕ) (fits : Option R → R → Bool) (turn : ℕ) (weight_of : R → ℕ) (weight : ℕ) (rows : List R) (count : ℕ) where
+  pub owns_clear : AreClear (turning_rule place order own fits turn weight_of weight) rows count → AreClear (own_rule place order own) rows count
+  owns_clear clear at row under there = (or_none _ _ (clear at row under there)).0
+
+  pub turns_clear : AreClear (turning_rule place order own fits turn weight_of weight) rows count → AreClear (turn_rule place fits turn) rows count
+  turns_clear clear at row under there = (or_none _ _ (or_none _ _ (clear at row under there)).1).0
+
+pub plain_owns_clear : {R : Type 0} (place : R → Place) (order : R → R → Ordering) (own : R → Bool → Option ℕ) (weight_of : R → ℕ) (weight : ℕ) (rows : List R) (count : ℕ)
+    → AreClear (plain_rule place order own weight_of weight) rows count → AreClear (own_rule place order own) rows count
+plain_owns_clear place order own weight_of weight rows count clear at row under there = (or_none _ _ (clear at row under there)).0

@@ -1,0 +1,104 @@
+-- The rows of a feed's status table after valid windows break no rule of form.
+use Rattle.dv_store_rules.proofs.Vocabulary.{Contains, Contains-append_right, Extract, IsApart, IsStrictlySortedBy, IsTotalOrder, Key, List, None, Option, Some, Status, StatusRow, Window, [], all_refs, ap, appended, appended-history, ascending-sorted_by}
+use Rattle.dv_store_rules.proofs.Vocabulary.{code_of, feed_batch, filter_map, history, lists_of, made_of, most_weight, nat_list_cmp_total, newest_rows, on_total, reverse, source, status_batch, status_cmp, status_row, subst, sym, tables_weight, text_weight, true}
+use Rattle.dv_store_rules.proofs.Vocabulary.{ℕ, ◌++◌, ◌+◌, ◌∙◌, ◌∷◌, ◌≡◌}
+use Rattle.dv_store_rules.specs.FormRules.{Known, follows, has_parent, is_delivered, is_digest, is_light, is_source, last_code, takes_turn}
+use Rattle.dv_store_rules.specs.StoredRows.{status_rule}
+use Rattle.dv_records.proofs.FeedContents.{feed_apart}
+use Rattle.dv_records.proofs.LastChange.{lists_reversed}
+use Rattle.dv_records.proofs.StatusReconstruct.{both_lists}
+use Rattle.dv_records.specs.declared.stores.Rows.TheVariants.{Statuses}
+use Rattle.dv_store_rules.proofs.Around.{Around, HaveParents, IsFlawless}
+use Rattle.dv_store_rules.proofs.BatchRows.{IsOfBatch}
+use Rattle.dv_store_rules.proofs.FeedRows.{FeedFacts, IsFeedMade, feed_facts, its_feed}
+use Rattle.dv_store_rules.proofs.Flawless.{unbroken}
+use Rattle.dv_store_rules.proofs.KeyRows.{digests_differ}
+use Rattle.dv_store_rules.proofs.SoundRows.{sound_rows}
+use Rattle.dv_store_rules.proofs.Splits.{less_before}
+use Rattle.dv_store_rules.proofs.CodeTurns.{lists_of_more, turn_taken}
+
+module _ (known : Known) (feed : ℕ) where
+  abbrev parent_of : StatusRow → List ℕ
+  parent_of row = row.parent
+
+  abbrev load_of : StatusRow → ℕ
+  load_of row = row.load
+
+  abbrev source_of : StatusRow → List ℕ
+  source_of row = row.source
+
+  abbrev refs_of : List Key → List Key
+  refs_of refs = refs
+
+  abbrev things : List Extract → Extract → List (List Key)
+  things older newest = all_refs (newest_rows older) ++ all_refs newest.rows
+
+  abbrev row_of : List Extract → Extract → List Key → Option StatusRow
+  row_of = status_row known.hashes (source known.mapping feed)
+
+  -- a row has the code that the list got
+  status_made : (older : List Extract) (newest : Extract) (refs : List Key) (row : StatusRow) → row_of older newest refs ≡ Some row
+      → IsFeedMade known feed status_cmp parent_of load_of source_of refs_of newest refs row × (code_of older newest refs ≡ Some row.code)
+  status_made older newest refs row gives =
+      let (code, found, is) = made_of _ (code_of older newest refs) row gives in
+      (record { parent = ap parent_of (sym is); load = ap load_of (sym is); source = ap source_of (sym is) }, found ∙ ap (λ (r : StatusRow). Some r.code) is)
+
+  made : (older : List Extract) (newest : Extract) (refs : List Key) (row : StatusRow) → row_of older newest refs ≡ Some row → IsFeedMade known feed status_cmp parent_of load_of source_of refs_of newest refs row
+  made older newest refs row gives = (status_made older newest refs row gives).0
+
+  listed : (older : List Extract) (newest : Extract) (refs : List Key) → Contains (things older newest) refs → Contains (things older newest) refs
+  listed older newest refs has = has
+
+  total : IsTotalOrder status_cmp
+  total = on_total parent_of nat_list_cmp_total
+
+  module _ (windows : List Window) (around : Around known windows) (parents : HaveParents known windows) (before : List StatusRow) (row : StatusRow)
+      (is : IsOfBatch (status_batch known.hashes (source known.mapping feed)) (history feed (reverse windows)) before row) where
+    facts : FeedFacts known feed status_cmp parent_of load_of source_of refs_of total things row_of made listed windows around parents before row is
+    facts = feed_facts known feed status_cmp parent_of load_of source_of refs_of total things row_of made listed windows around parents before row is
+
+    hashed : row.parent ≡ known.hashes.hash facts.thing
+    hashed = (made is.older is.newest facts.thing row facts.gives).parent
+
+    -- no two lists of the feed's extracts up to the row's have one hash key
+    apart : IsApart known.hashes (lists_of (is.newest ∷ is.older))
+    apart a b a_in b_in =
+        let found = its_feed known windows around feed is.newest facts.extract_in in
+        feed_apart known.mapping known.hashes windows feed found.definition around.mapping_valid around.valid found.got a b (lists_reversed feed windows a (more a a_in)) (lists_reversed feed windows b (more b b_in))
+      where
+        more : (refs : List Key) → Contains (lists_of (is.newest ∷ is.older)) refs → Contains (lists_of (history feed (reverse windows))) refs
+        more = lists_of_more (is.newest ∷ is.older) (history feed (reverse windows)) (λ extract has. subst (λ all. Contains all extract) (sym is.events_are) (Contains-append_right is.newer (is.newest ∷ is.older) extract has))
+
+    -- no row between has its parent
+    others : (other : StatusRow) → Contains is.between other → other.parent ≡ known.hashes.hash facts.thing → ⊥
+    others other has same =
+        let up = ascending-sorted_by status_cmp total (filter_map (row_of is.older is.newest) (things is.older is.newest)) in
+        let less = less_before status_cmp is.between row is.after (subst (IsStrictlySortedBy status_cmp) is.batch_is up) other has in
+        digests_differ other.parent row.parent less (same ∙ sym hashed)
+
+    turns : takes_turn (last_code before row.parent) row.code ≡ true
+    turns =
+        let in_lists = both_lists is.newest is.older facts.thing facts.thing_in in
+        let taken = turn_taken known.hashes (source known.mapping feed) is.newest is.older facts.order apart facts.thing in_lists is.between others row.code (status_made is.older is.newest facts.thing row facts.gives).1 in
+        subst (λ rows. takes_turn (last_code rows row.parent) row.code ≡ true) (sym is.before_are)
+        (subst (λ parent. takes_turn (last_code (appended (status_batch known.hashes (source known.mapping feed)) is.older ++ is.between) parent) row.code ≡ true) (sym hashed) taken)
+
+    sound_row : is_light known (Statuses (before ++ row ∷ [])) ≡ true → status_rule known feed before row ≡ None
+    sound_row light =
+        unbroken
+        ((4, is_digest known.width row.parent)
+        ∷ (5, is_delivered known.heads feed row.load)
+        ∷ (6, follows load_of status_cmp before row)
+        ∷ (8, is_source known.mapping row.source)
+        ∷ (9, has_parent known feed row.parent)
+        ∷ (11, takes_turn (last_code before row.parent) row.code)
+        ∷ (13, is_light known (Statuses (before ++ row ∷ [])))
+        ∷ [])
+        (facts.wide, (facts.loaded, (facts.ordered, (facts.sourced, (facts.parented, (turns, (light, tt)))))))
+
+  -- no row of the table breaks a rule
+  pub sound_status : (windows : List Window) → Around known windows → HaveParents known windows → IsFlawless known windows (Status feed)
+  sound_status windows around parents light =
+      let batch = status_batch known.hashes (source known.mapping feed) in
+      sound_rows batch (history feed (reverse windows)) (status_rule known feed) (λ (row : StatusRow). 128 + text_weight row.source) (tables_weight known.tables) most_weight (appended (feed_batch feed batch) (reverse windows))
+      (appended-history feed batch (reverse windows)) light (sound_row windows around parents)

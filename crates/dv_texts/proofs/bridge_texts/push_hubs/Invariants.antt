@@ -1,6 +1,0 @@
-use Rattle.dv_texts.proofs.Vocabulary.{◌≡◌, ◌++◌, hub_name, map, slice_get, take}
-use Rattle.dv_texts.specs.Texts.{dotted}
-use Rattle.dv_texts.proofs.bridge_texts.push_hubs.Given as goal
-
-abbrev pub invariant-loop-hub : goal.invariant-loop-hub
-invariant-loop-hub l = l.header ≡ l.initial.header ++ map (λ hub. dotted l.fn.feed (hub_name (slice_get l.fn.catalog.hubs hub))) (take l.hub-index l.hubs)

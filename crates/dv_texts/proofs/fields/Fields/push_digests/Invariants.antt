@@ -1,5 +1,0 @@
-use Rattle.dv_texts.proofs.Vocabulary.{◌≡◌, ◌++◌, map, take, encode_lower}
-use Rattle.dv_texts.proofs.fields.Fields.push_digests.Given as goal
-
-abbrev pub invariant-loop-digest : goal.invariant-loop-digest
-invariant-loop-digest l = l.self ≡ l.initial.self ++ map encode_lower (take l.digest-index l.digests)

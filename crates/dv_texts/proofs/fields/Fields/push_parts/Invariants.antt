@@ -1,5 +1,0 @@
-use Rattle.dv_texts.proofs.Vocabulary.{◌≡◌, ◌++◌, take, all_parts}
-use Rattle.dv_texts.proofs.fields.Fields.push_parts.Given as goal
-
-abbrev pub invariant-loop-key : goal.invariant-loop-key
-invariant-loop-key l = l.self ≡ l.initial.self ++ all_parts (take l.key-index l.refs)

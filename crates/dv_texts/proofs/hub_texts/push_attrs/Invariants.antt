@@ -1,6 +1,0 @@
-use Rattle.dv_texts.proofs.Vocabulary.{◌≡◌, ◌++◌, map, take}
-use Rattle.dv_texts.specs.Texts.{dotted}
-use Rattle.dv_texts.proofs.hub_texts.push_attrs.Given as goal
-
-abbrev pub invariant-loop-attr : goal.invariant-loop-attr
-invariant-loop-attr l = l.header ≡ l.initial.header ++ map (dotted l.fn.feed.name) (take l.attr-index l.attr-items)

@@ -1,6 +1,0 @@
-use Rattle.dv_texts.proofs.Vocabulary.{◌≡◌, ◌++◌, ◌∷◌, [], take, flat_map}
-use Rattle.dv_texts.specs.Texts.{load_or_blank, yes_or_no}
-use Rattle.dv_texts.proofs.pit_texts.push_cells.Given as goal
-
-abbrev pub invariant-loop-cell : goal.invariant-loop-cell
-invariant-loop-cell l = l.fields ≡ l.initial.fields ++ flat_map (λ cell. load_or_blank cell.load ∷ yes_or_no cell.present ∷ []) (take l.cell-index l.cells)

@@ -1,5 +1,0 @@
-use Rattle.dv_texts.proofs.PartColumns.{one_part_more}
-use Rattle.dv_texts.proofs.table_texts.hub_header.Goals as goal
-
-pub loop-n-preserved : goal.loop-n-preserved
-loop-n-preserved c = one_part_more c.loop-n.n c.loop-n.header _ c.loop-n.invariant c.in_ok-push_part.ensures
