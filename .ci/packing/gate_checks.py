@@ -82,12 +82,16 @@ def held_to_both(trial):
 
 
 def held_to_toolchain(trial):
-    """.ci/release --check refuses a release by another toolchain than the one that is here"""
-    put_program(trial.top, program_of(trial), trial.toolchain)
-    expect("the same", passed(trial), trial.check_release(path=trial.path_with_rt()))
+    """.ci/release --check compares no bytes with a release by another toolchain, says so, and still asks for its sources"""
+    released = program_of(trial)
+    put_program(trial.top, released + b"\0", trial.toolchain)
+    expect("the same", (1, differs(released + b"\0", released).encode(), b""), trial.check_release(path=trial.path_with_rt()))
     named, trial.toolchain = trial.toolchain, "another one"
-    line = f"release check failed: release/sources names the toolchain {named}, and here is another one\n"
-    expect("another one", (1, line.encode(), b""), trial.check_release(path=trial.path_with_rt()))
+    told = passed(trial)[1].decode().replace("is the built program, of the checkout's sources\n", (
+        f"is of the checkout's sources; it was built by {named}, and here is another one, so its bytes are not compared\n"))
+    expect("another one", (0, told.encode(), b""), trial.check_release(path=trial.path_with_rt()))
+    append(trial.top / "crates/dv_text/src/lib.rt", "// more\n")
+    expect("other sources", (1, OTHER_SOURCES.encode(), b""), trial.check_release(path=trial.path_with_rt()))
 
 
 def damage_is_told(trial):

@@ -85,14 +85,26 @@ def is_begun():
 
 
 def hold_to_sources():
-    """Fails where the release is not of the checkout's sources, or not by the toolchain of this machine, if it has one."""
+    """Fails where the release is not of the checkout's sources."""
     match = read(SOURCES, SOURCES_FORM)
     if sources_by(match[1]) != match[0]:
         raise Fault(f"{name_of(SOURCES)} is not that of the checkout: the release is of other sources. .ci/release renews it")
-    rt = shutil.which("rt")
-    here = subprocess.run([rt, "version"], capture_output=True, text=True).stdout.strip() if rt else match[1]
-    if here != match[1]:
-        raise Fault(f"{name_of(SOURCES)} names the toolchain {match[1]}, and here is {here}")
+
+
+def toolchains():
+    """The toolchain that the release names, and that of this machine: the same one where it has none."""
+    released, rt = read(SOURCES, SOURCES_FORM)[1], shutil.which("rt")
+    here = subprocess.run([rt, "version"], capture_output=True, text=True).stdout.strip() if rt else released
+    return released, here
+
+
+def is_by_another_toolchain():
+    """Whether the release was built by another toolchain than this machine's, which may make other bytes of the sources."""
+    try:
+        released, here = toolchains()
+    except Fault:
+        return False
+    return released != here
 
 
 def hold_to_built(released):
@@ -108,7 +120,10 @@ def hold_to_built(released):
 
 
 def faults(is_compared=True):
-    """What is wrong with the release, as texts: its files, its sources, and the bytes of the built program."""
+    """What is wrong with the release, as texts: its files, its sources, and the bytes of the built program.
+
+    Bytes that another toolchain built are not held to those of the release.
+    """
     found, released = [], []
 
     def tried(call, *given):
@@ -120,7 +135,7 @@ def faults(is_compared=True):
     tried(version)
     tried(hold_to_sources)
     released = tried(program)
-    if is_compared and released is not None:
+    if is_compared and released is not None and not is_by_another_toolchain():
         tried(hold_to_built, released)
     return found
 
