@@ -2,7 +2,6 @@
 import contextlib
 import os
 import sqlite3
-import subprocess
 import time
 
 from kept import history, orders
@@ -11,6 +10,9 @@ from kept.orders import DATES
 from kept.program import KEEPER_FAULT, LONGEST_RUN, expect
 from kept.readmes import block
 from kept.stores import opened
+
+# The system call and the first argument of a process that writes its standard error, as /proc shows them.
+WRITE, STANDARD_ERROR = "1", "0x2"
 
 
 def held_by_sqlite(bench):
@@ -44,26 +46,37 @@ def held_by_a_reader(bench):
     expect("all texts after a reader", orders.texts(orders.kept(bench, 2)), orders.texts(vault))
 
 
-def opened_to_write(pipe, process):
-    """A named pipe, once a process reads it."""
+def full_pipe():
+    """A pipe that takes no more bytes: where it is read, and where it is written."""
+    read, written = os.pipe()
+    os.set_blocking(written, False)
+    with contextlib.suppress(BlockingIOError):
+        while os.write(written, bytes(4096)):
+            pass
+    os.set_blocking(written, True)
+    return open(read, "rb"), written
+
+
+def await_write(process):
+    """Waits until a process waits to write its standard error."""
     ended = time.monotonic() + LONGEST_RUN
     while process.poll() is None and time.monotonic() < ended:
-        with contextlib.suppress(OSError):
-            return open(os.open(pipe, os.O_WRONLY | os.O_NONBLOCK), "wb")
+        with contextlib.suppress(OSError), open(f"/proc/{process.pid}/syscall") as call:
+            if call.read().split()[:2] == [WRITE, STANDARD_ERROR]:
+                return
         time.sleep(0.01)
-    expect("whether the load reads its last extract", True, False)
+    expect("whether the load waits to write its line", True, False)
 
 
 def holding_load(made):
-    """A vault of the history, and a load of its second window that holds the file, since it waits for the records of its
-    last extract: the process, where they are awaited, and what they are."""
+    """A vault of the history, and a load of its second window that holds the file, since nobody reads its line: the
+    process, and where the line is read."""
     vault = made.after_first.twin()
-    extract = vault.file("w2.toml_care.csv")
-    records = extract.read_bytes()
-    extract.unlink()
-    os.mkfifo(extract)
-    process = vault.begin("load", "w2.toml", err_to=subprocess.PIPE)
-    return vault, process, opened_to_write(extract, process), records
+    lines, written = full_pipe()
+    process = vault.begin("load", "w2.toml", err_to=written)
+    os.close(written)
+    await_write(process)
+    return vault, process, lines
 
 
 def refusal_of_sqlite(vault):
@@ -79,15 +92,14 @@ def refusal_of_sqlite(vault):
 def held_by_a_load(bench):
     """while a load holds the file each other command is a keeper fault, and the load ends as if alone"""
     made = history.make(bench)
-    vault, process, awaited, records = holding_load(made)
+    vault, process, lines = holding_load(made)
     for words in EVERY_COMMAND + (("load", "w2.toml"), ("load", "w3.toml")):
         vault.says(*words, **KEEPER_FAULT)
     expect("what SQLite says while a load holds the file", "database is locked", refusal_of_sqlite(vault))
-    os.set_blocking(awaited.fileno(), True)
-    with awaited:
-        awaited.write(records)
-    _, err = process.communicate(timeout=LONGEST_RUN)
-    expect("the load that waited", (0, f"w2.toml: Loaded {made.added[1]}\n".encode()), (process.returncode, err))
+    with lines:
+        err = lines.read().lstrip(b"\0")
+    status = process.wait(timeout=LONGEST_RUN)
+    expect("the load that waited", (0, f"w2.toml: Loaded {made.added[1]}\n".encode()), (status, err))
     history.goes_on_as_unbroken(made, vault)
 
 

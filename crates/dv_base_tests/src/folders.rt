@@ -58,8 +58,8 @@ fn folders_read_the_first_file_of_a_name(rt: HostRuntime) {
 fn the_real_folder_reads_fronts(rt: HostRuntime) {
     let alloc = rt.alloc();
     let mut folder = RealFolder::new(&rt);
-    assert!(rt; reads(alloc, &mut folder, b"/dev/zero", 3, Ok(b"\0\0\0")));
-    assert!(rt; reads(alloc, &mut folder, b"/dev/null", 3, Ok(b"")));
+    assert!(rt; reads(alloc, &mut folder, b"/proc/version", 3, Ok(b"Lin")));
+    assert!(rt; reads(alloc, &mut folder, b"/proc/version", 0, Ok(b"")));
     assert!(rt;
         reads(
             alloc,
@@ -71,6 +71,15 @@ fn the_real_folder_reads_fronts(rt: HostRuntime) {
     );
     assert!(rt; reads(alloc, &mut folder, b"", 3, Err(FolderError::Absent)));
     assert!(rt; reads(alloc, &mut folder, b"/dev", 3, Err(FolderError::Failed)));
+    assert!(rt;
+        reads(
+            alloc,
+            &mut folder,
+            b"/dev/zero",
+            3,
+            Err(FolderError::Failed)
+        )
+    );
     assert!(rt; reads(alloc, &mut folder, b"\xff", 3, Err(FolderError::Failed)));
 }
 

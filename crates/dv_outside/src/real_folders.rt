@@ -11,7 +11,8 @@ use std::rt::Files;
 use std::{fs, io};
 
 /// The working folder. It tells nothing of its files, and counts its faults: each read that fails for
-/// another cause than want of memory, and each name that is not UTF-8.
+/// another cause than want of memory, each name that is not UTF-8, and each that is no file, such as a
+/// folder, a device or a pipe.
 #[derive(Drop)]
 pub struct RealFolder<R> {
     rt: R,
@@ -27,7 +28,12 @@ impl<R> RealFolder<R> {
     }
 }
 
+// The first bytes of a file. What is no file is not opened: a pipe that nobody writes would never end, and a command that
+// waits for it has the vault for itself.
 fn read_front<R: Files>(rt: &R, alloc: Global, name: &str, most: u64) -> io::Result<Vec<u8>> {
+    if !fs::metadata(rt, name)?.is_file() {
+        return Err(io::Error::from(ErrorKind::InvalidInput));
+    }
     let mut bytes = Vec::new(alloc);
     fs::open(rt, name)?.take(most).read_to_end(&mut bytes)?;
     Ok(bytes)
