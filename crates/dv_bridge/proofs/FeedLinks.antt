@@ -26,22 +26,9 @@ use Rattle.dv_bridge.proofs.LinkedFeeds.{AreKeysApart, AreLinksOf, IsRowOf}
 use Rattle.dv_bridge.specs.BridgeRows.{is_whole, links_at}
 use Rattle.dv_bridge.specs.BridgeTables.{feed_links, links_by, parent_links, place_of}
 use Rattle.dv_bridge.specs.ZeroKeys.{HasZeroKeys, is_zero}
+use Rattle.dv_records.proofs.FeedRefs.{as_many, key_at_later}
 
 -- ---- references and their hubs
-
--- references are as many as the hubs that they fit
-as_many : (mapping : Mapping) (hubs : List ℕ) (refs : List Key) → fit_hubs mapping hubs refs ≡ true → length refs ≡ length hubs
-as_many mapping [] [] fits = refl
-as_many mapping [] (key ∷ refs) fits = let no : false ≡ true = fits in cc
-as_many mapping (hub ∷ hubs) [] fits = let no : false ≡ true = fits in cc
-as_many mapping (hub ∷ hubs) (key ∷ refs) fits = ap suc (as_many mapping hubs refs (and_parts (fits_hub mapping hub key) (fit_hubs mapping hubs refs) fits).1)
-
-key_at_later : (hub first : ℕ) (hubs : List ℕ) (key other : Key) (refs : List Key) → Contains (keys_at hub hubs refs) key → Contains (keys_at hub (first ∷ hubs) (other ∷ refs)) key
-key_at_later hub first hubs key other refs has = by (first == hub)
-  where
-    by : (b : Bool) → Contains (cond b (other ∷ keys_at hub hubs refs) (keys_at hub hubs refs)) key
-    by true = Contains-cons_there other (keys_at hub hubs refs) key has
-    by false = has
 
 -- the place of a hub, counted in hubs of which the first is another one
 place_later : (hubs : List ℕ) (n : ℕ) (placed : Option ℕ) → option_map_or (λ place. place) (option_map suc placed) (length (n ∷ hubs)) ≡ suc (option_map_or (λ place. place) placed (length hubs))

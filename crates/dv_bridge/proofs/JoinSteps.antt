@@ -1,6 +1,7 @@
 -- What a join makes row by row, and that it makes the next rows of a bridge.
 use Rattle.dv_bridge.proofs.Vocabulary.{◌≡◌, ◌∙◌, ◌++◌, ◌+◌, ◌<◌, ◌≤◌, ◌∷◌, ℕ, Bool, true, false, List, [], Option, Some, None, BridgeRow, KeyedLink, LinkRow, ap, append-nil, arith, bytes_eq, filter, filter_map, flat_map, flat_map-append, get_or, length, length-flat_map-take, length-append, length-map, map, refl, slice_get, sym, take, take_more}
-use Rattle.dv_bridge.proofs.LongerBridges.{filter-map, filter_no, filter_same, map-map}
+use Rattle.dv_bridge.proofs.LongerBridges.{filter-map, filter_no, filter_same}
+use Rattle.std.proofs.lemmas.Simd.{map-map}
 use Rattle.dv_bridge.specs.BridgeRows.{first_row, is_same_key, longer_row, meets, next_rows}
 use Rattle.dv_bridge.specs.Joins.{joined_rows, keyed_at, met_links, row_of, row_with, rows_with, with_key}
 use Rattle.dv_bridge.specs.declared.whole_links.WholeLink.{WholeLink}

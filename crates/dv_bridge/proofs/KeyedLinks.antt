@@ -1,13 +1,8 @@
 -- A stable sort by hash keys leaves the links of each key as they stood.
-use Rattle.dv_bridge.proofs.Vocabulary.{◌≡◌, ◌∙◌, ◌&&◌, ◌∷◌, ℕ, Bool, List, [], Less, Equal, Greater, IsPermutation, KeyedLink, Ordering, ap, bytes_eq, digest_cmp, filter, is_eq, is_lt, length_permutation, nat_list_cmp_total, nil_from_length, not, ordering_reverse, refl, sym, texts_ties, ties}
+use Rattle.dv_bridge.proofs.Vocabulary.{◌≡◌, ◌∙◌, ◌&&◌, ◌∷◌, ℕ, Bool, List, [], IsPermutation, KeyedLink, ap, bytes_eq, digest_cmp, filter, is_lt, length_permutation, nat_list_cmp_total, nil_from_length, not, sym, texts_ties, ties}
 use Rattle.dv_bridge.proofs.LongerBridges.{filter_same}
 use Rattle.dv_bridge.specs.Joins.{with_key}
-
--- neither is less
-alike : (r : Ordering) → (not (is_lt r) && not (is_lt (ordering_reverse r))) ≡ is_eq r
-alike Less = refl
-alike Equal = refl
-alike Greater = refl
+use Rattle.dv_text.proofs.StableSorts.{alike}
 
 abbrev pub is_before : KeyedLink → KeyedLink → Bool
 is_before a b = is_lt (digest_cmp a.key b.key)

@@ -3,6 +3,7 @@ use Rattle.dv_bridge.proofs.Vocabulary.{◌≡◌, ◌∙◌, ◌++◌, ◌+◌,
 use Rattle.dv_bridge.proofs.Vocabulary.{ap, append-nil, append_assoc, arith, choices, feed_hubs, filter, filter-append, flat_map, flat_map-append, flat_map-map, flat_map_member, flat_map_single, length, length-append, map, map-append, map_member, refl, slice_get, subst, sum_by, sum_by-cons, suc, sym, zero-add}
 use Rattle.dv_bridge.specs.BridgeRows.{first_row, is_same_key, longer_row, meets, next_rows}
 use Rattle.dv_bridge.specs.BridgeTables.{are_linked, bridge_read, feed_links, place_of, row_over, share}
+use Rattle.std.proofs.lemmas.Simd.{map-map}
 
 -- ---- lists
 
@@ -40,10 +41,6 @@ filter_same p q (x ∷ xs) same = rw (same x, filter_same p q xs same) refl
 pub filter_no : {X : Type 0} (xs : List X) → filter (λ x. false) xs ≡ []
 filter_no [] = refl
 filter_no (x ∷ xs) = filter_no xs
-
-pub map-map : {X Y Z : Type 0} (g : Y → Z) (f : X → Y) (xs : List X) → map g (map f xs) ≡ map (λ x. g (f x)) xs
-map-map g f [] = refl
-map-map g f (x ∷ xs) = ap (λ ys. g (f x) ∷ ys) (map-map g f xs)
 
 map_same : {X Y : Type 0} (f g : X → Y) (xs : List X) → ((x : X) → f x ≡ g x) → map f xs ≡ map g xs
 map_same f g [] same = refl

@@ -6,7 +6,7 @@ use Rattle.dv_text.proofs.Passing.{find_same, find-filter}
 use Rattle.dv_text.proofs.SortedLists.{ascending-sorted_by, inserted_cases, inserted_here, inserted_there, one_of_ties, same_ascending, sorted_by-sorted}
 
 -- neither is less
-alike : (r : Ordering) → (not (is_lt r) && not (is_lt (ordering_reverse r))) ≡ is_eq r
+pub alike : (r : Ordering) → (not (is_lt r) && not (is_lt (ordering_reverse r))) ≡ is_eq r
 alike Less = refl
 alike Equal = refl
 alike Greater = refl

@@ -1,7 +1,7 @@
 -- What an extract adds, by the parents that are present and the extract's keys alone.
-use Rattle.dv_track.proofs.Vocabulary.{◌≡◌, ℕ, Bool, true, false, List, [], ◌∷◌, ◌++◌, Option, None, refl, sym, ◌∙◌, ap, filter, nat_list_cmp_total, Contains, filter_map, IsStrictlySortedBy, IsStrictlySortedBy-filter, sorted_by, ascending-sorted_by, StatusRow}
+use Rattle.dv_track.proofs.Vocabulary.{◌≡◌, ℕ, Bool, true, false, List, [], ◌∷◌, ◌++◌, Option, None, refl, sym, ◌∙◌, ap, filter, nat_list_cmp_total, filter_map, IsStrictlySortedBy, IsStrictlySortedBy-filter, sorted_by, ascending-sorted_by, StatusRow}
 use Rattle.dv_track.proofs.Vocabulary.{digest_cmp, present_at, code_between, change_between, changes_between, is_among, parents_of, present_parents, status_change, status_changes, Some, Code, option_map, ◌&&◌, ◌||◌, bytes_eq, is_some, says_present, status_place}
-use Rattle.dv_track.proofs.Vocabulary.{list_any-append, or-true, Contains-cons_here, Contains-cons_there}
+use Rattle.dv_track.proofs.Vocabulary.{list_any-append, or-true}
 use Rattle.dv_track.proofs.Amongst.{among-filter, among_sorted, is_among-Decides, same_among}
 use Rattle.dv_track.proofs.Presence.{among_there_at, there_parent}
 
@@ -13,11 +13,6 @@ filter_map_some h (x ∷ xs) = by (h x) refl (filter_map_some h xs)
     by : (o : Option _) → h x ≡ o → filter_map h (filter (λ x. is_some (h x)) xs) ≡ filter_map h xs → filter_map h (filter (λ x. is_some (h x)) (x ∷ xs)) ≡ filter_map h (x ∷ xs)
     by None e rest = rw e rest
     by (Some y) e rest = rw (e, e) (ap (λ l. y ∷ l) rest)
-
--- only what is given of the members counts
-pub filter_map_same : {X Y : Type 0} (f h : X → Option Y) (xs : List X) → ((x : X) → Contains xs x → f x ≡ h x) → filter_map f xs ≡ filter_map h xs
-filter_map_same f h [] same = refl
-filter_map_same f h (x ∷ xs) same = rw (same x (Contains-cons_here x xs), filter_map_same f h xs (λ y has. same y (Contains-cons_there x xs y has))) refl
 
 module _ (source : List ℕ) (rows : List StatusRow) (load : ℕ) (now : List (List ℕ)) where
   abbrev was : List (List ℕ)

@@ -6,7 +6,7 @@ use Rattle.dv_records.specs.declared.raw_rows.EffectRow.{EffectRow}
 use Rattle.dv_records.specs.EffectPeriods.{in_effect_since}
 use Rattle.dv_track.specs.EffectRows.{effect_turn, effect_turns}
 use Rattle.dv_track.proofs.Amongst.{among_sorted, among_there, apart, ascending-drop, exact, if_there, is_among-Decides, same_among, unequal}
-use Rattle.dv_track.proofs.Changed.{filter_map_same}
+use Rattle.dv_text.proofs.Members.{filter_map_same}
 
 -- a list begins with a digest, or does not have it, and the rest of it is behind the digest
 record Begins (digest : List ℕ) (there : Bool) (digests rest : List (List ℕ)) : Type 0 where
