@@ -31,13 +31,6 @@ ascending_made {X} {Y} R S h (x ∷ xs) keeps up =
           rest,
         )
 
-pub filter_map_same : {X Y : Type 0} (f h : X → Option Y) (xs : List X) → ((x : X) → Contains xs x → f x ≡ h x) → filter_map f xs ≡ filter_map h xs
-filter_map_same f h [] same = refl
-filter_map_same f h (x ∷ xs) same =
-    let here = same x (Contains-cons_here x xs) in
-    let rest = filter_map_same f h xs (λ y has. same y (Contains-cons_there x xs y has)) in
-    rw (here, rest) refl
-
 pub filter_map_none : {X Y : Type 0} (f : X → Option Y) (xs : List X) → ((x : X) → Contains xs x → f x ≡ None) → filter_map f xs ≡ []
 filter_map_none f [] none = refl
 filter_map_none f (x ∷ xs) none =

@@ -3,7 +3,8 @@ use Rattle.dv_hub_link.proofs.Vocabulary.{◌≡◌, ℕ, Bool, true, false, Lis
 use Rattle.dv_hub_link.proofs.Vocabulary.{filter_map_member, Place, Parent, Mapping, DeltaFault, Collision, Memory, Delivery, batch_of, Pair, collision_in, deliveries, is_known, Answers, Hashed, HasNoClash, IfCollides, IsLeastClash, HashedList, hashed_item, is_held, list_under, AreItems, delta}
 use Rattle.dv_hub_link.proofs.Vocabulary.{lists_of, new_row, row_cmp, all_hashed, new_lists, are_placed_rows, has_row_under, row_under}
 use Rattle.dv_hub_link.proofs.Vocabulary.{LentList, beside, standing, told, zip}
-use Rattle.dv_hub_link.proofs.Batches.{filter_map_none, filter_map_same, rows_are, rows_ascend, rows_new}
+use Rattle.dv_text.proofs.Members.{filter_map_same}
+use Rattle.dv_hub_link.proofs.Batches.{filter_map_none, rows_are, rows_ascend, rows_new}
 use Rattle.dv_hub_link.proofs.Held.{is_held_rows, list_under_rows}
 use Rattle.dv_hub_link.proofs.Placed.{whole}
 use Rattle.dv_hub_link.proofs.WindowLists.{HoldsOffered, delivery_kept, held_is_known, held_item}

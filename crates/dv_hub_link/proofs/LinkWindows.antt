@@ -10,7 +10,7 @@ use Rattle.dv_hub_link.specs.LinkDeltas.{IsHeld, IsNext}
 use Rattle.dv_hub_link.proofs.ToldLists.{list_told}
 
 -- rows without hubs stand for one list
-bare_clear : (mapping : Mapping) (names : List HubName) (rows : List LinkRow) → HasNoClash (stored mapping names [] rows)
+pub bare_clear : (mapping : Mapping) (names : List HubName) (rows : List LinkRow) → HasNoClash (stored mapping names [] rows)
 bare_clear mapping names rows pair clash =
     let (a, a_in, a_is) = map_member (λ (row : LinkRow). record { digest = row.digest; refs = keys_under mapping names [] row.hubs }) rows (record { digest = clash.digest; refs = pair.first }) clash.has_first in
     let (b, b_in, b_is) = map_member (λ (row : LinkRow). record { digest = row.digest; refs = keys_under mapping names [] row.hubs }) rows (record { digest = clash.digest; refs = pair.second }) clash.has_second in

@@ -22,4 +22,4 @@ mod told_lists;
 pub use hub_table::HubTable;
 pub use items::are_items;
 pub use link_table::LinkTable;
-pub use missing_keys::{is_key_missing, is_missing, missing_key, part_count};
+pub use missing_keys::{missing_key, part_count};

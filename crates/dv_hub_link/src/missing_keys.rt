@@ -1,7 +1,5 @@
-// Keys whose parts are all empty.
+// Keys whose parts are all empty, which stand for what is missing.
 ghost use Rattle.std.specs.Prelude.{◌≡◌, [], IfOk, IsTrue, map, replicate, slice_get};
-ghost use Rattle.std.specs.List.{list_all};
-ghost use Rattle.dv_text.specs.Keys as keys;
 ghost use Rattle.dv_catalog.specs.Feeds.{parts_of};
 ghost use Rattle.dv_records.specs.Deltas.{missing_in};
 ghost use Rattle.dv_hub_link.specs.Items as spec;
@@ -9,20 +7,6 @@ ghost use Rattle.dv_hub_link.specs.Items as spec;
 use dv_catalog::{Catalog, TableId};
 use dv_text::{Key, List, Memory, Text};
 use std::alloc::Global;
-
-/// Whether a key is missing: all its parts are empty. Takes no memory.
-pub fn is_key_missing(key: &Key) -> bool
-    ensures { result ≡ keys.is_missing key.now }
-{
-    key.parts.items().iter().all(|part| part.bytes().is_empty())
-}
-
-/// Whether every key of a reference list is missing. Takes no memory.
-pub fn is_missing(refs: &List<Key>) -> bool
-    ensures { result ≡ list_all keys.is_missing refs.now }
-{
-    refs.items().iter().all(is_key_missing)
-}
 
 // So many empty parts.
 fn empty_parts(alloc: Global, count: u32) -> Result<List<Text>, Memory>

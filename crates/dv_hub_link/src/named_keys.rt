@@ -5,7 +5,7 @@ ghost use Rattle.dv_text.specs.Keys.{key_eq, refs_eq};
 ghost use Rattle.dv_hub_link.specs.Items as items;
 ghost use Rattle.dv_hub_link.specs.LinkLists as spec;
 
-use crate::missing_keys::{is_key_missing, missing_key, part_count};
+use crate::missing_keys::{missing_key, part_count};
 use crate::told_lists::TellsLists;
 use dv_catalog::Catalog;
 use dv_records::{HubNames, LinkRow};
@@ -26,7 +26,7 @@ fn is_missing_key(catalog: &Catalog, hub: u32, key: &Key) -> bool
     ensures { result ≡ key_eq (items.missing_key catalog.now hub) key.now }
 {
     let parts = key.parts.items();
-    parts.len() == part_count(catalog, hub) as usize && is_key_missing(key)
+    parts.len() == part_count(catalog, hub) as usize && key.is_missing()
 }
 
 // Whether a digest stands for a key in a hub.

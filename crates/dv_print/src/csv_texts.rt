@@ -7,7 +7,7 @@ ghost use Rattle.dv_print.specs.Texts.{csv_text};
 ghost use Rattle.dv_print.specs.Writers.{IsBetweenRecords};
 
 use crate::fields::Fields;
-use crate::recorded::{Loaded, Recorded};
+use crate::recorded::{RawRecorded, Recorded};
 use csv::{Writer, WriterBuilder};
 use dv_text::{Memory, Stamp, Text};
 use std::alloc::Global;
@@ -68,14 +68,14 @@ pub fn put_rows<W: Write + Drop, R: Recorded>(
 }
 
 // Writes the records of the rows that aren't later than a date.
-fn put_rows_up_to<W: Write + Drop, R: Loaded>(
+fn put_rows_up_to<W: Write + Drop, R: RawRecorded>(
     writer: &mut Writer<W>,
     fields: &mut Fields,
     rows: &[R],
     date: Stamp,
 ) -> Result<(), Memory>
     requires between { IsBetweenRecords writer.old }
-    ensures text { OnOk result (Appends (text_written W.contents writer.old) (text_written W.contents writer.new) (csv_text (map R.Recorded.record_of (filter (λ row. nat_le (R.load_of row) date) rows.now)))) }
+    ensures text { OnOk result (Appends (text_written W.contents writer.old) (text_written W.contents writer.new) (csv_text (map R.Recorded.record_of (filter (λ row. nat_le (R.RawRow.place row).load date) rows.now)))) }
     ensures between { OnOk result (IsBetweenRecords writer.new) }
 {
     for row in rows {
@@ -112,13 +112,13 @@ pub(crate) fn rows_text<R: Recorded>(
 }
 
 /// The text of a header and of the rows that aren't later than a date.
-pub(crate) fn rows_text_up_to<R: Loaded>(
+pub(crate) fn rows_text_up_to<R: RawRecorded>(
     alloc: Global,
     header: Fields,
     rows: &[R],
     date: Stamp,
 ) -> Result<Text, Memory>
-    ensures { IfOk result (λ text. text ≡ csv_text (header ∷ map R.Recorded.record_of (filter (λ row. nat_le (R.load_of row) date) rows.now))) }
+    ensures { IfOk result (λ text. text ≡ csv_text (header ∷ map R.Recorded.record_of (filter (λ row. nat_le (R.RawRow.place row).load date) rows.now))) }
 {
     let mut fields = header;
     let mut writer = new_writer(alloc);

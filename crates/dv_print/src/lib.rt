@@ -27,9 +27,6 @@ pub use hub_texts::hub_text;
 pub use path_texts::path_text;
 pub use period_texts::period_text;
 pub use pit_texts::pit_text;
-pub use recorded::Recorded;
-pub use table_texts::{
-    effect_table_text, hub_table_text, link_table_text, multi_table_text, sat_table_text,
-    status_table_text, table_header,
-};
+pub use recorded::{RawRecorded, Recorded};
+pub use table_texts::{table_header, table_text};
 pub use windows_texts::windows_text;

@@ -1,10 +1,10 @@
 //! The records of the rows of raw tables.
 
-ghost use Rattle.std.specs.Prelude.{◌≡◌, [], ◌++◌, OnOk};
+ghost use Rattle.std.specs.Prelude.{◌≡◌, [], ◌++◌, OnOk, refl};
 ghost use Rattle.dv_print.specs.Texts as spec;
 
 use crate::fields::Fields;
-use crate::recorded::{Loaded, Recorded};
+use crate::recorded::{RawRecorded, Recorded};
 use dv_records::{Code, EffectRow, HubRow, LinkRow, MultiRow, SatRow, StatusRow};
 use dv_text::{Digest, Memory, Stamp, Text};
 
@@ -26,12 +26,8 @@ impl Recorded for HubRow {
     }
 }
 
-impl Loaded for HubRow {
-    ghost load_of = { λ row. row.load };
-
-    fn load(&self) -> Stamp {
-        self.load
-    }
+impl RawRecorded for HubRow {
+    ghost records = { λ rows. refl };
 }
 
 impl Recorded for LinkRow {
@@ -43,12 +39,8 @@ impl Recorded for LinkRow {
     }
 }
 
-impl Loaded for LinkRow {
-    ghost load_of = { λ row. row.load };
-
-    fn load(&self) -> Stamp {
-        self.load
-    }
+impl RawRecorded for LinkRow {
+    ghost records = { λ rows. refl };
 }
 
 impl Recorded for SatRow {
@@ -61,12 +53,8 @@ impl Recorded for SatRow {
     }
 }
 
-impl Loaded for SatRow {
-    ghost load_of = { λ row. row.load };
-
-    fn load(&self) -> Stamp {
-        self.load
-    }
+impl RawRecorded for SatRow {
+    ghost records = { λ rows. refl };
 }
 
 impl Recorded for MultiRow {
@@ -80,12 +68,8 @@ impl Recorded for MultiRow {
     }
 }
 
-impl Loaded for MultiRow {
-    ghost load_of = { λ row. row.load };
-
-    fn load(&self) -> Stamp {
-        self.load
-    }
+impl RawRecorded for MultiRow {
+    ghost records = { λ rows. refl };
 }
 
 // `I` where a parent appeared, `D` where it vanished.
@@ -107,12 +91,8 @@ impl Recorded for StatusRow {
     }
 }
 
-impl Loaded for StatusRow {
-    ghost load_of = { λ row. row.load };
-
-    fn load(&self) -> Stamp {
-        self.load
-    }
+impl RawRecorded for StatusRow {
+    ghost records = { λ rows. refl };
 }
 
 impl Recorded for EffectRow {
@@ -125,10 +105,6 @@ impl Recorded for EffectRow {
     }
 }
 
-impl Loaded for EffectRow {
-    ghost load_of = { λ row. row.load };
-
-    fn load(&self) -> Stamp {
-        self.load
-    }
+impl RawRecorded for EffectRow {
+    ghost records = { λ rows. refl };
 }

@@ -1,7 +1,8 @@
 ghost use Rattle.std.specs.Prelude.{◌≡◌, ◌++◌, ℕ, List, OnOk};
 
 use crate::fields::Fields;
-use dv_text::{Memory, Stamp};
+use dv_records::RawRow;
+use dv_text::Memory;
 
 /// A row that is written as a record.
 pub trait Recorded {
@@ -13,10 +14,10 @@ pub trait Recorded {
         ensures { OnOk result (fields.new ≡ fields.old ++ record_of self.now) };
 }
 
-/// A row of a raw table, with its load date.
-pub(crate) trait Loaded: Recorded {
-    ghost load_of: { Self → ℕ };
+/// A row of a raw table that is written as a record.
+pub trait RawRecorded: RawRow + Recorded {
+    ghost use Rattle.std.specs.Prelude.{map};
+    ghost use Rattle.dv_print.specs.TableTexts.{raw_records};
 
-    fn load(&self) -> Stamp
-        ensures { result ≡ load_of self.now };
+    ghost records: { (rows : List Self) → raw_records (Self.wrapped rows) ≡ map Self.record_of rows };
 }

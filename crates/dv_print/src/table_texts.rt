@@ -1,20 +1,18 @@
 //! The texts of the raw tables at a date.
 
-ghost use Rattle.std.specs.Prelude.{◌≡◌, ◌∷◌, ◌<◌, ℕ, [], ◌++◌, codes, length, map, slice_get, IfOk, IsTrue, OnOk};
+ghost use Rattle.std.specs.Prelude.{◌≡◌, ◌∷◌, ◌<◌, [], ◌++◌, codes, length, map, slice_get, IfOk, IsTrue, OnOk};
 ghost use Rattle.std.specs.Fmt.{decimal};
-ghost use Rattle.dv_catalog.specs.Entries.{Mapping};
 ghost use Rattle.dv_catalog.specs.TableLookups.{is_table_of};
 ghost use Rattle.dv_catalog.specs.Tables.{hub_name};
 ghost use Rattle.dv_records.specs.Vault.{rows_up_to};
 ghost use Rattle.dv_print.specs.TableTexts as texts;
-ghost use Rattle.dv_print.specs.TableTexts.{table_text};
 ghost use Rattle.dv_print.specs.Texts as spec;
 
 use crate::csv_texts::rows_text_up_to;
 use crate::fields::Fields;
 use crate::names::name_of_hub;
+use crate::recorded::RawRecorded;
 use dv_catalog::{Catalog, FeedDef, HubDef, TableId};
-use dv_records::{EffectRow, HubRow, LinkRow, MultiRow, Rows, SatRow, StatusRow};
 use dv_text::{Memory, Stamp, Text};
 use std::alloc::Global;
 
@@ -108,78 +106,18 @@ pub fn table_header(alloc: Global, catalog: &Catalog, table: TableId) -> Result<
     }
 }
 
-/// The text of a hub's table with its rows that aren't later than a date.
-pub fn hub_table_text(
+/// The text of the raw table at a place, which has rows of this kind, with those that aren't later
+/// than a date. Condition: the mapping has the table's hub, link or feed.
+pub fn table_text<R: RawRecorded>(
     alloc: Global,
     catalog: &Catalog,
-    hub: u32,
-    rows: &[HubRow],
+    place: u32,
+    rows: &[R],
     date: Stamp,
 ) -> Result<Text, Memory>
-    requires { hub < length catalog.now.hubs }
-    ensures { IfOk result (λ text. text ≡ table_text catalog.now (TableId.Hub hub) (rows_up_to date (Rows.Hubs rows.now))) }
+    requires { IsTrue (is_table_of catalog.now (R.RawRow.table place)) }
+    ensures { IfOk result (λ text. text ≡ texts.table_text catalog.now (R.RawRow.table place) (rows_up_to date (R.RawRow.wrapped rows.now))) }
 {
-    let header = hub_header(alloc, catalog.hub(hub))?;
+    let header = table_header(alloc, catalog, R::table(place))?;
     rows_text_up_to(alloc, header, rows, date)
-}
-
-/// The text of a link's table with its rows that aren't later than a date.
-pub fn link_table_text(
-    alloc: Global,
-    catalog: &Catalog,
-    link: u32,
-    rows: &[LinkRow],
-    date: Stamp,
-) -> Result<Text, Memory>
-    requires { link < length catalog.now.links }
-    ensures { IfOk result (λ text. text ≡ table_text catalog.now (TableId.Link link) (rows_up_to date (Rows.Links rows.now))) }
-{
-    let header = link_header(alloc, catalog, link)?;
-    rows_text_up_to(alloc, header, rows, date)
-}
-
-/// The text of a feed's satellite with its rows that aren't later than a date.
-pub fn sat_table_text(
-    alloc: Global,
-    catalog: &Catalog,
-    feed: u32,
-    rows: &[SatRow],
-    date: Stamp,
-) -> Result<Text, Memory>
-    requires { feed < length catalog.now.feeds }
-    ensures { IfOk result (λ text. text ≡ table_text catalog.now (TableId.Sat feed) (rows_up_to date (Rows.Sats rows.now))) }
-{
-    let header = sat_header(alloc, catalog.feed(feed))?;
-    rows_text_up_to(alloc, header, rows, date)
-}
-
-/// The text of a feed's multi-active satellite with its rows that aren't later than a date.
-pub fn multi_table_text(
-    alloc: Global,
-    catalog: &Catalog,
-    feed: u32,
-    rows: &[MultiRow],
-    date: Stamp,
-) -> Result<Text, Memory>
-    requires { feed < length catalog.now.feeds }
-    ensures { IfOk result (λ text. text ≡ table_text catalog.now (TableId.Multi feed) (rows_up_to date (Rows.Multis rows.now))) }
-{
-    let header = sat_header(alloc, catalog.feed(feed))?;
-    rows_text_up_to(alloc, header, rows, date)
-}
-
-/// The text of a status table with its rows that aren't later than a date. Each has the same header,
-/// whatever the mapping and the feed.
-pub fn status_table_text(alloc: Global, rows: &[StatusRow], date: Stamp) -> Result<Text, Memory>
-    ensures { IfOk result (λ text. (mapping : Mapping) (feed : ℕ) → text ≡ table_text mapping (TableId.Status feed) (rows_up_to date (Rows.Statuses rows.now))) }
-{
-    rows_text_up_to(alloc, status_header(alloc)?, rows, date)
-}
-
-/// The text of an effectivity table with its rows that aren't later than a date. Each has the same header,
-/// whatever the mapping and the feed.
-pub fn effect_table_text(alloc: Global, rows: &[EffectRow], date: Stamp) -> Result<Text, Memory>
-    ensures { IfOk result (λ text. (mapping : Mapping) (feed : ℕ) → text ≡ table_text mapping (TableId.Effect feed) (rows_up_to date (Rows.Effects rows.now))) }
-{
-    rows_text_up_to(alloc, effect_header(alloc)?, rows, date)
 }

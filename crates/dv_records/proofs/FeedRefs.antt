@@ -1,5 +1,5 @@
 -- The references of a valid feed's rows are read back from the tables of its hub or its link.
-use Rattle.dv_records.proofs.Vocabulary.{option_map, option_map_or, Contains, slice_get, ◌≡◌, ℕ, ◌<◌, ◌==◌, Bool, true, false, List, [], ◌∷◌, Option, Some, None, refl, sym, ◌∙◌, ap, subst, length, reverse, cond, ltb-true, and_parts, Key}
+use Rattle.dv_records.proofs.Vocabulary.{suc, option_map, option_map_or, Contains, slice_get, ◌≡◌, ℕ, ◌<◌, ◌==◌, Bool, true, false, List, [], ◌∷◌, Option, Some, None, refl, sym, ◌∙◌, ap, subst, length, reverse, cond, ltb-true, and_parts, Key}
 use Rattle.dv_records.proofs.Vocabulary.{NRow, Window, Hashes, is_missing, Contains-cons_here, Contains-cons_there, Contains-nil, passes_at, FeedDef, LinkDef, Parent, Hub, Link, Mapping, keys_at, link_hubs, parent_hubs, is_declared, is_hub}
 use Rattle.dv_records.proofs.Vocabulary.{is_valid, valid_feed, valid_link, HubRow, LinkRow, TableRows, appended, IsApart, hashed_refs, is_known, Extract, history, each_hash, hub_batch, hub_row_by, hub_rows_in, key_read, keys_read}
 use Rattle.dv_records.proofs.Vocabulary.{link_row_by, link_rows_in, missing_key, refs_read, are_windows_valid, fit_hubs, fits_hub, vault}
@@ -11,7 +11,15 @@ use Rattle.dv_records.proofs.WindowRows.{HasForm, one_key}
 
 -- ---- hubs and references
 
-key_at_later : (hub first : ℕ) (hubs : List ℕ) (key other : Key) (refs : List Key) → Contains (keys_at hub hubs refs) key → Contains (keys_at hub (first ∷ hubs) (other ∷ refs)) key
+-- references are as many as the hubs that they fit
+pub as_many : (mapping : Mapping) (hubs : List ℕ) (refs : List Key) → fit_hubs mapping hubs refs ≡ true → length refs ≡ length hubs
+as_many mapping [] [] fits = refl
+as_many mapping [] (key ∷ refs) fits = let no : false ≡ true = fits in cc
+as_many mapping (hub ∷ hubs) [] fits = let no : false ≡ true = fits in cc
+as_many mapping (hub ∷ hubs) (key ∷ refs) fits = ap suc (as_many mapping hubs refs (and_parts (fits_hub mapping hub key) (fit_hubs mapping hubs refs) fits).1)
+
+-- the keys of a hub among fewer references are among more
+pub key_at_later : (hub first : ℕ) (hubs : List ℕ) (key other : Key) (refs : List Key) → Contains (keys_at hub hubs refs) key → Contains (keys_at hub (first ∷ hubs) (other ∷ refs)) key
 key_at_later hub first hubs key other refs has = by (first == hub)
   where
     by : (b : Bool) → Contains (cond b (other ∷ keys_at hub hubs refs) (keys_at hub hubs refs)) key

@@ -5,7 +5,7 @@ use Rattle.dv_records.proofs.Vocabulary.{hub_batch, hub_row, only_key, IsHubBatc
 use Rattle.dv_records.proofs.Delivered.{delivery-offered}
 use Rattle.dv_records.proofs.ParentTables as tables
 
-the_only : (refs : List Key) (key : Key) → only_key refs ≡ Some key → refs ≡ key ∷ []
+pub the_only : (refs : List Key) (key : Key) → only_key refs ≡ Some key → refs ≡ key ∷ []
 the_only refs key h1 = search (rules)
 
 -- the refs of an offer that is made of a key

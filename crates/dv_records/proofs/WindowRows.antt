@@ -16,7 +16,7 @@ in_order (n ∷ later) up =
 
 -- ---- texts and keys
 
-same_text : (a b : List ℕ) → texts_eq (a ∷ []) (b ∷ []) ≡ true → a ≡ b
+pub same_text : (a b : List ℕ) → texts_eq (a ∷ []) (b ∷ []) ≡ true → a ≡ b
 same_text a b e = let same = (texts_eq-Decides (a ∷ []) (b ∷ [])).0 e in cc
 
 -- a key part is in normal form, and not too long

@@ -7,6 +7,7 @@ pub mod Deltas
 pub mod EffectPeriods
 pub mod EffectPlaces
 pub mod Effects
+pub mod GivenWindows
 pub mod History
 pub mod HubNames
 pub mod HubPlaces

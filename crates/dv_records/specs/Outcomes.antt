@@ -14,10 +14,10 @@ use Rattle.dv_catalog.specs.declared.windows.WindowIn.{WindowIn}
 use Rattle.dv_catalog.specs.Entries.{Mapping}
 use Rattle.dv_catalog.specs.FirstOf.{first_of}
 use Rattle.dv_catalog.specs.Tables.{table_name}
-use Rattle.dv_catalog.specs.Windows.{window_of, window_rule}
 use Rattle.dv_records.specs.declared.answers.Outcome.{Outcome}
 use Rattle.dv_records.specs.declared.answers.Outcome.TheVariants.{Load, Repeated, Refused}
 use Rattle.dv_records.specs.Collisions.{collision}
+use Rattle.dv_records.specs.GivenWindows.{rule_in, window_in}
 use Rattle.dv_records.specs.Limits.{most_extract_bytes, most_weight, most_window_bytes, most_windows}
 use Rattle.dv_records.specs.States.{State, all_windows, last_load}
 use Rattle.dv_records.specs.Weights.{vault_weight}
@@ -121,9 +121,9 @@ abbrev pub refusal : Mapping → Hashes → State → WindowIn → Option Rule
 refusal mapping hashes state given =
     first_of (
     no_extracts given ∷ unknown_feed mapping given ∷ feed_twice given ∷ late state given ∷ open_other state.begun given ∷ too_long given
-    ∷ window_rule mapping given ∷ differs state (window_of mapping given)
-    ∷ if_new state (window_of mapping given) (collides mapping hashes state (window_of mapping given))
-    ∷ if_new state (window_of mapping given) (vault_full mapping hashes state (window_of mapping given)) ∷ [])
+    ∷ rule_in mapping state.sealed given ∷ differs state (window_in mapping state.sealed given)
+    ∷ if_new state (window_in mapping state.sealed given) (collides mapping hashes state (window_in mapping state.sealed given))
+    ∷ if_new state (window_in mapping state.sealed given) (vault_full mapping hashes state (window_in mapping state.sealed given)) ∷ [])
 
 abbrev pub accepted : State → ℕ → Outcome
 accepted state load = if is_some (window_at load state.sealed) then Repeated else Load

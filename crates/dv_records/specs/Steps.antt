@@ -11,12 +11,12 @@ use Rattle.dv_catalog.specs.declared.windows.WindowIn.{WindowIn}
 use Rattle.dv_catalog.specs.Entries.{Mapping}
 use Rattle.dv_catalog.specs.FirstOf.{first_of}
 use Rattle.dv_catalog.specs.MappingFiles.{read_mapping}
-use Rattle.dv_catalog.specs.Windows.{window_of}
 use Rattle.dv_records.specs.declared.answers.InitAnswer.{InitAnswer}
 use Rattle.dv_records.specs.declared.answers.LoadAnswer.{LoadAnswer}
 use Rattle.dv_records.specs.declared.answers.ResumeAnswer.{ResumeAnswer}
 use Rattle.dv_records.specs.declared.answers.SnapAnswer.{SnapAnswer}
 use Rattle.dv_records.specs.declared.stores.Store.{Store}
+use Rattle.dv_records.specs.GivenWindows.{window_in}
 use Rattle.dv_records.specs.Limits.{most_path_rows, most_snapshots, most_snapshot_weight}
 use Rattle.dv_records.specs.Loads.{loaded}
 use Rattle.dv_records.specs.Marts.{contents, is_larger}
@@ -45,12 +45,12 @@ abbrev pub LoadBroke : Mapping → Hashes → State → WindowIn → State → T
 LoadBroke mapping hashes state given state' =
     (state' ≡ state)
     ⊎ ((outcome mapping hashes state given ≡ outcomes.Load)
-    × ((state' ≡ opened (window_of mapping given) state) ⊎ (state' ≡ sealed_with (window_of mapping given) state)))
+    × ((state' ≡ opened (window_in mapping state.sealed given) state) ⊎ (state' ≡ sealed_with (window_in mapping state.sealed given) state)))
 
 abbrev pub LoadStep : Mapping → Hashes → State → WindowIn → LoadAnswer → State → Type 0
 LoadStep mapping hashes state given (load.Loaded rows) state' =
-    (outcome mapping hashes state given ≡ outcomes.Load) × (state' ≡ sealed_with (window_of mapping given) state)
-    × (rows ≡ loaded mapping hashes state.sealed (window_of mapping given))
+    (outcome mapping hashes state given ≡ outcomes.Load) × (state' ≡ sealed_with (window_in mapping state.sealed given) state)
+    × (rows ≡ loaded mapping hashes state.sealed (window_in mapping state.sealed given))
 LoadStep mapping hashes state given load.Repeated state' = (outcome mapping hashes state given ≡ outcomes.Repeated) × (state' ≡ state)
 LoadStep mapping hashes state given (load.Refused rule) state' = (outcome mapping hashes state given ≡ outcomes.Refused rule) × (state' ≡ state)
 LoadStep mapping hashes state given (load.Damaged damage) state' = state' ≡ state

@@ -1,6 +1,6 @@
 ghost use Rattle.std.specs.Prelude.{◌≡◌, OnOk, OnErr};
 ghost use Rattle.std.specs.List.{position};
-ghost use Rattle.dv_records.specs.Stores.{appended_to, rows_then, table_eq};
+ghost use Rattle.dv_records.specs.Stores.{appended_to, table_eq};
 
 use crate::pages::is_same_table;
 use crate::stores::{Rows, TableRows};
@@ -8,24 +8,6 @@ use dv_catalog::TableId;
 use dv_text::{List, Memory};
 use std::alloc::Global;
 use std::mem;
-
-// Puts rows behind others of their kind, whose list grows in place. Rows of another kind are dropped.
-fn put_behind(rows: &mut Rows, more: Rows) -> Result<(), Memory>
-    ensures ok { OnOk result (rows.new ≡ rows_then rows.old more) }
-    ensures err { OnErr result (rows.new ≡ rows.old) }
-{
-    match (rows, more) {
-        (Rows::Hubs(rows), Rows::Hubs(more)) => rows.append(more),
-        (Rows::Links(rows), Rows::Links(more)) => rows.append(more),
-        (Rows::Sats(rows), Rows::Sats(more)) => rows.append(more),
-        (Rows::Multis(rows), Rows::Multis(more)) => rows.append(more),
-        (Rows::Statuses(rows), Rows::Statuses(more)) => rows.append(more),
-        (Rows::Effects(rows), Rows::Effects(more)) => rows.append(more),
-        (Rows::Pits(rows), Rows::Pits(more)) => rows.append(more),
-        (Rows::Bridges(rows), Rows::Bridges(more)) => rows.append(more),
-        _ => Ok(()),
-    }
-}
 
 fn place_of(tables: &[TableRows], table: TableId) -> Option<usize>
     ensures { result ≡ position (λ entry. table_eq entry.table table) tables.now }
@@ -46,7 +28,7 @@ fn append_entry(entries: &mut Vec<TableRows>, table: TableId, rows: Rows) -> Res
         }
         Some(at) => {
             let entry = &mut entries[at];
-            put_behind(&mut entry.rows, rows)?;
+            entry.rows.put_behind(rows)?;
             Ok(())
         }
     }

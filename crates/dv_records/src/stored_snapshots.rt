@@ -5,7 +5,6 @@ ghost use Rattle.std.specs.Option.{unwrap_or};
 ghost use Rattle.dv_text.specs.Sorting.{insert_by};
 ghost use Rattle.dv_records.specs.Stores.{is_new_snapshot, no_snap_rows, page, rows_of_snap, snap_cmp, snap_id_eq, snapshot_rows};
 
-use crate::pages::page;
 use crate::snapshots::{Snap, SnapHead, SnapId, SnapTable};
 use crate::stores::Rows;
 use dv_text::{List, Memory, Stamp};
@@ -51,7 +50,7 @@ fn table_page(
 {
     for entry in tables {
         if is_same_id(entry.id, id) {
-            return page(alloc, &entry.rows, from, most);
+            return entry.rows.page(alloc, from, most);
         }
     }
     Ok(none_of(alloc, id))

@@ -1,3 +1,4 @@
+use crate::kinds::same_kind;
 use crate::raw_rows::{EffectRow, HubRow, LinkRow, MultiRow, SatRow, StatusRow};
 use crate::snapshots::{BridgeRow, PitRow, Snap};
 use dv_catalog::TableId;
@@ -18,16 +19,7 @@ pub enum Rows {
 
 impl Duplicate for Rows {
     fn copy(&self) -> Result<Rows, Memory> {
-        match self {
-            Rows::Hubs(rows) => Ok(Rows::Hubs(rows.copy()?)),
-            Rows::Links(rows) => Ok(Rows::Links(rows.copy()?)),
-            Rows::Sats(rows) => Ok(Rows::Sats(rows.copy()?)),
-            Rows::Multis(rows) => Ok(Rows::Multis(rows.copy()?)),
-            Rows::Statuses(rows) => Ok(Rows::Statuses(rows.copy()?)),
-            Rows::Effects(rows) => Ok(Rows::Effects(rows.copy()?)),
-            Rows::Pits(rows) => Ok(Rows::Pits(rows.copy()?)),
-            Rows::Bridges(rows) => Ok(Rows::Bridges(rows.copy()?)),
-        }
+        Ok(same_kind!(self, rows => rows.copy()?))
     }
 }
 

@@ -2,6 +2,7 @@
 ghost use Rattle.std.specs.Prelude.{◌≡◌, ◌+◌, ◌-◌, ◌*◌, ◌^◌, ℕ, length, min, sum_by};
 ghost use Rattle.dv_records.specs.Weights.{rows_weight, text_weight, texts_weight};
 
+use crate::kinds::each_kind;
 use crate::raw_rows::{EffectRow, HubRow, LinkRow, MultiRow, SatRow, StatusRow};
 use crate::snapshots::{BridgeRow, PitRow};
 use crate::stores::Rows;
@@ -124,14 +125,5 @@ impl Weighed for BridgeRow {
 pub fn weight(rows: &Rows) -> u128
     ensures { result ≡ min (rows_weight rows.now) (2 ^ 128 - 1) }
 {
-    match rows {
-        Rows::Hubs(rows) => total(rows.items()),
-        Rows::Links(rows) => total(rows.items()),
-        Rows::Sats(rows) => total(rows.items()),
-        Rows::Multis(rows) => total(rows.items()),
-        Rows::Statuses(rows) => total(rows.items()),
-        Rows::Effects(rows) => total(rows.items()),
-        Rows::Pits(rows) => total(rows.items()),
-        Rows::Bridges(rows) => total(rows.items()),
-    }
+    each_kind!(rows, rows => total(rows.items()))
 }

@@ -1,9 +1,6 @@
 -- The last item of a list.
 use Rattle.dv_store_rules.proofs.Vocabulary.{◌≡◌, ◌-◌, List, [], ◌∷◌, Option, Some, length, last_or, map, refl, arith, ◌∙◌, ap, sym, option_map, slice_get, ℕ, None, is_lt, nat_cmp, nat_lt, nat_tests, option_map_or, true}
-
-last_got : {X : Type 0} (o : Option X) (x : X) (xs : List X) → last_or o (x ∷ xs) ≡ slice_get (x ∷ xs) (length xs)
-last_got o x [] = refl
-last_got o x (y ∷ xs) = last_got (Some x) y xs
+use Rattle.dv_text.proofs.Members.{last_got}
 
 pub last_is : {X : Type 0} (o : Option X) (xs : List X) (x : X) → Some x ≡ slice_get xs (length xs - 1) → last_or o xs ≡ Some x
 last_is o [] x there = cc

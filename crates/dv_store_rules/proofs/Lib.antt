@@ -21,7 +21,6 @@ pub mod LastRows
 pub mod LightSnapshots
 pub mod LinkForms
 pub mod MultiForms
-pub mod OtherKinds
 pub mod PageSteps
 pub mod Reached
 pub mod ReadBefore

@@ -1,6 +1,6 @@
 -- The rows of a hub's table after valid windows break no rule of form.
 use Rattle.dv_store_rules.proofs.Vocabulary.{Bool, Delivery, Hub, HubRow, Key, List, None, Option, Some, Window, [], and_from, ap, appended, bytes_eq-Decides, false, fits_hub, hub_batch, hub_row, is_known, made_of, most_weight, parent_hubs, parts_of, refl}
-use Rattle.dv_store_rules.proofs.Vocabulary.{reverse, rules, slice_get, subst, sym, tables_weight, text_weight, texts_weight, true, ℕ, ◌++◌, ◌+◌, ◌∙◌, ◌∷◌, ◌≡◌}
+use Rattle.dv_store_rules.proofs.Vocabulary.{reverse, slice_get, subst, sym, tables_weight, text_weight, texts_weight, true, ℕ, ◌++◌, ◌+◌, ◌∙◌, ◌∷◌, ◌≡◌}
 use Rattle.dv_store_rules.specs.FormRules.{Known, follows, has_key_hash, is_hub_row, is_light, is_loaded, is_new_digest, is_source}
 use Rattle.dv_store_rules.specs.StoredRows.{hub_rule}
 use Rattle.dv_catalog.specs.declared.tables.TableId.TheVariants.{Hub as HubTable}
@@ -13,9 +13,7 @@ use Rattle.dv_store_rules.proofs.Brought.{key_fits}
 use Rattle.dv_store_rules.proofs.Flawless.{unbroken}
 use Rattle.dv_store_rules.proofs.KeyRows.{IsMade, KeyFacts, key_facts}
 use Rattle.dv_store_rules.proofs.SoundRows.{sound_rows}
-
-the_only : (refs : List Key) (key : Key) → only_key refs ≡ Some key → refs ≡ key ∷ []
-the_only refs key is = search (rules)
+use Rattle.dv_records.proofs.HubTables.{the_only}
 
 -- the key of a reference that is one key alone
 single_key : (a b : Key) → a ∷ [] ≡ b ∷ [] → a ≡ b

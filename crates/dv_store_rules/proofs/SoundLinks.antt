@@ -1,7 +1,7 @@
 -- The rows of a link's table after valid windows break no rule of form.
 use Rattle.dv_store_rules.proofs.Vocabulary.{Bool, Contains, Contains-cons_here, Contains-cons_there, Delivery, Hub, Key, Link, LinkRow, List, Mapping, None, Option, Parent, Some, Window, [], all_pass, all_pass_replicate, and_from, and_parts, ap, appended}
-use Rattle.dv_store_rules.proofs.Vocabulary.{bytes_eq, bytes_eq-Decides, cond, each_hash, eq-eqb, false, false≢true, fit_hubs, fits_hub, flat_map, is_known, is_missing, is_offered, keys_at, length, length-map, link_batch, link_row, list_all, map, map_member}
-use Rattle.dv_store_rules.proofs.Vocabulary.{missing_refs, most_weight, not, offered_refs, or_left, or_right, parent_hubs, parts_of, refl, replicate, reverse, slice_get, some_passes_at, source, subst, suc, sym, tables_weight, text_weight, true, zip, ℕ, ◌*◌}
+use Rattle.dv_store_rules.proofs.Vocabulary.{bytes_eq, bytes_eq-Decides, each_hash, eq-eqb, false, false≢true, fit_hubs, fits_hub, flat_map, is_known, is_missing, is_offered, keys_at, length, length-map, link_batch, link_row, list_all, map, map_member}
+use Rattle.dv_store_rules.proofs.Vocabulary.{missing_refs, most_weight, not, offered_refs, or_left, or_right, parent_hubs, parts_of, refl, replicate, reverse, slice_get, some_passes_at, source, subst, sym, tables_weight, text_weight, true, zip, ℕ, ◌*◌}
 use Rattle.dv_store_rules.proofs.Vocabulary.{◌++◌, ◌+◌, ◌==◌, ◌∙◌, ◌∷◌, ◌≡◌}
 use Rattle.dv_store_rules.specs.FormRules.{Known, are_references, follows, is_digest, is_in_hub, is_light, is_link_row, is_loaded, is_new_digest, is_reference, is_source, zero_key}
 use Rattle.dv_store_rules.specs.StoredRows.{link_rule}
@@ -17,28 +17,14 @@ use Rattle.dv_store_rules.proofs.Flawless.{unbroken}
 use Rattle.dv_store_rules.proofs.KeyRows.{IsMade, KeyFacts, key_facts}
 use Rattle.dv_store_rules.proofs.SoundRows.{sound_rows}
 use Rattle.dv_store_rules.proofs.Widths.{AreOfWidth}
+use Rattle.dv_records.proofs.FeedRefs.{as_many, key_at_later}
 
 -- ---- references
-
--- references that fit hubs are as many
-as_many : (mapping : Mapping) (hubs : List ℕ) (refs : List Key) → fit_hubs mapping hubs refs ≡ true → length refs ≡ length hubs
-as_many mapping [] [] fits = refl
-as_many mapping [] (key ∷ refs) fits = absurd (false≢true fits)
-as_many mapping (hub ∷ hubs) [] fits = absurd (false≢true fits)
-as_many mapping (hub ∷ hubs) (key ∷ refs) fits = ap suc (as_many mapping hubs refs (and_parts (fits_hub mapping hub key) (fit_hubs mapping hubs refs) fits).1)
 
 -- what is missing as a whole is
 all_missing : (mapping : Mapping) (hubs : List ℕ) → list_all is_missing (map (λ hub. record { parts = replicate (parts_of (slice_get mapping.hubs hub)) [] }) hubs) ≡ true
 all_missing mapping [] = refl
 all_missing mapping (hub ∷ hubs) = and_from _ _ (all_pass_replicate (λ (part : List ℕ). length part == 0) (parts_of (slice_get mapping.hubs hub)) [] refl) (all_missing mapping hubs)
-
--- the keys of a hub among fewer references are among more
-key_behind : (hub first : ℕ) (hubs : List ℕ) (key other : Key) (refs : List Key) → Contains (keys_at hub hubs refs) key → Contains (keys_at hub (first ∷ hubs) (other ∷ refs)) key
-key_behind hub first hubs key other refs has = by (first == hub)
-  where
-    by : (b : Bool) → Contains (cond b (other ∷ keys_at hub hubs refs) (keys_at hub hubs refs)) key
-    by true = Contains-cons_there other (keys_at hub hubs refs) key has
-    by false = has
 
 module _ (known : Known) where
   -- where the hash of each key refers to its hub, so do all
@@ -50,7 +36,7 @@ module _ (known : Known) where
   each_refers (hub ∷ hubs) (key ∷ refs) fits refers =
       and_from _ _ (refers hub key (Contains-cons_here hub hubs) (key_at_first hub hubs key refs))
       (each_refers hubs refs (and_parts (fits_hub known.mapping hub key) (fit_hubs known.mapping hubs refs) fits).1
-      (λ other k in_hubs has. refers other k (Contains-cons_there hub hubs other in_hubs) (key_behind other hub hubs k key refs has)))
+      (λ other k in_hubs has. refers other k (Contains-cons_there hub hubs other in_hubs) (key_at_later other hub hubs k key refs has)))
 
   -- a missing key refers to its hub, and so does one that is in the hub's table
   key_refers : (width : AreOfWidth known.hashes known.width) (hub : ℕ) (key : Key) → (is_missing key ≡ false → is_in_hub known.tables hub (known.hashes.hash (key ∷ [])) ≡ true) → is_reference known (hub, known.hashes.hash (key ∷ [])) ≡ true

@@ -7,10 +7,7 @@ ghost use Rattle.dv_store_rules.specs.StoredHeads as spec;
 use crate::flaws::Flaw;
 use dv_catalog::Catalog;
 use dv_text::{Memory, Stamp, Window, WindowHead};
-use dv_window_rules::is_window;
-
-// How many windows may be sealed.
-const MOST_WINDOWS: usize = 10_000;
+use dv_window_rules::{MOST_WINDOWS, is_window};
 
 // Whether numbers ascend, each but the first greater than the one before it.
 fn ascend(numbers: &[u32]) -> bool

@@ -1,5 +1,5 @@
 // The rows of a table of a keeper, read page after page.
-ghost use Rattle.std.specs.Prelude.{◌≡◌, ◌<◌, ◌+◌, ◌^◌, IfOk, IsTrue, None, OnErr, OnOk, Some, if◌then◌else◌, nat_le};
+ghost use Rattle.std.specs.Prelude.{◌≡◌, ◌+◌, IfOk, IsTrue, None, Some, if◌then◌else◌, nat_le};
 ghost use Rattle.dv_text.specs.Told.{Told};
 ghost use Rattle.dv_records.specs.Changes.{KeeperCause};
 ghost use Rattle.dv_records.specs.Limits.{most_weight};
@@ -8,10 +8,9 @@ ghost use Rattle.dv_records.specs.Stores.{rows_in};
 ghost use Rattle.dv_records.specs.Weights.{rows_weight};
 ghost use Rattle.dv_store_rules.specs.Pages.{AreFirst, IsGrown, IsOfTable, TellsPage, TellsRows};
 
-use crate::row_walks::MOST_WEIGHT;
 use dv_catalog::TableId;
 use dv_records::{Keeper, KeeperError, Rows, weight};
-use dv_text::{List, Memory};
+use dv_window_rules::MOST_WEIGHT;
 use std::alloc::Global;
 
 // How many rows a page has, but for the last one.
@@ -32,71 +31,6 @@ enum Page {
     More { weight: u64 },
     Last,
     Foreign,
-}
-
-// No rows, of a table's kind. Takes no memory.
-fn no_rows(alloc: Global, table: TableId) -> Rows
-    ensures { result ≡ stores.no_rows table }
-{
-    match table {
-        TableId::Hub(_) => Rows::Hubs(List::new(alloc)),
-        TableId::Link(_) => Rows::Links(List::new(alloc)),
-        TableId::Sat(_) => Rows::Sats(List::new(alloc)),
-        TableId::Multi(_) => Rows::Multis(List::new(alloc)),
-        TableId::Status(_) => Rows::Statuses(List::new(alloc)),
-        TableId::Effect(_) => Rows::Effects(List::new(alloc)),
-    }
-}
-
-// Whether rows are of a table's kind.
-fn is_of_kind(table: TableId, rows: &Rows) -> bool
-    ensures { result ≡ stores.is_of_kind table rows.now }
-{
-    match (table, rows) {
-        (TableId::Hub(_), Rows::Hubs(_)) => true,
-        (TableId::Link(_), Rows::Links(_)) => true,
-        (TableId::Sat(_), Rows::Sats(_)) => true,
-        (TableId::Multi(_), Rows::Multis(_)) => true,
-        (TableId::Status(_), Rows::Statuses(_)) => true,
-        (TableId::Effect(_), Rows::Effects(_)) => true,
-        _ => false,
-    }
-}
-
-/// How many rows there are. Takes no memory.
-pub(crate) fn count(rows: &Rows) -> u64
-    ensures value { result ≡ stores.row_count rows.now }
-    ensures bound { result < 2 ^ 63 }
-{
-    let count = match rows {
-        Rows::Hubs(rows) => rows.items().len(),
-        Rows::Links(rows) => rows.items().len(),
-        Rows::Sats(rows) => rows.items().len(),
-        Rows::Multis(rows) => rows.items().len(),
-        Rows::Statuses(rows) => rows.items().len(),
-        Rows::Effects(rows) => rows.items().len(),
-        Rows::Pits(rows) => rows.items().len(),
-        Rows::Bridges(rows) => rows.items().len(),
-    };
-    count as u64
-}
-
-// Puts rows behind others of their kind. Rows of another kind are dropped.
-fn put_behind(rows: &mut Rows, more: Rows) -> Result<(), Memory>
-    ensures ok { OnOk result (rows.new ≡ stores.rows_then rows.old more) }
-    ensures err { OnErr result (rows.new ≡ rows.old) }
-{
-    match (rows, more) {
-        (Rows::Hubs(rows), Rows::Hubs(more)) => rows.append(more),
-        (Rows::Links(rows), Rows::Links(more)) => rows.append(more),
-        (Rows::Sats(rows), Rows::Sats(more)) => rows.append(more),
-        (Rows::Multis(rows), Rows::Multis(more)) => rows.append(more),
-        (Rows::Statuses(rows), Rows::Statuses(more)) => rows.append(more),
-        (Rows::Effects(rows), Rows::Effects(more)) => rows.append(more),
-        (Rows::Pits(rows), Rows::Pits(more)) => rows.append(more),
-        (Rows::Bridges(rows), Rows::Bridges(more)) => rows.append(more),
-        _ => Ok(()),
-    }
 }
 
 // A weight with that of rows; none where that is too much. Takes no memory.
@@ -127,16 +61,16 @@ fn take_page<K: Keeper>(
     ensures kept { K.store keeper.new ≡ K.store keeper.old }
     ensures cause { KeeperCause (K.faults keeper.old) (K.faults keeper.new) result }
 {
-    let page = keeper.rows(alloc, table, count(rows), PAGE)?;
-    let taken = count(&page);
+    let page = keeper.rows(alloc, table, rows.count(), PAGE)?;
+    let taken = page.count();
     if taken == 0 {
         return Ok(Page::Last);
     }
-    if !is_of_kind(table, &page) {
+    if !page.is_of_kind(table) {
         return Ok(Page::Foreign);
     }
     let sum = added(weight, &page);
-    put_behind(rows, page)?;
+    rows.put_behind(page)?;
     match sum {
         Some(weight) if taken >= u64::from(PAGE) => Ok(Page::More { weight }),
         _ => Ok(Page::Last),
@@ -159,7 +93,7 @@ pub fn read_rows<K: Keeper>(
     ensures kept { K.store keeper.new ≡ K.store keeper.old }
     ensures cause { KeeperCause (K.faults keeper.old) (K.faults keeper.new) result }
 {
-    let mut rows = no_rows(alloc, table);
+    let mut rows = Rows::none_of(alloc, table);
     let mut sum = weight;
     'pages: loop {
         match take_page(alloc, keeper, table, &mut rows, sum)? {
@@ -167,7 +101,7 @@ pub fn read_rows<K: Keeper>(
             Page::Last => return Ok(Read::Rows(rows)),
             Page::Foreign => {
                 return Ok(Read::OtherKind {
-                    row: count(&rows) + 1,
+                    row: rows.count() + 1,
                 });
             }
         }

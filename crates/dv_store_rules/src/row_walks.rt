@@ -11,13 +11,11 @@ use dv_digest::Room;
 use dv_index::Placed;
 use dv_records::Weighed;
 use dv_text::KeyDigest;
+use dv_window_rules::MOST_WEIGHT;
 use std::cmp::Ordering;
 
 // The number of the rule of hashes.
 const HASH: u8 = 7;
-
-/// What the raw tables may weigh together.
-pub(crate) const MOST_WEIGHT: u128 = 1_073_741_824;
 
 /// The rules of one kind of rows, each for a row by itself.
 pub(crate) trait RowRules<R: Placed + Weighed> {

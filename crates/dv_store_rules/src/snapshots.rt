@@ -7,11 +7,11 @@ use crate::heads::is_later;
 use dv_records::SnapHead;
 use dv_text::{Stamp, WindowHead};
 
-// What all snapshots may weigh together.
-const MOST_WEIGHT: u64 = 268_435_456;
+/// What all snapshots may weigh together.
+pub const MOST_SNAPSHOT_WEIGHT: u64 = 268_435_456;
 
-// How many snapshots may be stored.
-const MOST_SNAPSHOTS: usize = 1_000;
+/// How many snapshots may be stored.
+pub const MOST_SNAPSHOTS: usize = 1_000;
 
 // Whether a date is later than that of the last of these snapshots, if there is one.
 fn is_after(heads: &[SnapHead], date: Stamp) -> bool
@@ -37,7 +37,7 @@ fn is_snapshot(
 {
     is_after(&heads[..place], head.date)
         && !is_later(windows, head.date)
-        && weight.saturating_add(head.weight) <= MOST_WEIGHT
+        && weight.saturating_add(head.weight) <= MOST_SNAPSHOT_WEIGHT
         && place < MOST_SNAPSHOTS
 }
 

@@ -5,14 +5,14 @@ ghost use Rattle.dv_records.specs.Limits.{most_field_bytes};
 ghost use Rattle.dv_store_rules.specs.FormRules as spec;
 
 use dv_text::{Digest, Text};
-
-// How many bytes a text may have.
-const MOST_BYTES: usize = 4_096;
+use dv_window_rules::MOST_FIELD_BYTES;
 
 fn are_short(texts: &[Text]) -> bool
     ensures { result ≡ list_all (λ text. nat_le (length text) most_field_bytes) texts.now }
 {
-    texts.iter().all(|text| text.bytes().len() <= MOST_BYTES)
+    texts
+        .iter()
+        .all(|text| text.bytes().len() <= MOST_FIELD_BYTES)
 }
 
 /// Whether texts are as many as they have to be, and none is too long. Takes no memory.

@@ -1,6 +1,7 @@
 -- A text is its own normal form where no blank is first or last, and, as a part of a key, no letter is small.
 use Rattle.dv_window_rules.proofs.Vocabulary.{◌≡◌, ℕ, ◌-◌, Bool, true, false, ◌&&◌, ◌==◌, List, [], ◌∷◌, length, take, drop, map, refl, sym, ◌∙◌, ap, arith, and_from, and_parts, false_from_ne_true, eqb-true, eq-eqb, prefix_len, suffix_len, to_ascii_uppercase}
 use Rattle.dv_window_rules.proofs.Vocabulary.{length-map, length-drop, length-take, prefix_len-le-length, suffix_len-le-length, is_blank, norm_field, norm_key, without_leading, without_trailing, take-length, texts_eq, texts_eq-Decides, list_all, same_answer}
+use Rattle.dv_records.proofs.WindowRows.{same_text}
 
 -- ---- fields
 
@@ -26,9 +27,6 @@ no_trailing t same =
 as_long : (t : List ℕ) → length (norm_field t) ≡ length t → norm_field t ≡ t
 as_long t same = trimmed_itself t (no_leading t same) (no_trailing t same)
 
-one_text : (a b : List ℕ) → texts_eq (a ∷ []) (b ∷ []) ≡ true → a ≡ b
-one_text a b e = let same = (texts_eq-Decides (a ∷ []) (b ∷ [])).0 e in cc
-
 one_text_from : (a b : List ℕ) → a ≡ b → texts_eq (a ∷ []) (b ∷ []) ≡ true
 one_text_from a b e = (texts_eq-Decides (a ∷ []) (b ∷ [])).1 (ap (λ t. t ∷ []) e)
 
@@ -39,14 +37,14 @@ trimmed_told t =
     let (first, last) = and_parts (prefix_len is_blank t == 0) (suffix_len is_blank t == 0) e in
     one_text_from (norm_field t) t (trimmed_itself t (eqb-true _ _ first) (eqb-true _ _ last)))
     (λ e.
-    let same : length (norm_field t) ≡ length t = ap length (one_text (norm_field t) t e) in
+    let same : length (norm_field t) ≡ length t = ap length (same_text (norm_field t) t e) in
     and_from (prefix_len is_blank t == 0) (suffix_len is_blank t == 0) (eq-eqb _ _ (no_leading t same)) (eq-eqb _ _ (no_trailing t same)))
 
 pub trimmed_last : (t : List ℕ) → prefix_len is_blank t ≡ 0 → (suffix_len is_blank t == 0) ≡ texts_eq (norm_field t ∷ []) (t ∷ [])
 trimmed_last t first = ap (λ b. b && (suffix_len is_blank t == 0)) (sym (eq-eqb (prefix_len is_blank t) 0 first)) ∙ trimmed_told t
 
 pub not_trimmed : (t : List ℕ) → (prefix_len is_blank t ≡ 0 → ⊥) → false ≡ texts_eq (norm_field t ∷ []) (t ∷ [])
-not_trimmed t blank = sym (false_from_ne_true (texts_eq (norm_field t ∷ []) (t ∷ [])) (λ e. blank (no_leading t (ap length (one_text (norm_field t) t e)))))
+not_trimmed t blank = sym (false_from_ne_true (texts_eq (norm_field t ∷ []) (t ∷ [])) (λ e. blank (no_leading t (ap length (same_text (norm_field t) t e)))))
 
 -- ---- parts of keys
 
@@ -75,9 +73,9 @@ raised_told t =
     same_answer (texts_eq (norm_field t ∷ []) (t ∷ []) && list_all is_left t) (texts_eq (norm_key t ∷ []) (t ∷ []))
     (λ e.
     let (trimmed, raised) = and_parts (texts_eq (norm_field t ∷ []) (t ∷ [])) (list_all is_left t) e in
-    one_text_from (norm_key t) t (ap (map to_ascii_uppercase) (one_text (norm_field t) t trimmed) ∙ all_left t raised))
+    one_text_from (norm_key t) t (ap (map to_ascii_uppercase) (same_text (norm_field t) t trimmed) ∙ all_left t raised))
     (λ e.
-    let same : norm_key t ≡ t = one_text (norm_key t) t e in
+    let same : norm_key t ≡ t = same_text (norm_key t) t e in
     let count : length (norm_field t) ≡ length t = sym (length-map (norm_field t) to_ascii_uppercase) ∙ ap length same in
     let itself : norm_field t ≡ t = as_long t count in
     and_from (texts_eq (norm_field t ∷ []) (t ∷ [])) (list_all is_left t) (one_text_from (norm_field t) t itself) (left_all t (ap (map to_ascii_uppercase) (sym itself) ∙ same)))

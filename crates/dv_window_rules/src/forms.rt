@@ -5,18 +5,13 @@ ghost use Rattle.std.specs.Ordering.{is_lt, nat_cmp};
 ghost use Rattle.dv_records.specs.Limits.{most_window_records};
 ghost use Rattle.dv_records.specs.States as states;
 
+use crate::limits::{MOST_RECORDS, MOST_WINDOW_RECORDS};
 use crate::row_forms::is_row_of;
 use crate::row_orders::are_in_order;
 use dv_catalog::{Catalog, FeedDef, Rule};
 use dv_stage::two_drivers;
 use dv_text::{Memory, NRow, Staged, Window};
 use std::alloc::Global;
-
-/// The most rows of an extract.
-const MOST_RECORDS: usize = 200_000;
-
-/// The most rows of the extracts of a window together.
-const MOST_WINDOW_RECORDS: usize = 400_000;
 
 fn is_earlier(some: &Staged, other: &Staged) -> bool
     ensures { result ≡ is_lt (nat_cmp some.now.feed other.now.feed) }

@@ -1,14 +1,23 @@
-// The limits of the vault.
+// The limits of windows and of the vault.
 ghost use Rattle.std.specs.Prelude.{◌≡◌, ◌-◌, ◌^◌, ◌<◌, min};
 ghost use Rattle.dv_records.specs.Outcomes as spec;
 
 use dv_catalog::Rule;
 
+/// The most bytes of a text of a row.
+pub const MOST_FIELD_BYTES: usize = 4_096;
+
+/// The most records of an extract.
+pub(crate) const MOST_RECORDS: usize = 200_000;
+
+/// The most records of the extracts of a window together.
+pub(crate) const MOST_WINDOW_RECORDS: usize = 400_000;
+
 /// The most that a vault may weigh.
-const MOST_WEIGHT: u128 = 1_073_741_824;
+pub const MOST_WEIGHT: u128 = 1_073_741_824;
 
 /// The most windows that a vault may have.
-const MOST_WINDOWS: u64 = 10_000;
+pub const MOST_WINDOWS: usize = 10_000;
 
 /// The rule W21, where a vault breaks it that with its next window weighs so much, and has so many sealed
 /// windows. A number that the rule has no room for is named as the greatest that it has. Takes no memory.
@@ -16,7 +25,7 @@ pub fn full(weight: u128, windows: u64) -> Option<Rule>
     ensures value { weight < 2 ^ 64 → windows < 2 ^ 32 → result ≡ spec.full_at weight windows }
     ensures named { result ≡ spec.full_at (min weight (2 ^ 64 - 1)) (min windows (2 ^ 32 - 1)) }
 {
-    if weight <= MOST_WEIGHT && windows < MOST_WINDOWS {
+    if weight <= MOST_WEIGHT && windows < MOST_WINDOWS as u64 {
         return None;
     }
     Some(Rule::VaultFull {

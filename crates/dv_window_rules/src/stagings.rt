@@ -6,16 +6,11 @@ ghost use Rattle.dv_catalog.specs.Windows.{window_of, window_rule};
 ghost use Rattle.dv_stage.specs.Faults.{TellsRule};
 ghost use Rattle.dv_window_rules.specs.Staging.{TellsFeed, read_at};
 
+use crate::limits::{MOST_RECORDS, MOST_WINDOW_RECORDS};
 use dv_catalog::{Catalog, ExtractIn, FeedDef, WindowIn};
 use dv_stage::{StageFault, Staged2, stage};
 use dv_text::{List, Window};
 use std::alloc::Global;
-
-/// The most records of an extract.
-const MOST_RECORDS: u64 = 200_000;
-
-/// The most records of the extracts of a window together.
-const MOST_WINDOW_RECORDS: u64 = 400_000;
 
 // The extract that is given for a feed: the first of its name.
 fn given_for<'a>(extracts: &'a [ExtractIn], feed: &FeedDef) -> Option<&'a ExtractIn>
@@ -28,7 +23,8 @@ fn given_for<'a>(extracts: &'a [ExtractIn], feed: &FeedDef) -> Option<&'a Extrac
 pub fn room_after(taken: u64) -> u32
     ensures { result ≡ spec.room_after taken }
 {
-    MOST_WINDOW_RECORDS.saturating_sub(taken).min(MOST_RECORDS) as u32
+    let left = (MOST_WINDOW_RECORDS as u64).saturating_sub(taken);
+    left.min(MOST_RECORDS as u64) as u32
 }
 
 /// Stages the extract that is given for the feed at a place, where so many records were taken before it. None
