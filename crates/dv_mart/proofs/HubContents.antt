@@ -25,6 +25,7 @@ use Rattle.dv_hub_link.proofs.Placed.{some_found}
 use Rattle.dv_records.specs.Marts.{attrs_or_blanks, hub_cell, hub_feeds, hub_rows}
 use Rattle.dv_mart.specs.HubContents.{cell_of, keys_of, row_of, told_rows}
 use Rattle.dv_print.specs.HubFeeds.{told}
+use Rattle.std.proofs.lemmas.Simd.{map-map}
 
 -- ---- what is read from the tables stands in order
 
@@ -85,18 +86,14 @@ cell_is one key run row present attrs run_is row_is present_is attrs_is =
 
 -- ---- the mart by the contents
 
-over_map : {X Y Z : Type 0} (g : Y → Z) (f : X → Y) (xs : List X) → map g (map f xs) ≡ map (λ x. g (f x)) xs
-over_map g f [] = refl
-over_map g f (x ∷ xs) = ap (λ rest. g (f x) ∷ rest) (over_map g f xs)
-
 module _ (mapping : Mapping) (read : ℕ → List NRow) (hub : ℕ) (feeds : List HubFeed) (contents : List FeedRows) (feeds_are : map told feeds ≡ hub_feeds mapping hub)
     (contents_are : map told_rows contents ≡ map (λ (feed : HubFeed). (told feed, read feed.place)) feeds) where
   cells_are : (key : Key) → map (cell_of key) contents ≡ map (hub_cell read key) (hub_feeds mapping hub)
   cells_are key =
-      sym (over_map (λ (one : (ℕ × FeedDef) × List NRow). hub_cell (λ feed. one.1) key one.0) told_rows contents)
+      sym (map-map (λ (one : (ℕ × FeedDef) × List NRow). hub_cell (λ feed. one.1) key one.0) told_rows contents)
       ∙ ap (map (λ (one : (ℕ × FeedDef) × List NRow). hub_cell (λ feed. one.1) key one.0)) contents_are
-      ∙ over_map (λ (one : (ℕ × FeedDef) × List NRow). hub_cell (λ feed. one.1) key one.0) (λ (feed : HubFeed). (told feed, read feed.place)) feeds
-      ∙ sym (over_map (hub_cell read key) told feeds)
+      ∙ map-map (λ (one : (ℕ × FeedDef) × List NRow). hub_cell (λ feed. one.1) key one.0) (λ (feed : HubFeed). (told feed, read feed.place)) feeds
+      ∙ sym (map-map (hub_cell read key) told feeds)
       ∙ ap (map (hub_cell read key)) feeds_are
 
   keys_are : keys_of contents ≡ flat_map (λ (feed : ℕ × FeedDef). flat_map (λ (row : NRow). row.refs) (read feed.0)) (hub_feeds mapping hub)

@@ -1,6 +1,6 @@
 -- What the tables of a vault hold: of each table rows of its kind, and by them its text.
-use Rattle.dv_mart.proofs.Vocabulary.{◌≡◌, ℕ, ◌<◌, true, false≢true, List, ◌∙◌, ap, refl, arith, length, nat_lt, Contains, nat_tests, Window, Hashes, TableId, Mapping, is_of_kind, is_table_of, tables, tables_in, Rows, rows_in, rows_up_to, table_after, vault_holds, HasSealed, RawVault}
-use Rattle.dv_mart.proofs.Vocabulary.{passes_at, HasKind, raw_text, table_text, TableRows, Effects, Hubs, Links, Multis, Sats, Statuses, effect_rows, hub_rows, link_rows, multi_rows, sat_rows, status_rows}
+use Rattle.dv_mart.proofs.Vocabulary.{◌≡◌, ℕ, ◌<◌, true, false≢true, List, ◌∙◌, ap, refl, subst, sym, arith, length, nat_lt, Contains, nat_tests, Window, Hashes, TableId, Mapping, is_of_kind, is_table_of, tables, tables_in, Rows, rows_in, rows_up_to, table_after}
+use Rattle.dv_mart.proofs.Vocabulary.{vault_holds, HasSealed, RawVault, passes_at, HasKind, raw_text, table_text, TableRows, Effects, Hubs, Links, Multis, Sats, Statuses, effect_rows, hub_rows, link_rows, multi_rows, sat_rows, status_rows}
 use Rattle.dv_catalog.specs.declared.tables.TableId.TheVariants as ids
 use Rattle.dv_records.specs.Backwards.{Backwards, backwards}
 
@@ -23,6 +23,11 @@ multi_within mapping feed has = let test : nat_lt feed (length mapping.feeds) �
 
 pub status_within : (mapping : Mapping) (feed : ℕ) → Contains (tables mapping) (ids.Status feed) → feed < length mapping.feeds
 status_within mapping feed has = let test : nat_lt feed (length mapping.feeds) ≡ true = of_mapping mapping (ids.Status feed) has in grind (arith, nat_tests, test)
+
+-- also of a catalog that is the mapping, where the table is this one
+pub table_here : (mapping catalog : Mapping) (own table : TableId) → catalog ≡ mapping → table ≡ own → Contains (tables mapping) table → is_table_of catalog own ≡ true
+table_here mapping catalog own table is same among =
+    subst (λ (m : Mapping). is_table_of m own ≡ true) (sym is) (of_mapping mapping own (subst (Contains (tables mapping)) same among))
 
 -- ---- rows of a table's kind
 
@@ -74,3 +79,12 @@ pub said : {R : Type 0} (table : TableId) (kind : List R → Rows) (rows_of : Ro
 said table kind rows_of mapping entries date back rows rows_are catalog same =
     ap (λ (m : Mapping). table_text m table (rows_up_to date (kind rows))) same
     ∙ ap (λ (rows : Rows). table_text mapping table (rows_up_to date rows)) (ap kind rows_are ∙ back)
+
+-- the same of a table that is this one
+pub said_for : {R : Type 0} (own table : TableId) (kind : List R → Rows) (rows_of : Rows → List R) (mapping : Mapping) (entries : List TableRows) (date : ℕ)
+    → (HasKind entries own → kind (rows_of (rows_in own entries)) ≡ rows_in own entries) → table ≡ own → (rows : List R) → rows ≡ rows_of (rows_in own entries) → (catalog : Mapping) → catalog ≡ mapping
+    → (text : List ℕ) → text ≡ table_text catalog own (rows_up_to date (kind rows)) → HasKind entries table → text ≡ raw_text mapping entries table date
+said_for own table kind rows_of mapping entries date back same rows rows_are catalog is text text_is has =
+    text_is
+    ∙ said own kind rows_of mapping entries date (back (subst (HasKind entries) same has)) rows rows_are catalog is
+    ∙ ap (λ (id : TableId). raw_text mapping entries id date) (sym same)

@@ -8,13 +8,14 @@ ghost use Rattle.dv_records.specs.Marts as marts;
 ghost use Rattle.dv_records.specs.ReadBack.{any_content_read};
 ghost use Rattle.dv_mart.specs.HubContents as spec;
 ghost use Rattle.dv_print.specs.HubFeeds.{told};
-ghost use Rattle.dv_vault.specs.Contents.{missing_keys};
+ghost use Rattle.dv_contents.specs.Contents.{missing_keys};
 
 use dv_catalog::FeedDef;
+use dv_contents::{ContentRow, lent_content};
 use dv_print::HubFeed;
 use dv_records::HubCell;
 use dv_text::{Duplicate, Key, List, Memory, Stamp, Text};
-use dv_vault::{ContentRow, Vault};
+use dv_vault::Vault;
 use std::alloc::Global;
 use std::cmp::Ordering;
 
@@ -40,7 +41,7 @@ pub(crate) fn contents_of<'a>(
 {
     let mut contents = Vec::with_capacity(alloc, feeds.len())?;
     for feed in feeds {
-        let rows = vault.lent_content(missing, feed.place, date)?;
+        let rows = lent_content(vault, missing, feed.place, date)?;
         contents.push(FeedRows { feed: *feed, rows })?;
     }
     Ok(contents)

@@ -9,6 +9,7 @@ ghost use Rattle.dv_vault.specs.Vaults.{HasSealed};
 ghost use Rattle.dv_mart.specs.HubContents as spec;
 
 use crate::hub_contents::{FeedRows, cells_of, contents_of, keys_of};
+use dv_contents::missing_keys;
 use dv_print::feeds_of;
 use dv_records::HubMartRow;
 use dv_text::{Duplicate, Key, List, Memory, Stamp, sorted_list};
@@ -49,7 +50,7 @@ pub fn hub_mart(
     let catalog = vault.catalog();
     catalog.note_valid();
     let feeds = feeds_of(alloc, catalog, hub)?;
-    let missing = vault.missing_keys()?;
+    let missing = missing_keys(vault)?;
     let contents = contents_of(alloc, vault, missing.items(), feeds.as_slice(), date)?;
     let keys = sorted_list(keys_of(alloc, contents.as_slice())?);
     rows_of(alloc, contents.as_slice(), keys.items())

@@ -9,9 +9,9 @@ ghost use Rattle.dv_print.specs.Writers.{IsBetweenRecords};
 
 use csv::Writer;
 use dv_catalog::FeedDef;
+use dv_contents::ContentRow;
 use dv_print::{Fields, Recorded, feed_header, new_writer, put_record, put_row, text_of};
 use dv_text::{Memory, Text};
-use dv_vault::ContentRow;
 use std::alloc::Global;
 use std::io::Write;
 

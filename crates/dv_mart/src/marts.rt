@@ -22,6 +22,7 @@ use crate::pits::pit_rows;
 use crate::vault_tables::table_text;
 use crate::whats::What;
 use dv_catalog::TableId;
+use dv_contents::{content, lent_content, missing_keys, periods};
 use dv_print::{bridge_text, hub_text, path_text, period_text, pit_text};
 use dv_records::PeriodRow;
 use dv_text::{List, Memory, NRow, Stamp, Text};
@@ -34,7 +35,7 @@ pub fn feed_mart(vault: &Vault, feed: u32, date: Stamp) -> Result<List<NRow>, Me
     requires { feed < length vault.now.mapping.feeds }
     ensures { IfOk result (λ rows. (hashes : Hashes) (sealed : list_of Window) → HasSealed hashes sealed vault.now → rows ≡ marts.feed_mart sealed feed date) }
 {
-    vault.content(feed, date)
+    content(vault, feed, date)
 }
 
 // The text of a feed's mart.
@@ -42,8 +43,8 @@ fn feed_mart_text(alloc: Global, vault: &Vault, feed: u32, date: Stamp) -> Resul
     requires { feed < length vault.now.mapping.feeds }
     ensures { IfOk result (λ text. (hashes : Hashes) (sealed : list_of Window) → HasSealed hashes sealed vault.now → text ≡ spec.feed_text_by sealed feed date (slice_get vault.now.mapping.feeds feed)) }
 {
-    let missing = vault.missing_keys()?;
-    let rows = vault.lent_content(missing.items(), feed, date)?;
+    let missing = missing_keys(vault)?;
+    let rows = lent_content(vault, missing.items(), feed, date)?;
     lent_feed_text(alloc, vault.catalog().feed(feed), rows.items())
 }
 
@@ -54,7 +55,7 @@ pub fn period_mart(vault: &Vault, feed: u32, date: Stamp) -> Result<List<PeriodR
     requires { Contains (tables vault.now.mapping) (TableId.Effect feed) }
     ensures { IfOk result (λ rows. (hashes : Hashes) (sealed : list_of Window) → HasSealed hashes sealed vault.now → rows ≡ marts.period_mart sealed feed date) }
 {
-    vault.periods(feed, date)
+    periods(vault, feed, date)
 }
 
 // The text of the mart of a feed's periods.

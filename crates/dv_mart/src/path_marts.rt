@@ -6,7 +6,7 @@ ghost use Rattle.dv_text.specs.declared.rows.Window.{Window};
 ghost use Rattle.dv_text.specs.Keys.{Hashes};
 ghost use Rattle.dv_records.specs.Marts as marts;
 ghost use Rattle.dv_records.specs.ReadBack.{key_read, keys_read};
-ghost use Rattle.dv_vault.specs.Contents as contents;
+ghost use Rattle.dv_contents.specs.Contents as contents;
 ghost use Rattle.dv_vault.specs.Vaults.{HasSealed};
 ghost use Rattle.dv_bridge.specs.ZeroKeys.{HasZeroKeys};
 ghost use Rattle.dv_mart.specs.MartTexts as spec;
@@ -14,6 +14,7 @@ ghost use Rattle.dv_mart.specs.PathTables.{path_row, steps_read};
 
 use crate::bridges::bridge_rows;
 use crate::mart_faults::MartFault;
+use dv_contents::missing_keys;
 use dv_print::feed_hubs;
 use dv_records::{BridgeRow, PathRow};
 use dv_text::{Digest, Duplicate, Key, List, Memory, Stamp, sorted_list};
@@ -81,7 +82,7 @@ fn all_steps(
 ) -> Result<List<List<List<Key>>>, Memory>
     ensures { IfOk result (λ all. all ≡ map (λ row. steps_read vault.now.mapping vault.now.tables feeds.now row.hubs) bridge.now) }
 {
-    let missing = vault.missing_keys()?;
+    let missing = missing_keys(vault)?;
     let mut all = List::with_room(alloc, bridge.len())?;
     for row in bridge {
         let digests = row.hubs.items();

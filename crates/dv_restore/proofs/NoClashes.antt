@@ -1,13 +1,14 @@
 -- What a window brings to a hub or a link, and what older windows brought, do not clash where the windows do not collide.
-use Rattle.dv_hub_link.proofs.Vocabulary.{Contains, Contains-append_cases, Contains-append_left, Contains-append_right, Contains-cons_here, Contains-cons_there, Contains-flat_map, Contains-map, Delivery, HasNoClash, Hashed, Hashes, Hub, HubName, HubRow, Less, Link}
+use Rattle.dv_hub_link.proofs.Vocabulary.{Contains, Contains-append_cases, Contains-append_left, Contains-append_right, Contains-cons_here, Contains-cons_there, Contains-flat_map, Contains-map, Delivery, HasNoClash, Hashed, Hashes, Hub, HubName, HubRow, Link}
 use Rattle.dv_hub_link.proofs.Vocabulary.{LinkRow, List, Mapping, None, Parent, TellLists, Window, [], all_hashed, ap, appended, brought, collision_in, deliveries, flat_map, flat_map_member, hashed_by, hub_batch, hub_hashed, hubs_in, hubs_of, inl, inr}
-use Rattle.dv_hub_link.proofs.Vocabulary.{irreflexive, is_known, is_offered, is_offered-member, keys_under, link_batch, link_hashed, map, map_member, offered_member, offered_refs, parent_hubs, refl, refs_cmp, refs_total, reverse, some_passes}
+use Rattle.dv_hub_link.proofs.Vocabulary.{is_known, is_offered, is_offered-member, keys_under, link_batch, link_hashed, map, map_member, offered_member, offered_refs, parent_hubs, refl, reverse, some_passes}
 use Rattle.dv_hub_link.proofs.Vocabulary.{some_passes_at, stored, subst, sym, true, ℕ, ◌++◌, ◌∙◌, ◌∷◌, ◌≡◌}
 use Rattle.dv_hub_link.proofs.ToldLists.{list_told}
 use Rattle.dv_hub_link.proofs.WindowLists.{HoldsOffered, delivery_kept, held_none}
 use Rattle.dv_hub_link.specs.HubDeltas.{stored as stored_keys}
 use Rattle.dv_records.proofs.HubTables.{table_row as hub_row}
 use Rattle.dv_records.proofs.LinkTables.{table_row as link_row}
+use Rattle.dv_hub_link.proofs.LinkWindows.{bare_clear}
 
 -- lists that windows bring, each under its hash key
 abbrev AreBrought : Mapping → Hashes → Parent → List Window → List Hashed → Type 0
@@ -64,15 +65,6 @@ hub_clear mapping hashes hub older window free = none_clash mapping hashes (Hub 
         subst (λ (h : Hashed). (is_known mapping (Hub hub) older h.refs ≡ true) × (h.digest ≡ hashes.hash h.refs)) is (hub_row mapping hub hashes older row member)
 
 -- ---- links
-
--- rows without hubs stand for one list
-bare_clear : (mapping : Mapping) (names : List HubName) (rows : List LinkRow) → HasNoClash (stored mapping names [] rows)
-bare_clear mapping names rows pair is =
-    let (a, a_in, a_is) = map_member (λ (row : LinkRow). record { digest = row.digest; refs = keys_under mapping names [] row.hubs }) rows (record { digest = is.digest; refs = pair.first }) is.has_first in
-    let (b, b_in, b_is) = map_member (λ (row : LinkRow). record { digest = row.digest; refs = keys_under mapping names [] row.hubs }) rows (record { digest = is.digest; refs = pair.second }) is.has_second in
-    let first : [] ≡ pair.first = ap (λ (h : Hashed). h.refs) a_is in
-    let second : [] ≡ pair.second = ap (λ (h : Hashed). h.refs) b_is in
-    irreflexive refs_total pair.first (subst (λ refs. refs_cmp pair.first refs ≡ Less) (sym second ∙ first) is.ordered)
 
 module _ (mapping : Mapping) (hashes : Hashes) (names : List HubName) (link : ℕ) (older : List Window) (window : Window) (tell : TellLists mapping hashes names older) where
   abbrev rows : List LinkRow

@@ -14,7 +14,7 @@ mod restored;
 mod stores;
 mod table_reads;
 
-pub use faults::StoreFault;
+pub use faults::{StartFault, StoreFault};
 pub use mappings::{mapping_damage, stored_mapping};
 pub use restored::{Begun, Restored};
 pub use stores::read_store;

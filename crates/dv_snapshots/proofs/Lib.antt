@@ -1,6 +1,5 @@
 pub mod HubCounts
 pub mod HubFeedCounts
-pub mod Places
 pub mod PlannedSnapshots
 pub mod RefusedStates
 pub mod SnapTables

@@ -1,7 +1,6 @@
 -- The rows of the tables of a snapshot have the form of their table, where the hash keys have the width.
-use Rattle.dv_snapshots.proofs.Vocabulary.{Bridges, Contains, Hashes, Key, List, Mapping, None, Option, Pits, PitRow, BridgeRow, SnapId, Some, State, Window, [], all_pass, and_from, ap, arith, bridge_form, eq-eqb, false, has_width, hub_feeds, is_sound_bridge, is_sound_pit, length, length-map, list_all, map}
+use Rattle.dv_snapshots.proofs.Vocabulary.{Bridges, Contains, Hashes, Key, List, Mapping, None, Option, Pits, PitRow, BridgeRow, SnapId, Some, State, Window, [], all_pass, and_from, ap, arith, bridge_form, eq-eqb, has_width, hub_feeds, is_sound_bridge, is_sound_pit, length, length-map, list_all, map}
 use Rattle.dv_snapshots.proofs.Vocabulary.{map_member, member_before_sort, pit, pit_form, refl, subst, suc, sum_by-cons, sym, true, ℕ, ◌∙◌, ◌∷◌, ◌≡◌}
-use Rattle.std.proofs.lemmas.Bool.{and_parts}
 use Rattle.std.proofs.lemmas.List.{length-append}
 use Rattle.std.specs.List.{flat_map}
 use Rattle.std.specs.Prelude.{slice_get}
@@ -17,23 +16,17 @@ use Rattle.dv_records.specs.History.{all_refs, content, newest_rows, up_to}
 use Rattle.dv_records.specs.Hubs.{each_hash}
 use Rattle.dv_records.specs.Marts.{agrees, choices, contents, path_rows_by, whole_refs}
 use Rattle.dv_records.specs.Snapshots.{bridge, bridge_cmp, bridge_row, keys_up_to, pit_cmp, pit_row}
-use Rattle.dv_records.specs.States.{are_windows_valid, fit_hubs, fits_hub}
+use Rattle.dv_records.specs.States.{are_windows_valid}
 use Rattle.dv_records.specs.declared.mart_rows.PathRow.{PathRow}
 use Rattle.dv_records.specs.declared.snapshots.SnapId.TheVariants.{Pit, Bridge}
 use Rattle.dv_text.specs.declared.rows.NRow.{NRow}
 use Rattle.dv_snapshots.proofs.StandingRows.{table_rows}
 use Rattle.dv_snapshots.proofs.StoredPages.{unflawed}
-use Rattle.dv_snapshots.specs.RowForms.{bridges_in, bridges_paged, hub_count, pits_in, pits_paged}
+use Rattle.dv_snapshots.specs.RowForms.{bridges_in, hub_count, pits_in}
 use Rattle.dv_snapshots.specs.StoredTexts.{flawed_row}
 use Rattle.std.specs.List.{list_any}
 use Rattle.std.specs.Prelude.{not}
-
--- references that fit hubs are as many
-as_many : (mapping : Mapping) (hubs : List ℕ) (refs : List Key) → fit_hubs mapping hubs refs ≡ true → length refs ≡ length hubs
-as_many mapping [] [] fits = refl
-as_many mapping [] (key ∷ refs) fits = let no : false ≡ true = fits in cc
-as_many mapping (hub ∷ hubs) [] fits = let no : false ≡ true = fits in cc
-as_many mapping (hub ∷ hubs) (key ∷ refs) fits = ap suc (as_many mapping hubs refs (and_parts (fits_hub mapping hub key) (fit_hubs mapping hubs refs) fits).1)
+use Rattle.dv_records.proofs.FeedRefs.{as_many}
 
 -- the path row of some steps
 abbrev path_row : List (List Key) → PathRow
@@ -130,8 +123,8 @@ module _ (mapping : Mapping) (hashes : Hashes) (sealed : List Window) (date : �
 pub unflawed_rows : (mapping : Mapping) (hashes : Hashes) (state : State) (date width : ℕ) → ((refs : List Key) → length (hashes.hash refs) ≡ width) → are_windows_valid mapping hashes state.sealed ≡ true
     → (id : SnapId) → flawed_row mapping width id (table_rows mapping hashes state date id) ≡ None
 unflawed_rows mapping hashes state date width wide valid (Pit hub) =
-    unflawed pits_in (is_sound_pit (pit_form mapping width hub)) pits_paged (Pits (pit mapping hashes state.sealed hub date)) (pit mapping hashes state.sealed hub date) refl
+    unflawed pits_in (is_sound_pit (pit_form mapping width hub)) (Pits (pit mapping hashes state.sealed hub date)) (pit mapping hashes state.sealed hub date) refl
     (pits_sound mapping hashes state.sealed date width wide hub)
 unflawed_rows mapping hashes state date width wide valid (Bridge path) =
-    unflawed bridges_in (is_sound_bridge (bridge_form mapping width (slice_get mapping.paths path))) bridges_paged (Bridges (bridge mapping hashes state.sealed path date)) (bridge mapping hashes state.sealed path date) refl
+    unflawed bridges_in (is_sound_bridge (bridge_form mapping width (slice_get mapping.paths path))) (Bridges (bridge mapping hashes state.sealed path date)) (bridge mapping hashes state.sealed path date) refl
     (bridges_sound mapping hashes state.sealed date width wide valid path)

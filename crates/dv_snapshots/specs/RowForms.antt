@@ -1,8 +1,7 @@
 -- The forms of the rows of a snapshot's tables: of point-in-time rows and of bridge rows.
 use Rattle.std.proofs.Common.{ap}
 use Rattle.std.specs.List.{list_all}
-use Rattle.std.specs.Option.{option_map}
-use Rattle.std.specs.Prelude.{◌≡◌, ℕ, ◌==◌, ◌&&◌, Bool, List, Option, None, Some, drop, length, refl, sum_by, take}
+use Rattle.std.specs.Prelude.{◌≡◌, ℕ, ◌==◌, ◌&&◌, Bool, List, Option, None, Some, length, sum_by}
 use Rattle.dv_catalog.specs.declared.entries.PathDef.{PathDef}
 use Rattle.dv_catalog.specs.Entries.{Mapping}
 use Rattle.dv_catalog.specs.Feeds.{feed_hubs}
@@ -12,7 +11,7 @@ use Rattle.dv_records.specs.declared.snapshots.PitRow.{PitRow}
 use Rattle.dv_records.specs.declared.stores.Rows.{Rows}
 use Rattle.dv_records.specs.declared.stores.Rows.TheVariants.{Bridges, Pits}
 use Rattle.dv_records.specs.Marts.{hub_feeds}
-use Rattle.dv_records.specs.Stores.{page, row_count}
+use Rattle.dv_records.specs.Stores.{row_count}
 use Rattle.dv_snapshots.specs.declared.bridge_forms.BridgeForm.{BridgeForm}
 use Rattle.dv_snapshots.specs.declared.pit_forms.PitForm.{PitForm}
 use Rattle.dv_snapshots.specs.StoredRows.{has_width}
@@ -23,10 +22,6 @@ use Rattle.dv_snapshots.specs.StoredRows.{has_width}
 abbrev pub pits_in : Rows → Option (List PitRow)
 pits_in (Pits rows) = Some rows
 pits_in rows = None
-
-pub pits_paged : (from most : ℕ) (rows : Rows) → pits_in (page from most rows) ≡ option_map (λ own. take most (drop from own)) (pits_in rows)
-pits_paged from most (Pits rows) = refl
-pits_paged from most other = refl
 
 pub pits_counted : (rows : Rows) (own : List PitRow) → pits_in rows ≡ Some own → row_count rows ≡ length own
 pits_counted (Pits rows) own is = let same : rows ≡ own = cc in ap length same
@@ -46,10 +41,6 @@ pit_form mapping width hub = record { cells = length (hub_feeds mapping hub); wi
 abbrev pub bridges_in : Rows → Option (List BridgeRow)
 bridges_in (Bridges rows) = Some rows
 bridges_in rows = None
-
-pub bridges_paged : (from most : ℕ) (rows : Rows) → bridges_in (page from most rows) ≡ option_map (λ own. take most (drop from own)) (bridges_in rows)
-bridges_paged from most (Bridges rows) = refl
-bridges_paged from most other = refl
 
 pub bridges_counted : (rows : Rows) (own : List BridgeRow) → bridges_in rows ≡ Some own → row_count rows ≡ length own
 bridges_counted (Bridges rows) own is = let same : rows ≡ own = cc in ap length same

@@ -20,7 +20,7 @@ pub(crate) struct BridgeForm {
 }
 
 impl RowForm<BridgeRow> for BridgeForm {
-    ghost use Rattle.dv_snapshots.specs.RowForms.{bridges_counted, bridges_in, bridges_paged, is_sound_bridge};
+    ghost use Rattle.dv_snapshots.specs.RowForms.{bridges_counted, bridges_in, is_sound_bridge};
 
     ghost own = { bridges_in };
 
@@ -39,8 +39,6 @@ impl RowForm<BridgeRow> for BridgeForm {
             && are_wide(row.links.items(), self.width)
             && are_wide(row.hubs.items(), self.width)
     }
-
-    ghost paged = { bridges_paged };
 
     ghost counted = { bridges_counted };
 }

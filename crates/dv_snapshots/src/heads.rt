@@ -4,7 +4,6 @@ ghost use Rattle.dv_records.specs.Snapshots.{snap_head};
 ghost use Rattle.dv_records.specs.Stores as stores;
 ghost use Rattle.dv_records.specs.Weights.{rows_weight};
 
-use crate::row_counts::count;
 use dv_records::{SnapHead, SnapTable, weight};
 use dv_text::{Memory, Stamp};
 
@@ -15,7 +14,7 @@ fn count_all(tables: &[SnapTable]) -> Result<u64, Memory>
 {
     let mut rows: u64 = 0;
     for table in tables {
-        rows = rows.checked_add(count(&table.rows)).ok_or(Memory)?;
+        rows = rows.checked_add(table.rows.count()).ok_or(Memory)?;
     }
     Ok(rows)
 }

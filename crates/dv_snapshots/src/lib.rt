@@ -9,7 +9,6 @@ mod pages;
 mod pit_forms;
 mod plans;
 mod refusals;
-mod row_counts;
 mod row_forms;
 mod snapshots;
 mod stored;

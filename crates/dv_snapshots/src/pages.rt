@@ -1,13 +1,13 @@
 // The rows of a stored table of a snapshot, read page after page and held to a form.
 ghost use Rattle.std.specs.List.{position};
-ghost use Rattle.std.specs.Prelude.{◌≡◌, ◌<◌, ◌+◌, ◌^◌, [], None, Some, IfErr, IfOk, not};
+ghost use Rattle.std.specs.Prelude.{◌≡◌, ◌<◌, ◌^◌, ◌&&◌, [], None, Some, IfErr, IfOk, OnOk, nat_le, nat_lt, not};
+ghost use Rattle.std.specs.Bool.{OnTrue};
 ghost use Rattle.dv_text.specs.Told.{Told};
 ghost use Rattle.dv_records.specs.Changes.{KeeperCause};
-ghost use Rattle.dv_snapshots.specs.Pages.{AreFirst, CountsFlaw, IsGrown, TellsPage, TellsRows};
+ghost use Rattle.dv_snapshots.specs.Pages.{AreFirst, CountsFlaw, IsGrown, TellsPage, TellsRows, joined};
 ghost use Rattle.dv_snapshots.specs.StoredRows as spec;
 
 use crate::asked::Asked;
-use crate::row_counts::count;
 use crate::row_forms::RowForm;
 use dv_records::{Keeper, KeeperError, Rows};
 use dv_text::{List, Memory};
@@ -21,15 +21,6 @@ const PAGE: u64 = 1000;
 #[derive(Drop)]
 pub(crate) enum Read<R> {
     Rows(List<R>),
-    Flawed { row: u64 },
-}
-
-// What taking a page came to: its rows were put behind those read before, and there may be more; or
-// all are read that are asked for; or a row is flawed, counted from 1.
-#[derive(Clone, Copy)]
-enum Page {
-    More,
-    Last,
     Flawed { row: u64 },
 }
 
@@ -65,63 +56,75 @@ fn no_rows<R>(alloc: Global, count: u64) -> Result<List<R>, u64>
     }
 }
 
-// The rows of a page, or the place of its first flawed row.
-fn rows_of<R: Drop, F: RowForm<R>>(alloc: Global, form: &F, page: Rows) -> Result<List<R>, u64>
-    ensures sound { IfOk result (λ rows. (spec.flaw_place F.own (F.is_sound form.now) page ≡ None) × (rows ≡ spec.own_rows (F.own page))) }
-    ensures flawed { IfErr result (λ place. spec.flaw_place F.own (F.is_sound form.now) page ≡ Some place) }
+// The rows that were read, or the place of the first flawed one.
+fn rows_of<R: Drop, F: RowForm<R>>(alloc: Global, form: &F, rows: Rows) -> Result<List<R>, u64>
+    ensures sound { IfOk result (λ own. (spec.flaw_place F.own (F.is_sound form.now) rows ≡ None) × (own ≡ spec.own_rows (F.own rows))) }
+    ensures flawed { IfErr result (λ place. spec.flaw_place F.own (F.is_sound form.now) rows ≡ Some place) }
     ensures bound { IfErr result (λ place. place < 2 ^ 63) }
 {
-    let count = count(&page);
-    match form.own(page) {
+    let count = rows.count();
+    match form.own(rows) {
         Some(rows) => checked(form, rows),
         None => no_rows(alloc, count),
     }
 }
 
-// The number, from 1, of the row at a place behind others. One that 64 bits have no room for finds
-// no room in memory.
-fn number_of(before: u64, place: u64) -> Result<u64, Memory>
-    requires { place < 2 ^ 63 }
-    ensures { IfOk result (λ row. row ≡ before + place + 1) }
+// What rows that were read come to, held to a form.
+fn held<R: Drop, F: RowForm<R>>(alloc: Global, form: &F, rows: Rows) -> Read<R>
+    ensures counted { CountsFlaw result }
+    ensures told { TellsRows F.own (F.is_sound form.now) rows result }
 {
-    before.checked_add(place + 1).ok_or(Memory)
+    match rows_of(alloc, form, rows) {
+        Ok(rows) => Read::Rows(rows),
+        Err(place) => Read::Flawed { row: place + 1 },
+    }
 }
 
-// Takes the page behind the rows read so far, and puts its rows behind them.
-fn take_page<R: Drop, F: RowForm<R>, K: Keeper>(
+// Puts the rows of a page behind those read before it, or in the place of none.
+fn put_page(rows: &mut Rows, page: Rows) -> Result<(), Memory>
+    ensures { OnOk result (rows.new ≡ joined rows.old page) }
+{
+    if rows.is_empty() {
+        *rows = page;
+        return Ok(());
+    }
+    rows.put_behind(page)
+}
+
+// Whether there may be more rows behind a page, which has as many as were asked for and added some.
+fn goes_on(taken: u64, most: u64, before: u64, after: u64) -> bool
+    ensures { result ≡ (nat_le most taken && nat_lt before after) }
+{
+    taken >= most && after > before
+}
+
+// Takes the page behind the rows read so far, and puts its rows behind them. Whether there may be more.
+fn take_page<K: Keeper>(
     alloc: Global,
     keeper: &mut K,
     asked: &Asked,
-    form: &F,
-    rows: &mut List<R>,
-) -> Result<Page, KeeperError>
-    requires { Told (K.store keeper.old) (λ s. AreFirst F.own (F.is_sound form.now) asked.now.most (spec.stored_rows asked.now s.snapshots) rows.old) }
-    ensures told { IfOk result (λ page. Told (K.store keeper.old) (λ s. TellsPage F.own (F.is_sound form.now) asked.now.most (spec.stored_rows asked.now s.snapshots) rows.new page)) }
-    ensures grown { IfOk result (IsGrown asked.now.most rows.old rows.new) }
+    rows: &mut Rows,
+) -> Result<bool, KeeperError>
+    requires { Told (K.store keeper.old) (λ s. AreFirst asked.now.most (spec.stored_rows asked.now s.snapshots) rows.old) }
+    ensures told { IfOk result (λ more. Told (K.store keeper.old) (λ s. TellsPage asked.now.most (spec.stored_rows asked.now s.snapshots) rows.new more)) }
+    ensures grown { IfOk result (λ more. OnTrue more (IsGrown asked.now.most rows.old rows.new)) }
     ensures kept { K.store keeper.new ≡ K.store keeper.old }
     ensures cause { KeeperCause (K.faults keeper.old) (K.faults keeper.new) result }
 {
-    let have = rows.items().len() as u64;
+    let have = rows.count();
     if have >= asked.most {
-        return Ok(Page::Last);
+        return Ok(false);
     }
     let most = (asked.most - have).min(PAGE);
     let page = keeper.snapshot_rows(alloc, asked.date, asked.id, have, most as u32)?;
-    let more = match rows_of(alloc, form, page) {
-        Ok(more) => more,
-        Err(place) => {
-            let row = number_of(have, place)?;
-            return Ok(Page::Flawed { row });
-        }
-    };
-    let taken = more.items().len() as u64;
-    rows.append(more)?;
-    Ok(if taken < most { Page::Last } else { Page::More })
+    let taken = page.count();
+    put_page(rows, page)?;
+    Ok(goes_on(taken, most, have, rows.count()))
 }
 
 /// The rows of a stored table that are asked for, read from the first on in pages of 1,000, until
-/// they end or are as many; or the number of the first that is of another kind than the form's, or
-/// hasn't the form. So no keeper holds the call for ever. `Failed` comes only where the keeper's
+/// they end or are as many, and then held to the form; or the number of the first that is of another
+/// kind than the form's, or hasn't the form. So no keeper holds the call for ever. `Failed` comes only where the keeper's
 /// count of faults rose, and `Memory` where memory ran out; the store is as before.
 pub(crate) fn read_rows<R: Drop, F: RowForm<R>, K: Keeper>(
     alloc: Global,
@@ -134,12 +137,10 @@ pub(crate) fn read_rows<R: Drop, F: RowForm<R>, K: Keeper>(
     ensures kept { K.store keeper.new ≡ K.store keeper.old }
     ensures cause { KeeperCause (K.faults keeper.old) (K.faults keeper.new) result }
 {
-    let mut rows = List::new(alloc);
+    let mut rows = Rows::Pits(List::new(alloc));
     'pages: loop {
-        match take_page(alloc, keeper, asked, form, &mut rows)? {
-            Page::More => {}
-            Page::Last => return Ok(Read::Rows(rows)),
-            Page::Flawed { row } => return Ok(Read::Flawed { row }),
+        if !take_page(alloc, keeper, asked, &mut rows)? {
+            return Ok(held(alloc, form, rows));
         }
     }
 }

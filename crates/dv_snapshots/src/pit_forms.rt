@@ -19,7 +19,7 @@ pub(crate) struct PitForm {
 }
 
 impl RowForm<PitRow> for PitForm {
-    ghost use Rattle.dv_snapshots.specs.RowForms.{is_sound_pit, pits_counted, pits_in, pits_paged};
+    ghost use Rattle.dv_snapshots.specs.RowForms.{is_sound_pit, pits_counted, pits_in};
 
     ghost own = { pits_in };
 
@@ -35,8 +35,6 @@ impl RowForm<PitRow> for PitForm {
     fn is_sound(&self, row: &PitRow) -> bool {
         row.cells.items().len() == self.cells && is_wide(&row.key, self.width)
     }
-
-    ghost paged = { pits_paged };
 
     ghost counted = { pits_counted };
 }

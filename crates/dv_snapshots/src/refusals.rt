@@ -5,13 +5,8 @@ ghost use Rattle.dv_store_rules.specs.SnapshotHeads.{heads_weight};
 ghost use Rattle.dv_snapshots.specs.Refusals as spec;
 
 use dv_records::{SnapAnswer, SnapHead};
+use dv_store_rules::{MOST_SNAPSHOT_WEIGHT, MOST_SNAPSHOTS};
 use dv_text::{Memory, Stamp};
-
-// What all snapshots may weigh together.
-const MOST_WEIGHT: u64 = 268_435_456;
-
-// How many snapshots there may be.
-const MOST_SNAPSHOTS: usize = 1_000;
 
 // The refusal of a date that is later than the last sealed load date, or where none is sealed.
 fn future(last: Option<Stamp>, date: Stamp) -> Option<SnapAnswer>
@@ -72,7 +67,7 @@ pub(crate) fn late_refusal(
     ensures { IfOk result (λ answer. answer ≡ spec.late_refusal heads.now head.now) }
 {
     let weight = weight_with(heads, head)?;
-    if weight > MOST_WEIGHT || heads.len() >= MOST_SNAPSHOTS {
+    if weight > MOST_SNAPSHOT_WEIGHT || heads.len() >= MOST_SNAPSHOTS {
         return Ok(Some(SnapAnswer::Full { weight }));
     }
     Ok(None)

@@ -1,9 +1,8 @@
 // What the rows of a stored table have to be.
 ghost use Rattle.std.specs.List.{list_all};
-ghost use Rattle.std.specs.Option.{option_map};
-ghost use Rattle.std.specs.Prelude.{◌≡◌, ℕ, Bool, List as list_of, Option, Some, drop, length, take};
+ghost use Rattle.std.specs.Prelude.{◌≡◌, ℕ, Bool, List as list_of, Option, Some, length};
 ghost use Rattle.dv_records.specs.declared.stores.Rows.{Rows};
-ghost use Rattle.dv_records.specs.Stores.{page, row_count};
+ghost use Rattle.dv_records.specs.Stores.{row_count};
 ghost use Rattle.dv_snapshots.specs.StoredRows.{has_width};
 
 use dv_records::Rows;
@@ -24,9 +23,6 @@ pub(crate) trait RowForm<R> {
     /// Whether a row has the form. Takes no memory.
     fn is_sound(&self, row: &R) -> bool
         ensures { result ≡ is_sound self.now row.now };
-
-    /// A page of rows has the same page of those of the form's kind.
-    ghost paged: { (from most : ℕ) (rows : Rows) → own (page from most rows) ≡ option_map (λ rows. take most (drop from rows)) (own rows) };
 
     /// Rows of the form's kind are as many.
     ghost counted: { (rows : Rows) (xs : list_of R) → own rows ≡ Some xs → row_count rows ≡ length xs };

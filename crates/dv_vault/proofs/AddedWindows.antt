@@ -1,18 +1,15 @@
 -- What a vault is with what a window adds: the vault of the sealed windows and the new one.
-use Rattle.dv_vault.proofs.Vocabulary.{map-map, slice_get-map, List, None, Option, Some, [], ap, arith, length, map, refl, suc, sym, true, ℕ, ◌++◌, ◌+◌, ◌-◌, ◌∙◌, ◌∷◌, ◌≡◌, length-map, map-append, option_map, slice_get, sum_by, take}
+use Rattle.dv_vault.proofs.Vocabulary.{map-map, slice_get-map, List, None, Option, [], ap, arith, length, map, refl, suc, sym, true, ℕ, ◌++◌, ◌+◌, ◌-◌, ◌∙◌, ◌∷◌, ◌≡◌, length-map, map-append, option_map, slice_get, sum_by, take}
 use Rattle.dv_vault.proofs.Vocabulary.{Hashes, is_window, head_of, last_load, row_count, rows_weight, tables_weight, vault_weight, vault, table_batch, tables, Rule, late_after, full_at, Rows, TableRows, Window, WindowHead, AreApart}
-use Rattle.dv_vault.proofs.Vocabulary.{raw_with, is_valid, IsAddition, all_added, weight_with, HasSealed, RawVault, entries_with, last_head, Addition, loaded, last_or}
+use Rattle.dv_vault.proofs.Vocabulary.{raw_with, is_valid, IsAddition, all_added, weight_with, HasSealed, RawVault, entries_with, last_head, Addition, loaded}
 use Rattle.dv_vault.proofs.AddedBatches.{added_is_batch}
 use Rattle.dv_vault.proofs.Afterwards.{loaded_batches, vault_reached, vault_with, weight_with_batches, windows_still_valid}
 use Rattle.dv_vault.proofs.VaultCollisions.{apart_is_free}
 use Rattle.dv_records.specs.Backwards.{backwards}
 use Rattle.dv_records.specs.Vault.{partial}
+use Rattle.dv_text.proofs.Members.{last_got}
 
 -- the last load date of windows is that of their heads
-last_got : {X : Type 0} (o : Option X) (x : X) (xs : List X) → last_or o (x ∷ xs) ≡ slice_get (x ∷ xs) (length xs)
-last_got o x [] = refl
-last_got o x (y ∷ ys) = last_got (Some x) y ys
-
 pub last_same : (windows : List Window) → last_load windows ≡ last_head (map head_of windows)
 last_same [] = refl
 last_same (window ∷ windows) =

@@ -4,8 +4,7 @@ pub mod Afterwards
 pub mod BatchesSoFar
 pub mod BatchSteps
 pub mod Broken
-pub mod ContentFacts
-pub mod ContentRows
+pub mod DeliverySets
 pub mod EmptyTables
 pub mod FeedLists
 pub mod FeedTables
@@ -13,8 +12,6 @@ pub mod HubLists
 pub mod NamedHubs
 pub mod NoWindows
 pub mod OtherTables
-pub mod PeriodFacts
-pub mod SealedContents
 pub mod SortedOffers
 pub mod Stamped
 pub mod StoreSteps

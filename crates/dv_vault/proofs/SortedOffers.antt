@@ -1,6 +1,6 @@
 -- What is gathered from a window's rows and sorted is what the window delivers.
 use Rattle.dv_vault.proofs.Vocabulary.{◌≡◌, ℕ, zero, suc, ◌+◌, ◌<◌, ◌≤◌, Bool, true, false, List, [], ◌∷◌, ◌++◌, Option, Some, None, drop, filter, get_or, refl, sym, ◌∙◌, ap, map, append_assoc, ◌==◌, length, not, append-nil, arith, find}
-use Rattle.dv_vault.proofs.Vocabulary.{if◌then◌else◌, slice_get, option_map_or, Ordering, IsTotalOrder, on_total, flat_map, list_all, IsStrictlySortedBy, eq_by_cmp, drop_all, map-append, filter-append, nat_tests, same_Some}
+use Rattle.dv_vault.proofs.Vocabulary.{if◌then◌else◌, slice_get, option_map_or, Ordering, IsTotalOrder, on_total, flat_map, list_all, list_any, false≢true, ◌||◌, IsStrictlySortedBy, eq_by_cmp, drop_all, map-append, filter-append, nat_tests, same_Some}
 use Rattle.dv_vault.proofs.Vocabulary.{slice_get-get_or, Key, NRow, Staged, Window, is_missing, refs_eq, refs_cmp, sorted_by, IsStrictlySortedBy-filter_map, ascending-sorted_by, same_ascending, FeedDef, Parent, Hub, Link, Mapping}
 use Rattle.dv_vault.proofs.Vocabulary.{feed_hubs, is_fed_by, keys_at, is_declared, is_valid, valid_feed, Delivery, deliveries, first_offer, offered_refs, offers, offers_of, refs_from, table_of, all_refs, refs_total, deliveries_member}
 use Rattle.dv_vault.proofs.Vocabulary.{first_offer-refs, Offer, Offered, all_offered, delivery_to, kept, offer_cmp, offered_by, single_keys, stands_at, eq_by_cmp_equiv, refs-tie, none_behind, find_same, drop_got, first-sorted, sorted-first}
@@ -59,13 +59,13 @@ module _ (hashes : Hashes) (mapping : Mapping) (parent : Parent) where
 
 -- ---- deliveries are the offers in order
 
-abbrev by_refs : Delivery → Delivery → Ordering
+abbrev pub by_refs : Delivery → Delivery → Ordering
 by_refs a b = refs_cmp a.refs b.refs
 
 abbrev by_hashed_refs : Keyed → Keyed → Ordering
 by_hashed_refs a b = by_refs a.delivery b.delivery
 
-by_refs_total : IsTotalOrder by_refs
+pub by_refs_total : IsTotalOrder by_refs
 by_refs_total = on_total (λ (item : Delivery). item.refs) refs_total
 
 pub offers_total : IsTotalOrder offer_cmp
@@ -75,8 +75,8 @@ module _ (mapping : Mapping) (parent : Parent) (window : Window) where
   abbrev all : List Delivery
   all = offers mapping parent window
 
-  ascending : IsStrictlySortedBy by_refs (deliveries mapping parent window)
-  ascending =
+  pub deliveries-ascending : IsStrictlySortedBy by_refs (deliveries mapping parent window)
+  deliveries-ascending =
       IsStrictlySortedBy-filter_map refs_cmp (first_offer mapping parent window) (λ (item : Delivery). item.refs) (first_offer-refs mapping parent window)
       (sorted_by refs_cmp (offered_refs mapping parent window)) (ascending-sorted_by refs_cmp refs_total (offered_refs mapping parent window))
 
@@ -87,7 +87,7 @@ module _ (mapping : Mapping) (parent : Parent) (window : Window) where
 
   pub deliveries-sorted : deliveries mapping parent window ≡ sorted_by by_refs all
   deliveries-sorted =
-      same_ascending by_refs by_refs_total (deliveries mapping parent window) (sorted_by by_refs all) ascending (ascending-sorted_by by_refs by_refs_total all)
+      same_ascending by_refs by_refs_total (deliveries mapping parent window) (sorted_by by_refs all) deliveries-ascending (ascending-sorted_by by_refs by_refs_total all)
       (λ item has. first-sorted by_refs_total all item (sym (same_search item) ∙ (deliveries_member mapping parent window item).0 has))
       (λ item has. (deliveries_member mapping parent window item).1 (same_search item ∙ sorted-first by_refs_total all item has))
 
@@ -143,6 +143,26 @@ brought_to_hub hashes mapping parent staged hub hubs is same =
     sym (kept-flat_map hashes staged.feed (λ row. single_keys hub hubs row.refs) staged.rows)
     ∙ ap (λ hubs. kept hashes staged.feed (flat_map (λ row. single_keys hub hubs row.refs) staged.rows)) same
     ∙ ap (λ parent. kept hashes staged.feed (refs_from mapping parent staged)) (sym is)
+
+-- a feed that does not name a hub brings nothing to it
+none_stand : (hub : ℕ) (hubs : List ℕ) (refs : List Key) → list_any (λ other. other == hub) hubs ≡ false → keys_at hub hubs refs ≡ []
+none_stand hub [] refs e = refl
+none_stand hub (other ∷ hubs) [] e = refl
+none_stand hub (other ∷ hubs) (key ∷ refs) e = by (other == hub) e (none_stand hub hubs refs)
+  where
+    by : (b : Bool) → (b || list_any (λ other. other == hub) hubs) ≡ false → (list_any (λ other. other == hub) hubs ≡ false → keys_at hub hubs refs ≡ [])
+        → (if b then key ∷ keys_at hub hubs refs else keys_at hub hubs refs) ≡ []
+    by true none rest = absurd (false≢true (sym none))
+    by false none rest = rest none
+
+pub none_to_hub : (hashes : Hashes) (mapping : Mapping) (parent : Parent) (staged : Staged) (hub : ℕ) (hubs : List ℕ) (named : Bool) → parent ≡ Hub hub → hubs ≡ feed_hubs mapping staged.feed
+    → named ≡ list_any (λ other. other == hub) hubs → named ≡ false → kept hashes staged.feed (refs_from mapping parent staged) ≡ []
+none_to_hub hashes mapping parent staged hub hubs named is same names none =
+    ap (λ parent. kept hashes staged.feed (refs_from mapping parent staged)) is ∙ ap (kept hashes staged.feed) (all staged.rows)
+  where
+    all : (rows : List NRow) → flat_map (λ row. map (λ key. key ∷ []) (keys_at hub (feed_hubs mapping staged.feed) row.refs)) rows ≡ []
+    all [] = refl
+    all (row ∷ rows) = rw (sym (ap (λ hubs. keys_at hub hubs row.refs) same) ∙ none_stand hub hubs row.refs (sym names ∙ none)) (all rows)
 
 pub brought_to_link : (hashes : Hashes) (mapping : Mapping) (parent : Parent) (staged : Staged) (link : ℕ) (fed : Bool) → parent ≡ Link link → fed ≡ is_fed_by (Link link) (slice_get mapping.feeds staged.feed) → fed ≡ true
     → flat_map (λ row. kept hashes staged.feed (row.refs ∷ [])) staged.rows ≡ kept hashes staged.feed (refs_from mapping parent staged)

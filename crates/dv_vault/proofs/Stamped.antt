@@ -7,7 +7,7 @@ all_from_members P xs f = λ k d under. f _ (All-contains_itself xs k d under)
 
 module _ {R : Type 0} (place : R → Place) (row_of : HashedList → Option R) (hashes : Hashes) (rows : List R) where
   -- a new row is made of a delivered list
-  row_made : (item : Delivery) (row : R) → new_row place row_of hashes rows item ≡ Some row → row_of (hashed_item hashes item) ≡ Some row
+  pub row_made : (item : Delivery) (row : R) → new_row place row_of hashes rows item ≡ Some row → row_of (hashed_item hashes item) ≡ Some row
   row_made item row is = by (list_all is_missing item.refs || has_row_under place (hashes.hash item.refs) rows) is
     where
       by : (known : Bool) → (if known then None else row_of (hashed_item hashes item)) ≡ Some row → row_of (hashed_item hashes item) ≡ Some row

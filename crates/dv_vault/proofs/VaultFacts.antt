@@ -2,6 +2,7 @@
 use Rattle.dv_vault.proofs.Vocabulary.{got_from, none_found_at, none_pass, table_eq-itself, ◌≡◌, ℕ, ◌<◌, Bool, true, false, List, [], ◌∷◌, Option, Some, None, Bor, refl, sym, ◌∙◌, ap, subst, length, map, ◌||◌, Contains, IfNone, IfSome}
 use Rattle.dv_vault.proofs.Vocabulary.{find, if◌then◌else◌, option_map, false≢true, TableId, Mapping, tables, Indexed, Rows, TableRows, no_rows, rows_in, table_eq, found_member, some_passes, some_passes_at, Contains-map, map_member}
 use Rattle.dv_vault.proofs.Vocabulary.{has_hub, has_link, has_status, same_table, IsVaultOf, has_table, entry_of, is_of_kind, Table, cond, length-map, nat_lt, not, ◌+◌}
+use Rattle.std.proofs.lemmas.Bool.{false_from_ne_true}
 use Rattle.std.specs.List.{position, prefix_len}
 use Rattle.dv_vault.specs.declared.tables.Table.TheVariants as variants
 use Rattle.dv_catalog.specs.declared.tables.TableId.TheVariants as ids
@@ -136,6 +137,10 @@ module _ (mapping : Mapping) (entries : List TableRows) (is : IsVaultOf mapping 
   pub not_of_mapping : {X : Type 0} (id : TableId) (table : Option X) → IfNone table (has_table id entries ≡ false) → IfNone table (Contains (tables mapping) id → ⊥)
   not_of_mapping id None absent = λ has. false≢true (sym absent ∙ vault_has id has)
   not_of_mapping id (Some t) absent = tt
+
+  -- a table that the mapping does not have is absent
+  pub absent_table : (id : TableId) → (Contains (tables mapping) id → ⊥) → has_table id entries ≡ false
+  absent_table id none = false_from_ne_true (has_table id entries) (λ there. none (subst (λ (all : List TableId). Contains all id) is (among_has id entries there)))
 
   pub hub_there : (hub : ℕ) → hub < length mapping.hubs → has_table (ids.Hub hub) entries ≡ true
   hub_there hub under = vault_has (ids.Hub hub) (has_hub mapping hub under)

@@ -1,14 +1,14 @@
 -- What the proofs of this crate, and of those above it, take from elsewhere.
 pub use Rattle.dv_text.proofs.Vocabulary.{All-from_recursion, All-contains, All-contains_itself, AllByRecursion, Bool, Contains, Contains-append_cases, Contains-append_left, Contains-append_right, IsTotalOrder, List, None, Option, Some, [], and_from, and_parts, ap, append_assoc, arith, cond, cons_option, eq_by_cmp}
-pub use Rattle.dv_text.proofs.Vocabulary.{eq_by_cmp_equiv, eqb-true, false, false≢true, filter, filter_map, filter_map-append, flat_map, get_or, inl, inr, is_none, key_cmp, length, length-map, list_all, list_all-append, list_any, lists_ties, map, nat_cmp, nat_le, nat_tests, not, option_map}
-pub use Rattle.dv_text.proofs.Vocabulary.{option_or, option_to_list, range_with_len, refl, refs_cmp, refs_eq, replicate, reverse, same_Some, slice_get, slice_get-get_or, slice_get-map, slice_get_within, sorted_by, subst, suc, sym, take, take_more, text_cmp, texts_ties, true, zero, ℕ, ◌&&◌, ◌++◌}
+pub use Rattle.dv_text.proofs.Vocabulary.{eq_by_cmp_equiv, eqb-true, false, false≢true, filter, filter_map, filter_map-append, flat_map, get_or, inl, inr, is_none, length, length-map, list_all, list_all-append, list_any, lists_ties, map, nat_cmp, nat_le, nat_tests, not, option_map}
+pub use Rattle.dv_text.proofs.Vocabulary.{option_or, range_with_len, refl, refs_cmp, refs_eq, reverse, same_Some, slice_get, slice_get-get_or, slice_get-map, slice_get_within, sorted_by, subst, suc, sym, take, take_more, text_cmp, texts_ties, true, zero, ℕ, ◌&&◌, ◌++◌}
 pub use Rattle.dv_text.proofs.Vocabulary.{◌+◌, ◌-◌, ◌<◌, ◌==◌, ◌∙◌, ◌∷◌, ◌≡◌, ◌≤◌, ◌⊎◌}
 pub use Rattle.dv_digest.proofs.Vocabulary.{append-nil, attrs_fit, le-leb, refs_fit, texts_fit}
-pub use Rattle.dv_records.proofs.Vocabulary.{All, All-cons, All-head, All-nil, All-tail, AreNewestFirst, AreOfLoad, Contains-map, Contains-nil, Extract, Hashes, IsApart, Pair, all_pass_weaker, all_refs, appended, appended_to, are_apart, are_up_to, are_windows_valid, ascends, attrs_read}
-pub use Rattle.dv_records.proofs.Vocabulary.{collision, collision_in, content, content_read, content_read_by, deliveries, eq-eqb, extract_of, feed_batch, feed_hubs, filtered_members, find_same, first_collision, first_offer, fit_hubs, fits_hub, flat_map_member, history, hub_batch, hub_row_by}
-pub use Rattle.dv_records.proofs.Vocabulary.{hub_rows, hub_rows_in, is_fed_by, is_field, is_key_part, is_missing, is_of_kind, is_staged, is_up_to, is_window, keys_at, keys_read, length-append, link_hubs, link_row_by, link_rows, link_rows_in, lists_of, member_before_sort, most_weight, nat_cmp_is}
-pub use Rattle.dv_records.proofs.Vocabulary.{newest_rows, no_rows, none_behind, offered_refs, offers, offers_of, on_total, option_map_or, parents, present_parents, refs_from, refs_read, refs_total, reverse_member, row_count, row_read, rows_in, rows_then, rows_weight, sat_batch, sat_rows}
-pub use Rattle.dv_records.proofs.Vocabulary.{sat_rows_in, slice_set, some_passes, some_passes_at, source, status_batch, status_rows, status_rows_in, sum_by, sum_by-cons, table_after, table_batch, table_entry, table_eq, table_of, up_to, valid_at, valid_feed, valid_link, vault, vault_weight}
+pub use Rattle.dv_records.proofs.Vocabulary.{All, All-cons, All-head, All-nil, All-tail, AreNewestFirst, AreOfLoad, Contains-map, Contains-nil, Extract, Hashes, IsApart, Pair, all_pass_weaker, all_refs, appended, appended_to, are_apart, are_up_to, are_windows_valid, ascends}
+pub use Rattle.dv_records.proofs.Vocabulary.{collision, collision_in, deliveries, eq-eqb, extract_of, feed_batch, feed_hubs, filtered_members, find_same, first_collision, first_offer, fit_hubs, fits_hub, flat_map_member, history, hub_batch}
+pub use Rattle.dv_records.proofs.Vocabulary.{hub_rows, hub_rows_in, is_fed_by, is_field, is_key_part, is_missing, is_of_kind, is_staged, is_up_to, is_window, keys_at, length-append, link_hubs, link_rows, lists_of, member_before_sort, most_weight, nat_cmp_is}
+pub use Rattle.dv_records.proofs.Vocabulary.{no_rows, none_behind, offered_refs, offers, offers_of, on_total, option_map_or, parents, refs_from, refs_total, reverse_member, row_count, rows_in, rows_then, rows_weight, sat_batch, sat_rows}
+pub use Rattle.dv_records.proofs.Vocabulary.{slice_set, some_passes, some_passes_at, source, status_batch, status_rows, sum_by, sum_by-cons, table_after, table_batch, table_entry, table_eq, table_of, valid_feed, valid_link, vault, vault_weight}
 pub use Rattle.dv_catalog.proofs.Vocabulary.{Mapping, all_pass, all_pass_both, bytes_eq, drop, effect_tables, feed_tables, found_member, is_declared, is_table_of, is_valid, map-append, map-range_with_len_more, map_member, nat_lt, nil_from_length, none_from, parent_hubs, parts_of, passes_at}
 pub use Rattle.dv_catalog.proofs.Vocabulary.{sat_tables, tables}
 pub use Rattle.dv_hub_link.proofs.Vocabulary.{AreHubItems, AreLinkItems, Bor, HasNoClash, Hashed, HubName, IfCollides, IfOk, IsHubItem, IsItem, IsLeastClash, Result, TellLists, are_keys_of, collision_free, deliveries_member, delta, first_offer-member, first_offer-refs, has_row_under, hashed_item}
@@ -38,15 +38,14 @@ pub use Rattle.dv_records.proofs.LastChange.{lists_reversed}
 pub use Rattle.dv_records.proofs.ReadBack.{feed_tells}
 pub use Rattle.dv_records.proofs.Reversing.{AllBefore, IsNewestFirst, history-newest_first}
 pub use Rattle.dv_records.proofs.RowViews.{all_up_to-later, all_up_to-none, up_to-then}
-pub use Rattle.dv_records.proofs.ValidWindows.{hub_apart, load_order}
+pub use Rattle.dv_records.proofs.ValidWindows.{hub_apart}
 pub use Rattle.dv_records.proofs.VaultRows.{has_hub, has_link, has_status, vault_hub}
 pub use Rattle.dv_records.proofs.VaultSteps.{rows_add_up, vault-push, weight-push}
 pub use Rattle.dv_records.proofs.WellFormedTables.{same_table}
-pub use Rattle.dv_records.proofs.WindowRows.{AreRows, HasForm, WindowParts, field_text, in_order, key_form, key_part, staged_rows, window_parts}
+pub use Rattle.dv_records.proofs.WindowRows.{AreRows, HasForm, field_text, in_order, key_form, key_part, staged_rows, window_parts}
 pub use Rattle.dv_records.specs.Changes.{Changes, KeeperCause, changed}
 pub use Rattle.dv_records.specs.HubNames.{is_named}
 pub use Rattle.dv_records.specs.Loads.{loaded}
-pub use Rattle.dv_records.specs.Marts.{feed_mart}
 pub use Rattle.dv_records.specs.Outcomes.{full_at, late_after}
 pub use Rattle.dv_records.specs.RawTables.{extract_added}
 pub use Rattle.dv_records.specs.Standing.{HasTables}
@@ -61,8 +60,6 @@ pub use Rattle.dv_records.specs.declared.keepers.KeeperError.{KeeperError}
 pub use Rattle.dv_records.specs.declared.keepers.KeeperError.TheVariants.{Failed}
 pub use Rattle.dv_records.specs.declared.raw_rows.HubRow.{HubRow}
 pub use Rattle.dv_records.specs.declared.raw_rows.LinkRow.{LinkRow}
-pub use Rattle.dv_records.specs.declared.raw_rows.SatRow.{SatRow}
-pub use Rattle.dv_records.specs.declared.raw_rows.StatusRow.{StatusRow}
 pub use Rattle.dv_records.specs.declared.stores.Rows.{Rows}
 pub use Rattle.dv_records.specs.declared.stores.Rows.TheVariants.{Bridges, Effects, Hubs, Links, Multis, Pits, Sats, Statuses}
 pub use Rattle.dv_records.specs.declared.stores.Store.{Store}
@@ -87,7 +84,7 @@ pub use Rattle.dv_digest.specs.HashedExtracts.{HasKeys}
 pub use Rattle.dv_records.specs.declared.deliveries.HashedDelivery.{HashedDelivery}
 pub use Rattle.dv_records.specs.Deltas.{AreHashed, delivered}
 pub use Rattle.std.proofs.lemmas.Simd.{map-map}
-pub use Rattle.dv_vault.specs.Vaults.{Follow, HasSealed, IsVaultOf, RawVault, added_to, are_empty, are_heads_of, are_rows_kept, entries_of, entries_with, entry_of, has_table, hashed_in, hub_names, hubs_in, is_hub, is_link, is_parent, is_sat, is_status, last_head, names_of_hub}
+pub use Rattle.dv_vault.specs.Vaults.{Follow, HasSealed, IsVaultOf, RawVault, added_to, are_empty, are_heads_of, are_rows_kept, entries_of, entries_with, entry_of, has_table, hashed_in, hub_names, hubs_in, is_hub, is_link, is_sat, is_status, last_head, names_of_hub}
 pub use Rattle.dv_vault.specs.Vaults.{names_of_hubs, names_of_rows, rows_of_hubs, spare_of, staged_of}
 pub use Rattle.dv_vault.specs.declared.additions.Addition.{Addition}
 pub use Rattle.dv_vault.specs.declared.additions.AdditionFault.{AdditionFault}
@@ -117,11 +114,8 @@ pub use Rattle.std.proofs.lemmas.Bool.{lt-ltb, ltb-true, not-true}
 pub use Rattle.std.proofs.lemmas.List.{map-id, nil_from_length, take_all}
 pub use Rattle.dv_records.proofs.WellFormedTables.{table_eq-itself}
 pub use Rattle.std.proofs.lemmas.List.FromFn.{get_or-map-range_with_len, length-range_with_len}
-pub use Rattle.dv_text.proofs.Members.{filter_map_more}
-pub use Rattle.dv_hub_link.proofs.Batches.{filter_map_same}
+pub use Rattle.dv_text.proofs.Members.{filter_map_same}
 pub use Rattle.dv_hub_link.proofs.KeyDeltas.{map_filter}
-pub use Rattle.dv_records.proofs.Vocabulary.{ordering_then}
-pub use Rattle.std.proofs.lemmas.List.FromFn.{get_or-map-range_with_len, length-map-range_with_len}
-pub use Rattle.std.specs.Cmp.Derive.Mapped.{lex_map}
+pub use Rattle.std.proofs.lemmas.List.FromFn.{get_or-map-range_with_len}
 pub use Rattle.std.specs.declared.cmp.Ordering.{Ordering}
-pub use Rattle.std.specs.declared.cmp.Ordering.TheVariants.{Equal, Greater, Less}
+pub use Rattle.std.specs.declared.cmp.Ordering.TheVariants.{Less}

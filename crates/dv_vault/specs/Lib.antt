@@ -1,5 +1,5 @@
 pub mod Additions
-pub mod Contents
+pub mod DeliverySets
 pub mod HashedWindows
 pub mod Keeping
 pub mod NamesApart

@@ -22,30 +22,13 @@ use dv_records::{Rows, weight};
 use dv_text::{KeyDigest, List, Memory};
 use std::alloc::Global;
 
-// How many rows there are.
-pub(crate) fn count(rows: &Rows) -> u64
-    ensures { result ≡ row_count rows.now }
-{
-    let count = match rows {
-        Rows::Hubs(rows) => rows.items().len(),
-        Rows::Links(rows) => rows.items().len(),
-        Rows::Sats(rows) => rows.items().len(),
-        Rows::Multis(rows) => rows.items().len(),
-        Rows::Statuses(rows) => rows.items().len(),
-        Rows::Effects(rows) => rows.items().len(),
-        Rows::Pits(rows) => rows.items().len(),
-        Rows::Bridges(rows) => rows.items().len(),
-    };
-    count as u64
-}
-
 // How many rows batches have together. More than a number of 64 bits has room for find no room in memory.
 pub(crate) fn count_all(batches: &[Rows]) -> Result<u64, Memory>
     ensures { IfOk result (λ count. count ≡ sum_by row_count batches.now) }
 {
     let mut rows: u64 = 0;
     for batch in batches {
-        rows = rows.checked_add(count(batch)).ok_or(Memory)?;
+        rows = rows.checked_add(batch.count()).ok_or(Memory)?;
     }
     Ok(rows)
 }

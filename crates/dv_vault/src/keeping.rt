@@ -12,7 +12,6 @@ ghost use Rattle.dv_vault.specs.Additions.{Fits, raw_with};
 ghost use Rattle.dv_vault.specs.Vaults.{Follow, entries_with, entry_of};
 
 use crate::additions::Addition;
-use crate::batches::count;
 use crate::breaks::{Break, Untaken};
 use crate::tables::Table;
 use crate::vaults::Vault;
@@ -49,7 +48,7 @@ fn append_rows<K: Keeper>(
     ensures stays { IsSome (K.store keeper.old) → IsSome (K.store keeper.new) }
     ensures cause { KeeperCause (K.faults keeper.old) (K.faults keeper.new) result }
 {
-    if count(rows) == 0 {
+    if rows.count() == 0 {
         return Ok(());
     }
     keeper.append(alloc, table, rows)
@@ -164,7 +163,7 @@ fn reserve_all(tables: &mut [Table], batches: &[Rows]) -> Result<(), Memory>
     ensures room { OnOk result (spec.HaveRoom tables.new batches.now) }
 {
     for (i, table) in tables.iter_mut().enumerate() {
-        table.reserve(count(&batches[i]))?;
+        table.reserve(batches[i].count())?;
     }
     Ok(())
 }

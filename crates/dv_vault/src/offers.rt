@@ -1,7 +1,7 @@
 // What a window delivers to a hub or a link. The reference lists that its rows bring are lent as they stand in
 // the rows, and none is copied.
-ghost use Rattle.std.specs.Prelude.{◌≡◌, ℕ, ◌∷◌, ◌++◌, [], IfOk, IsTrue, OnOk, Some, if◌then◌else◌, map, slice_get};
-ghost use Rattle.std.specs.List.{flat_map, list_all};
+ghost use Rattle.std.specs.Prelude.{◌≡◌, ℕ, ◌==◌, ◌∷◌, ◌++◌, [], IfOk, IsTrue, OnOk, Some, if◌then◌else◌, map, slice_get};
+ghost use Rattle.std.specs.List.{flat_map, list_all, list_any};
 ghost use Rattle.dv_text.specs.declared.rows.Key.{Key};
 ghost use Rattle.dv_text.specs.Keys.{hashes_of};
 ghost use Rattle.dv_text.specs.Sorting.{sorted_by};
@@ -13,6 +13,7 @@ ghost use Rattle.dv_digest.specs.HashedExtracts.{HasKeys};
 ghost use Rattle.dv_records.specs.Deliveries as spec;
 ghost use Rattle.dv_records.specs.Deltas.{AreHashed, delivered};
 ghost use Rattle.dv_records.specs.States.{is_window};
+ghost use Rattle.dv_vault.specs.DeliverySets.{AreDeliveriesOf};
 ghost use Rattle.dv_vault.specs.HashedWindows.{IsHashedWindow};
 ghost use Rattle.dv_vault.specs.Offered as offered;
 
@@ -150,6 +151,13 @@ fn feed_hubs(catalog: &Catalog, feed: u32) -> &[u32]
     }
 }
 
+// Whether a hub is among hubs.
+fn is_among(hubs: &[u32], hub: u32) -> bool
+    ensures { result ≡ list_any (λ other. other == hub) hubs.now }
+{
+    hubs.contains(&hub)
+}
+
 // Whether a feed delivers reference lists of a link.
 fn is_fed_by(catalog: &Catalog, link: u32, feed: u32) -> bool
     ensures { result ≡ feeds.is_fed_by (parents.Link link) (slice_get catalog.now.feeds feed) }
@@ -175,7 +183,13 @@ fn add_offers<'a, H: KeyDigest>(
 {
     let feed = extract.staged.feed;
     match parent {
-        Parent::Hub(hub) => add_hub_offers::<H>(offers, hub, feed_hubs(catalog, feed), extract),
+        Parent::Hub(hub) => {
+            let hubs = feed_hubs(catalog, feed);
+            if !is_among(hubs, hub) {
+                return Ok(());
+            }
+            add_hub_offers::<H>(offers, hub, hubs, extract)
+        }
         Parent::Link(link) => {
             if !is_fed_by(catalog, link, feed) {
                 return Ok(());
@@ -273,9 +287,10 @@ fn table_of(parent: Parent) -> TableId
     }
 }
 
-/// What a window delivers to a hub or a link: each reference list that its rows bring once, in order, by the
-/// first feed that brings it, with its hash key; a list whose keys are all missing is left out. A link's feed
-/// brings to each of its hubs the hub's key. The lists are lent from the window. Conditions: it is a window of the mapping, and has its hash keys.
+/// What a window delivers to a hub or a link: each reference list that its rows bring once, by the first feed
+/// that brings it, with its hash key, in any order; a list whose keys are all missing is left out. A link's feed
+/// brings to each of its hubs the hub's key. The lists are lent from the window. Conditions: it is a window of
+/// the mapping, and has its hash keys.
 pub fn deliveries<'b, 'a, H: KeyDigest>(
     alloc: Global,
     catalog: &Catalog,
@@ -286,7 +301,7 @@ pub fn deliveries<'b, 'a, H: KeyDigest>(
     requires valid { IsTrue (is_valid catalog.now) }
     requires window { IsTrue (is_window catalog.now window.now.window.now) }
     requires gathered { IsHashedWindow (hashes_of H.function) window.now }
-    ensures items { IfOk result (λ items. delivered items ≡ spec.deliveries catalog.now parent window.now.window.now) }
+    ensures items { IfOk result (λ items. AreDeliveriesOf catalog.now parent window.now.window.now (delivered items)) }
     ensures hashed { IfOk result (AreHashed (hashes_of H.function)) }
 {
     let offers = first_offers(all_offers::<H>(alloc, catalog, window, parent)?)?;

@@ -93,10 +93,11 @@ impl Vault {
         }
     }
 
-    /// The mapping. Takes no memory.
+    /// The mapping, whose raw tables the vault has, in table order. Takes no memory.
     pub fn catalog(&self) -> &Catalog
         ensures value { result.now ≡ self.now.mapping }
         ensures valid { IsTrue (is_valid self.now.mapping) }
+        ensures tables { IsVaultOf self.now.mapping self.now.tables }
     {
         &self.catalog
     }

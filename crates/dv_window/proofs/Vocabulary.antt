@@ -37,7 +37,7 @@ pub use Rattle.dv_restore.specs.declared.restored.Begun.{Begun}
 pub use Rattle.dv_vault.proofs.OtherTables.{has_all, same_tables}
 pub use Rattle.dv_vault.specs.Keeping.{Became, BreaksWindow, BrokeOff, HasRows, IsAsFar, IsBegun, IsLeftOpen, IsOpen, KeepsOthers, TookWindow, reached}
 pub use Rattle.dv_vault.specs.Vaults.{entries_with}
-pub use Rattle.dv_vault.proofs.SealedContents.{sealed_rows}
+pub use Rattle.dv_contents.proofs.SealedContents.{sealed_rows}
 pub use Rattle.dv_vault.proofs.VaultCollisions.{apart_is_free, clash_collides}
 pub use Rattle.dv_vault.specs.declared.additions.Addition.{Addition}
 pub use Rattle.dv_window.specs.Offices.{Agrees, AgreesUnlessStale, CompletesTo, Held, IsDamageFor, IsIn, IsLeftIn, IsOther, IsOtherMapping, LeavesOffice, LeavesStill, LeavesStore, StaleAfter, StaleThen, StandsFor, StepsTo, rows_behind, staged}

@@ -2,7 +2,6 @@
 //! loads to a keeper, completes one that was broken off, and keeps the vault of the sealed ones.
 #![tactic(auto)]
 
-mod faults;
 mod loads;
 mod offices;
 mod plans;
@@ -14,6 +13,5 @@ mod starts;
 mod stops;
 mod takings;
 
-pub use dv_restore::StoreFault;
-pub use faults::StartFault;
+pub use dv_restore::{StartFault, StoreFault};
 pub use offices::{Office, Order};

@@ -9,6 +9,7 @@ ghost use Rattle.dv_vault.specs.Vaults.{IsVaultOf, are_heads_of, last_head};
 ghost use Rattle.dv_window.specs.Offices as spec;
 
 use dv_catalog::{Catalog, TableId};
+use dv_contents::content;
 use dv_records::{Rows, SnapHead};
 use dv_restore::Begun;
 use dv_text::{List, Memory, NRow, Stamp, Window, WindowHead};
@@ -148,12 +149,15 @@ impl Office {
         self.width
     }
 
+    /// Lets the office go. Takes no memory.
+    pub fn close(self) {}
+
     /// The rows of a feed in the last sealed window that has the feed and is not later than the date, read
     /// back from the vault, by references, then attributes. Condition: the feed is in the mapping.
     pub fn content(&self, feed: u32, date: Stamp) -> Result<List<NRow>, Memory>
         requires { feed < length self.now.vault.mapping.feeds }
         ensures { IfOk result (λ rows. rows ≡ any_content_read self.now.vault.mapping self.now.vault.tables feed date) }
     {
-        self.vault.content(feed, date)
+        content(&self.vault, feed, date)
     }
 }

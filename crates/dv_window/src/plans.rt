@@ -14,6 +14,7 @@ use crate::offices::Office;
 use crate::refusals::addition;
 use crate::stops::Stop;
 use dv_catalog::{Rule, WindowIn};
+use dv_contents::content;
 use dv_text::{KeyDigest, List, Memory, Staged, Stamp, Window, WindowHead};
 use dv_vault::{Addition, Vault};
 use dv_window_rules::{differs, full, given_rule, late, open_other, stage_window, too_long};
@@ -48,7 +49,7 @@ fn read_back(alloc: Global, vault: &Vault, head: &WindowHead) -> Result<Window, 
 {
     let mut extracts = List::new(alloc);
     for feed in head.feeds.items() {
-        let rows = vault.content(*feed, head.load)?;
+        let rows = content(vault, *feed, head.load)?;
         extracts.push(Staged { feed: *feed, rows })?;
     }
     Ok(Window {

@@ -14,11 +14,10 @@ ghost use Rattle.dv_restore.specs.Damages.{IsFirstDamage, IsInForm, IsNamedBySom
 ghost use Rattle.dv_restore.specs.declared.faults.StoreFault.TheVariants as unread;
 ghost use Rattle.dv_window.specs.Offices.{Agrees, StandsFor};
 
-use crate::faults::StartFault;
 use crate::offices::Office;
 use dv_catalog::Catalog;
 use dv_records::Keeper;
-use dv_restore::{Restored, read_store, stored_mapping};
+use dv_restore::{Restored, StartFault, read_store, stored_mapping};
 use dv_text::{KeyDigest, List, Memory};
 use dv_vault::Vault;
 use std::alloc::Global;

@@ -3,7 +3,7 @@ use Rattle.std.specs.Option.{option_map_or}
 use Rattle.dv_hub_link.specs.HubRows.{key_with}
 use Rattle.dv_records.specs.declared.raw_rows.HubRow.{HubRow}
 use Rattle.dv_records.specs.ReadBack.{hub_row_by, hub_rows_in, missing_key}
-use Rattle.dv_vault.proofs.ContentFacts.{made_or, missing_at, missing_count}
+use Rattle.dv_contents.proofs.ContentFacts.{made_or, missing_at, missing_count}
 use Rattle.dv_mart.proofs.path_marts.key_of.Goals as goal
 
 pub bounds-missing-hub : goal.bounds-missing-hub

@@ -1,6 +1,6 @@
 use Rattle.std.proofs.Common.{◌≡◌, ◌++◌, ◌∙◌, [], ap, append-nil, inl, inr, sym}
 use Rattle.dv_records.specs.ReadBack.{keys_read}
-use Rattle.dv_vault.proofs.ContentFacts.{no_keys}
+use Rattle.dv_contents.proofs.ContentFacts.{no_keys}
 use Rattle.dv_mart.proofs.path_marts.keys_of.Goals as goal
 
 pub returns : goal.returns

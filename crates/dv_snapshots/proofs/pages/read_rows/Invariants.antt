@@ -1,13 +1,13 @@
-use Rattle.dv_snapshots.proofs.Vocabulary.{AreFirst, Told, length, stored_rows, ◌-◌, ◌≡◌, ◌≤◌}
+use Rattle.dv_snapshots.proofs.Vocabulary.{AreFirst, Told, row_count, stored_rows, ◌-◌, ◌≡◌, ◌≤◌}
 use Rattle.dv_snapshots.proofs.pages.read_rows.Given as goal
 
 -- the rows read so far
 abbrev pub invariant-pages : goal.invariant-pages
 invariant-pages g l = record {
-  told : Told (g.K.Keeper.store l.keeper) (λ s. AreFirst g.F.RowForm.own (g.F.RowForm.is_sound l.form) l.asked.most (stored_rows l.asked s.snapshots) l.rows);
+  told : Told (g.K.Keeper.store l.keeper) (λ s. AreFirst l.asked.most (stored_rows l.asked s.snapshots) l.rows);
   kept : g.K.Keeper.store l.keeper ≡ g.K.Keeper.store l.initial.keeper;
   later : g.K.Keeper.faults l.initial.keeper ≤ g.K.Keeper.faults l.keeper;
 }
 
 abbrev pub decreases-pages : goal.decreases-pages
-decreases-pages g l = l.asked.most - length l.rows
+decreases-pages g l = l.asked.most - row_count l.rows

@@ -1,4 +1,7 @@
-use Rattle.dv_vault.proofs.Vocabulary.{◌≡◌, ◌∙◌, List, sym, subst, map, map-map, hashes_of, IfOk, deliveries, delivery_to, offered_by, table_of, Keyed, keyed}
+use Rattle.dv_vault.proofs.Vocabulary.{◌≡◌, ◌∙◌, List, sym, subst, map, map-map, hashes_of, IfOk, delivered, deliveries, delivery_to, offered_by, table_of, Keyed, keyed}
+use Rattle.dv_text.proofs.Vocabulary.{IfOk-weaker}
+use Rattle.dv_vault.specs.DeliverySets.{AreDeliveriesOf}
+use Rattle.dv_vault.proofs.DeliverySets.{deliveries_are}
 use Rattle.dv_vault.proofs.SortedOffers.{all_hashed, offers_fit, sorted_offers}
 use Rattle.dv_vault.proofs.offers.deliveries.Goals as goal
 
@@ -16,4 +19,8 @@ returns g c =
     (rw (c.table_of.ensures, c.deref.ensures.value, c.in_ok-offers.ensures)
     (sym (map-map (delivery_to (table_of c.args.parent)) (offered_by hashes) _) ∙ sorted_offers c.args.catalog.now c.args.parent window hashes c.in_ok-all_offers.field-0.items c.in_ok-all_offers.ensures))
     c.to_deliveries.ensures) in
-    record { items = items; hashed = hashed }
+    record {
+      items = IfOk-weaker c.to_deliveries.result (λ all. delivered all ≡ deliveries c.args.catalog.now c.args.parent window) (λ all. AreDeliveriesOf c.args.catalog.now c.args.parent window (delivered all))
+          (λ all is. subst (AreDeliveriesOf c.args.catalog.now c.args.parent window) (sym is) (deliveries_are c.args.catalog.now c.args.parent window)) items;
+      hashed = hashed;
+    }

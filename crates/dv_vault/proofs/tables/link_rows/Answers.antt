@@ -1,16 +1,43 @@
-use Rattle.dv_vault.proofs.Vocabulary.{nat_le, ◌∙◌, All-map, list_all-map, LinkRow, ◌≡◌, subst, sym, All, hashes_of, AreLinkItems, link_hashed, HasNoClash, delivered}
+use Rattle.dv_vault.proofs.Vocabulary.{nat_le, ◌∙◌, ap, All-map, list_all-map, LinkRow, ◌≡◌, subst, sym, All, hashes_of, Links, Link, IsLeastClash, List, Rows, deliveries, delivered, link_hashed}
 use Rattle.dv_vault.proofs.Stamped.{link_delta_load}
 use Rattle.dv_vault.proofs.TableItems.{link_items}
+use Rattle.std.proofs.lemmas.Result.{err_from_is_err_and}
+use Rattle.dv_vault.proofs.DeliverySets.{collides_as, link_apart_same, link_clash_same, link_rows_same, set_of_link}
 use Rattle.dv_vault.proofs.tables.link_rows.Goals as goal
 
 pub delta-requires-clause-items : goal.delta-requires-clause-items
 delta-requires-clause-items g c κs within =
-    subst (AreLinkItems c.args.catalog.now) (sym (c.in_ok-items.ensures {u = tt}).items) (link_items c.args.catalog.now c.args.window.now.window.now c.requires.window c.args.link c.requires.link)
+    let mapping = c.args.catalog.now in
+    let window = c.args.window.now.window.now in
+    set_of_link mapping (hashes_of g.H.KeyDigest.function) c.args.link window (delivered c.in_ok-items.items) (c.in_ok-items.ensures {u = tt}).items (link_items mapping window c.requires.window c.args.link c.requires.link)
+    (g.N.HubNames.names c.args.names.now)
+
+pub returns-clause-rows : goal.returns-clause-rows
+returns-clause-rows g c =
+    let mapping = c.args.catalog.now in
+    let window = c.args.window.now.window.now in
+    ap Links (
+    (c.in_ok-rows.ensures {u = tt}).rows
+    ∙ link_rows_same mapping (hashes_of g.H.KeyDigest.function) c.args.link window (delivered c.in_ok-items.items) (c.in_ok-items.ensures {u = tt}).items (link_items mapping window c.requires.window c.args.link c.requires.link)
+    (g.N.HubNames.names c.args.names.now) window.load c.args.table.now.rows (c.in_ok-rows.ensures {u = tt}).apart)
 
 pub returns-clause-apart : goal.returns-clause-apart
 returns-clause-apart g c =
-    subst (λ items. HasNoClash (link_hashed c.args.catalog.now (hashes_of g.H.KeyDigest.function) (g.N.HubNames.names c.args.names.now) c.args.table.now.rows items))
-    (c.in_ok-items.ensures {u = tt}).items ((c.in_ok-rows.ensures {u = tt}).apart)
+    let mapping = c.args.catalog.now in
+    let window = c.args.window.now.window.now in
+    link_apart_same mapping (hashes_of g.H.KeyDigest.function) c.args.link window (delivered c.in_ok-items.items) (c.in_ok-items.ensures {u = tt}).items (link_items mapping window c.requires.window c.args.link c.requires.link)
+    (g.N.HubNames.names c.args.names.now) c.args.table.now.rows (c.in_ok-rows.ensures {u = tt}).apart
+
+pub returns-in_err-rows-clause-collision : goal.returns-in_err-rows-clause-collision
+returns-in_err-rows-clause-collision g c =
+    let mapping = c.args.catalog.now in
+    let hashes = hashes_of g.H.KeyDigest.function in
+    let window = c.args.window.now.window.now in
+    let p = err_from_is_err_and c.from_residual-in_err-rows.result c.from_residual-in_err-rows.ensures.1 in
+    rw (p.1, p.2)
+    (collides_as (List LinkRow) Rows c.in_err-rows.field-0.0 (IsLeastClash (link_hashed mapping hashes (g.N.HubNames.names c.args.names.now) c.args.table.now.rows (delivered c.in_ok-items.items))) (IsLeastClash (link_hashed mapping hashes (g.N.HubNames.names c.args.names.now) c.args.table.now.rows (deliveries mapping (Link c.args.link) window)))
+    (link_clash_same mapping hashes c.args.link window (delivered c.in_ok-items.items) (c.in_ok-items.ensures {u = tt}).items (link_items mapping window c.requires.window c.args.link c.requires.link) (g.N.HubNames.names c.args.names.now) c.args.table.now.rows)
+    c.in_err-rows.ensures.collision)
 
 pub returns-clause-stamped : goal.returns-clause-stamped
 returns-clause-stamped g c =

@@ -1,0 +1,137 @@
+-- What is read back from the vault, by what its tables answer.
+use Rattle.dv_contents.proofs.Vocabulary.{ltb-true, filter_map_more, ◌≡◌, ◌⊎◌, inl, inr, ℕ, ◌+◌, ◌<◌, ◌==◌, Bool, true, false, List, [], ◌∷◌, ◌++◌, Option, Some, None, Bor, refl, sym, ◌∙◌, ap, arith, get_or, length, take}
+use Rattle.dv_contents.proofs.Vocabulary.{if◌then◌else◌, slice_get, filter_map, option_map, option_map_or, option_to_list, Key, NRow, Window, Hashes, sorted_by, FeedDef, Parent, Hub, Link, Mapping, parent_hubs, is_declared}
+use Rattle.dv_contents.proofs.Vocabulary.{HubRow, LinkRow, SatRow, StatusRow, TableRows, feed_mart, attrs_read, content_read, content_read_by, hub_row_by, hub_rows_in, keys_read, link_row_by, link_rows_in, present_parents}
+use Rattle.dv_contents.proofs.Vocabulary.{refs_read, row_read, sat_rows, sat_rows_in, status_rows_in, valid_at, HasSealed, RawVault, has_table, is_parent}
+use Rattle.dv_contents.proofs.Vocabulary.{flat_map, flat_map_more, is_valid, map, take_more}
+use Rattle.dv_text.specs.Orders.{row_cmp}
+use Rattle.dv_contents.proofs.Vocabulary.{get_or-map-range_with_len, length-map-range_with_len, map-range_with_len_more, range_with_len}
+use Rattle.dv_records.specs.ReadBack.{any_content_read, any_content_read_by, missing_key, multi_content_read, multi_content_read_by, rows_read}
+use Rattle.dv_records.specs.Reconstruction.{described_row}
+use Rattle.dv_records.proofs.MultiReadBack.{vault_tells}
+use Rattle.dv_contents.specs.Contents.{missing_keys, parents_read}
+use Rattle.dv_catalog.specs.declared.tables.TableId.TheVariants as ids
+use Rattle.dv_vault.proofs.VaultFacts.{absent_rows, seen-twice}
+
+-- what is made of a thing that two looks found
+pub made_through : {X Y Z A : Type 0} (f : Y → Z) (g : X → Y) (h : A → Y) (o : Option X) (found : Option A) → option_map h found ≡ option_map g o
+    → option_map (λ x. f (g x)) o ≡ option_map (λ a. f (h a)) found
+made_through f g h o found e = seen-twice g f o ∙ ap (option_map f) (sym e) ∙ sym (seen-twice h f found)
+
+or_twice : {X Y Z : Type 0} (f : Y → Z) (g : X → Y) (o : Option X) (d : Z) → option_map_or (λ x. f (g x)) o d ≡ option_map_or f (option_map g o) d
+or_twice f g None d = refl
+or_twice f g (Some x) d = refl
+
+pub made_or : {X Y Z A : Type 0} (f : Y → Z) (g : X → Y) (h : A → Y) (o : Option X) (found : Option A) (d : Z) → option_map h found ≡ option_map g o
+    → option_map_or (λ x. f (g x)) o d ≡ option_map_or (λ a. f (h a)) found d
+made_or f g h o found d e = or_twice f g o d ∙ ap (λ o. option_map_or f o d) (sym e) ∙ sym (or_twice f h found d)
+
+-- no keys of no hubs, nor by no hash keys
+pub no_keys : (mapping : Mapping) (tables : List TableRows) (hubs : List ℕ) (digests : List (List ℕ)) → (length hubs ≡ 0) ⊎ (length digests ≡ 0) → keys_read mapping tables hubs digests ≡ []
+no_keys mapping tables [] digests ended = refl
+no_keys mapping tables (hub ∷ hubs) [] ended = refl
+no_keys mapping tables (hub ∷ hubs) (digest ∷ digests) (inl e) = absurd (omega (arith, e))
+no_keys mapping tables (hub ∷ hubs) (digest ∷ digests) (inr e) = absurd (omega (arith, e))
+
+-- no attributes, where there is no satellite
+pub absent_attrs : (tables : List TableRows) (definition : FeedDef) (feed : ℕ) (digest : List ℕ) (date : ℕ) → has_table (ids.Sat feed) tables ≡ false
+    → attrs_read tables definition feed digest date ≡ []
+absent_attrs tables definition feed digest date absent = by (length definition.attrs == 0)
+  where
+    by : (b : Bool) → (if b then [] else option_map_or (λ (row : SatRow). row.attrs) (valid_at (sat_rows_in feed tables) digest date) []) ≡ []
+    by true = refl
+    by false = ap (λ rows. option_map_or (λ (row : SatRow). row.attrs) (valid_at (sat_rows rows) digest date) []) (absent_rows (ids.Sat feed) tables absent)
+
+pub parent_there : (mapping : Mapping) (parent : Parent) → is_declared mapping parent ≡ true → is_parent mapping parent ≡ true
+parent_there mapping (Hub hub) e = e
+parent_there mapping (Link link) e = e
+
+-- a hub or a link that is a parent is in the mapping
+pub hub_within : (mapping : Mapping) (parent : Parent) (hub : ℕ) → is_parent mapping parent ≡ true → parent ≡ Hub hub → hub < length mapping.hubs
+hub_within mapping parent hub there is = ltb-true hub (length mapping.hubs) (ap (is_parent mapping) (sym is) ∙ there)
+
+pub link_within : (mapping : Mapping) (parent : Parent) (link : ℕ) → is_parent mapping parent ≡ true → parent ≡ Link link → link < length mapping.links
+link_within mapping parent link there is = ltb-true link (length mapping.links) (ap (is_parent mapping) (sym is) ∙ there)
+
+-- the reference list of a hub's or a link's row that was found
+pub refs_of_hub : (mapping : Mapping) (tables : List TableRows) (parent : Parent) (hub : ℕ) (digest : List ℕ) (rows : List HubRow) (found : Option (Bor Key)) (key : Bor Key) (refs : List Key)
+    → parent ≡ Hub hub → rows ≡ hub_rows_in hub tables → option_map (λ key. key.now) found ≡ option_map (λ (row : HubRow). row.key) (hub_row_by rows digest) → found ≡ Some key → refs ≡ key.now ∷ []
+    → Some refs ≡ refs_read mapping tables parent digest
+refs_of_hub mapping tables parent hub digest rows found key refs parent_is rows_are found_is is refs_are =
+    ap Some refs_are
+    ∙ ap (option_map (λ (key : Bor Key). key.now ∷ [])) (sym is)
+    ∙ sym (made_through (λ (key : Key). key ∷ []) (λ (row : HubRow). row.key) (λ (key : Bor Key). key.now) (hub_row_by rows digest) found found_is)
+    ∙ ap (λ (rows : List HubRow). option_map (λ (row : HubRow). row.key ∷ []) (hub_row_by rows digest)) rows_are
+    ∙ ap (λ p. refs_read mapping tables p digest) (sym parent_is)
+
+pub refs_of_link : (mapping : Mapping) (tables : List TableRows) (parent : Parent) (link : ℕ) (digest : List ℕ) (rows : List LinkRow) (found : Option (Bor (List (List ℕ)))) (digests : Bor (List (List ℕ)))
+    (hubs : List ℕ) (pointed : List (List ℕ)) (refs : List Key)
+    → parent ≡ Link link → rows ≡ link_rows_in link tables → option_map (λ digests. digests.now) found ≡ option_map (λ (row : LinkRow). row.hubs) (link_row_by rows digest) → found ≡ Some digests
+    → hubs ≡ parent_hubs mapping (Link link) → pointed ≡ digests.now → refs ≡ keys_read mapping tables hubs pointed
+    → Some refs ≡ refs_read mapping tables parent digest
+refs_of_link mapping tables parent link digest rows found digests hubs pointed refs parent_is rows_are found_is is hubs_are pointed_are refs_are =
+    ap Some (refs_are ∙ ap (λ hubs. keys_read mapping tables hubs pointed) hubs_are ∙ ap (keys_read mapping tables (parent_hubs mapping (Link link))) pointed_are)
+    ∙ ap (option_map (λ (digests : Bor (List (List ℕ))). keys_read mapping tables (parent_hubs mapping (Link link)) digests.now)) (sym is)
+    ∙ sym (made_through (keys_read mapping tables (parent_hubs mapping (Link link))) (λ (row : LinkRow). row.hubs) (λ (digests : Bor (List (List ℕ))). digests.now) (link_row_by rows digest) found found_is)
+    ∙ ap (λ (rows : List LinkRow). option_map (λ (row : LinkRow). keys_read mapping tables (parent_hubs mapping (Link link)) row.hubs) (link_row_by rows digest)) rows_are
+    ∙ ap (λ p. refs_read mapping tables p digest) (sym parent_is)
+
+-- the rows of one parent more
+pub rows_more : {X Y : Type 0} (h : X → Option Y) (xs : List X) (i : ℕ) (x : X) (made more : List Y) (row : Option Y) → i < length xs → x ≡ get_or xs i x
+    → made ≡ filter_map h (take i xs) → row ≡ h x → more ≡ made ++ option_to_list row → more ≡ filter_map h (take (i + 1) xs)
+rows_more h xs i x made more row under at made_are row_is more_are =
+    more_are ∙ (λ i. made_are i ++ option_to_list (row_is i)) ∙ ap (λ x. filter_map h (take i xs) ++ option_to_list (h x)) at ∙ sym (filter_map_more h xs i x under)
+
+-- the rows of one parent more, of which there may be several
+pub all_more : {X Y : Type 0} (h : X → List Y) (xs : List X) (i : ℕ) (x : X) (made more row : List Y) → i < length xs → x ≡ get_or xs i x
+    → made ≡ flat_map h (take i xs) → row ≡ h x → more ≡ made ++ row → more ≡ flat_map h (take (i + 1) xs)
+all_more h xs i x made more row under at made_are row_is more_are =
+    more_are ∙ (λ i. made_are i ++ row_is i) ∙ flat_map_more h [] (take i xs) x ∙ ap (λ x. flat_map h (take i xs ++ x ∷ [])) at ∙ ap (flat_map h) (sym (take_more xs i x under))
+
+-- no rows of a parent, where there is no multi-active satellite
+pub absent_rows_read : (mapping : Mapping) (tables : List TableRows) (definition : FeedDef) (feed date : ℕ) (digest : List ℕ) → has_table (ids.Multi feed) tables ≡ false
+    → rows_read mapping tables definition feed date digest ≡ []
+absent_rows_read mapping tables definition feed date digest absent = rw (absent_rows (ids.Multi feed) tables absent) (by (refs_read mapping tables definition.parent digest))
+  where
+    by : (found : Option (List Key)) → option_map_or (λ refs. map (described_row refs) []) found [] ≡ []
+    by None = refl
+    by (Some refs) = refl
+
+-- the content of a feed of the mapping
+pub content_by : (mapping : Mapping) (tables : List TableRows) (feed date : ℕ) (definition : FeedDef) (rows : List NRow) (parents : List (List ℕ)) (statuses : List StatusRow)
+    → slice_get mapping.feeds feed ≡ Some definition → statuses ≡ status_rows_in feed tables → parents ≡ present_parents statuses date
+    → rows ≡ parents_read mapping tables definition feed date parents → sorted_by row_cmp rows ≡ any_content_read mapping tables feed date
+content_by mapping tables feed date definition rows parents statuses got statuses_are parents_are rows_are =
+    ap (sorted_by row_cmp)
+    (rows_are ∙ ap (parents_read mapping tables definition feed date) (parents_are ∙ ap (λ (rows : List StatusRow). present_parents rows date) statuses_are))
+    ∙ by (length definition.sub == 0)
+    ∙ ap (λ (found : Option FeedDef). any_content_read_by mapping tables found feed date) (sym got)
+  where
+    by : (plain : Bool)
+        → sorted_by row_cmp (if plain then filter_map (row_read mapping tables definition feed date) (present_parents (status_rows_in feed tables) date)
+        else flat_map (rows_read mapping tables definition feed date) (present_parents (status_rows_in feed tables) date))
+        ≡ (if plain then content_read mapping tables feed date else multi_content_read mapping tables feed date)
+    by true = ap (λ (found : Option FeedDef). content_read_by mapping tables found feed date) (sym got)
+    by false = ap (λ (found : Option FeedDef). multi_content_read_by mapping tables found feed date) (sym got)
+
+-- it is the feed's mart, where the vault has sealed windows
+pub mart_read : (hashes : Hashes) (sealed : List Window) (raw : RawVault) → HasSealed hashes sealed raw → is_valid raw.mapping ≡ true → (feed date : ℕ)
+    → any_content_read raw.mapping raw.tables feed date ≡ feed_mart sealed feed date
+mart_read hashes sealed raw has valid feed date =
+    ap (λ (tables : List TableRows). any_content_read raw.mapping tables feed date) has.tables_are ∙ vault_tells raw.mapping hashes sealed valid has.valid feed date
+
+-- ---- the keys that stand for missing references
+
+-- the missing key of one hub more
+pub missing_more : (mapping : Mapping) (hub : ℕ) (keys more : List Key) (key : Key) → keys ≡ map (missing_key mapping) (range_with_len 0 hub) → key ≡ missing_key mapping hub
+    → more ≡ keys ++ key ∷ [] → more ≡ map (missing_key mapping) (range_with_len 0 (hub + 1))
+missing_more mapping hub keys more key keys_are key_is more_are =
+    more_are ∙ (λ i. keys_are i ++ key_is i ∷ []) ∙ sym (map-range_with_len_more (missing_key mapping) 0 hub hub (omega arith))
+
+-- the missing key at a hub's place
+pub missing_at : (mapping : Mapping) (hub : ℕ) (keys : List Key) (other : Key) → keys ≡ missing_keys mapping → hub < length mapping.hubs → get_or keys hub other ≡ missing_key mapping hub
+missing_at mapping hub keys other are under =
+    ap (λ keys. get_or keys hub other) are ∙ get_or-map-range_with_len (missing_key mapping) 0 (length mapping.hubs) hub hub other under (omega arith)
+
+pub missing_count : (mapping : Mapping) (keys : List Key) → keys ≡ missing_keys mapping → length keys ≡ length mapping.hubs
+missing_count mapping keys are = ap length are ∙ length-map-range_with_len (missing_key mapping) 0 (length mapping.hubs)

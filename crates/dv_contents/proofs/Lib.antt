@@ -1,0 +1,5 @@
+pub mod ContentFacts
+pub mod ContentRows
+pub mod PeriodFacts
+pub mod SealedContents
+pub mod Vocabulary

@@ -1,0 +1,7 @@
+use Rattle.dv_contents.proofs.Vocabulary.{◌≡◌, ◌++◌, map, take}
+use Rattle.dv_records.specs.Reconstruction.{described_row}
+use Rattle.dv_contents.proofs.multi_contents.add_described.Given as goal
+
+-- the rows of the satellite rows so far stand behind those that were there
+abbrev pub invariant-loop-row : goal.invariant-loop-row
+invariant-loop-row l = l.rows.items ≡ l.fn.rows.items ++ map (described_row (map (λ key. key.now) l.refs)) (take l.row-index l.valid)

@@ -1,5 +1,0 @@
-use Rattle.dv_vault.proofs.Vocabulary.{◌∙◌, sym, key_cmp, lex_map, refs_cmp}
-use Rattle.dv_vault.proofs.content_rows.ContentRow.refs_compared.Goals as goal
-
-pub returns : goal.returns
-returns c = c.cmp.ensures ∙ sym (lex_map (λ key. key.now) key_cmp c.self.inside.refs c.other.inside.refs) ∙ (λ i. refs_cmp (c.self.view_is i).refs (c.other.view_is i).refs)

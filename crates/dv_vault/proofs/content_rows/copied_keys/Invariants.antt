@@ -1,6 +1,0 @@
-use Rattle.dv_vault.proofs.Vocabulary.{◌≡◌, map, take}
-use Rattle.dv_vault.proofs.content_rows.copied_keys.Given as goal
-
--- the copies of the first keys
-abbrev pub invariant-loop-key : goal.invariant-loop-key
-invariant-loop-key l = l.made ≡ map (λ key. key.now) (take l.key-index l.key-items)

@@ -1,6 +1,0 @@
-use Rattle.dv_vault.proofs.Vocabulary.{◌≡◌, take}
-use Rattle.dv_vault.proofs.content_rows.copied_rows.Given as goal
-
--- the copies of the first rows
-abbrev pub invariant-loop-row : goal.invariant-loop-row
-invariant-loop-row l = l.made ≡ take l.row-index l.row-items

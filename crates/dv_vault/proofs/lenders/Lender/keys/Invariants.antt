@@ -1,9 +1,0 @@
-use Rattle.dv_vault.proofs.Vocabulary.{◌≡◌, ◌++◌, true, length, map, nat_lt, list_all, keys_read, entries_of}
-use Rattle.dv_vault.proofs.lenders.Lender.keys.Given as goal
-
--- the keys so far and those behind them are all
-abbrev pub invariant-loop-hub : goal.invariant-loop-hub
-invariant-loop-hub l =
-    (map (λ key. key.now) l.keys ++ keys_read l.self.catalog.now (entries_of l.self.raw.now) l.hub-iterator.a.rest.now l.hub-iterator.b.rest.now
-    ≡ keys_read l.self.catalog.now (entries_of l.self.raw.now) l.hubs l.digests)
-    × (list_all (λ hub. nat_lt hub (length l.self.catalog.now.hubs)) l.hub-iterator.a.rest.now ≡ true)

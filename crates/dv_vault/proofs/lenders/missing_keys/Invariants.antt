@@ -1,7 +1,0 @@
-use Rattle.dv_vault.proofs.Vocabulary.{◌≡◌, ◌≤◌, map, range_with_len}
-use Rattle.dv_records.specs.ReadBack.{missing_key}
-use Rattle.dv_vault.proofs.lenders.missing_keys.Given as goal
-
--- the missing keys of the hubs so far
-abbrev pub invariant-loop-hub : goal.invariant-loop-hub
-invariant-loop-hub l = (l.keys ≡ map (missing_key l.catalog) (range_with_len 0 l.hub)) × (l.hub ≤ l.hub-end)

@@ -1,9 +1,0 @@
-use Rattle.dv_vault.proofs.Vocabulary.{refl, entries_of}
-use Rattle.dv_records.specs.ReadBack.{rows_read}
-use Rattle.dv_vault.proofs.ContentFacts.{all_more}
-use Rattle.dv_vault.proofs.multi_contents.multi_rows_read.Goals as goal
-
-pub loop-parent-preserved : goal.loop-parent-preserved
-loop-parent-preserved c = λ definition got.
-    all_more (rows_read c.args.lender.now.catalog.now (entries_of c.args.lender.now.raw.now) definition c.args.feed c.args.date) c.args.parents.now c.loop-parent.parent-index c.parent-item.result
-    c.loop-parent.rows.items c.add_parent.new.rows.items _ c.loop-parent-test.true c.parent-item.is (c.loop-parent.invariant definition got) refl (c.in_ok-add_parent.ensures {u = tt} definition got)
