@@ -1,8 +1,14 @@
+pub mod EndSteps
 pub mod InitSteps
+pub mod LineSteps
 pub mod LoadSteps
+pub mod ManifestSteps
 pub mod OpenSteps
 pub mod QuerySteps
 pub mod RunSteps
 pub mod SnapshotSteps
 pub mod StoredSteps
+pub mod TrySteps
+pub mod Vocabulary
+pub mod WindowSteps
 pub mod WorkSteps

@@ -1,5 +1,5 @@
 -- A command that opens what is kept: what it says where that could not be opened, and what it says by the office.
-use Rattle.std.specs.Prelude.{◌≡◌, ◌⊎◌, [], Option, Some, Result, Err, IsErrOf, None}
+use Rattle.std.specs.Prelude.{◌≡◌, ◌⊎◌, [], Option, Some, Result, Ok, Err, IsErrOf, None}
 use Rattle.std.proofs.Common.{◌∙◌, arith, inl, inr, refl, subst, sym}
 use Rattle.dv_text.specs.Causes.{Rose}
 use Rattle.dv_text.specs.Keys.{DigestFunction, Hashes, hashes_of}
@@ -12,8 +12,8 @@ use Rattle.dv_records.specs.Standing.{Stands}
 use Rattle.dv_records.specs.States.{State}
 use Rattle.dv_restore.specs.Damages.{IsNamedBySome}
 use Rattle.dv_restore.specs.declared.faults.StoreFault.TheVariants as unread
-use Rattle.dv_window.specs.declared.faults.StartFault.{StartFault}
-use Rattle.dv_window.specs.declared.faults.StartFault.TheVariants as faults
+use Rattle.dv_restore.specs.declared.faults.StartFault.{StartFault}
+use Rattle.dv_restore.specs.declared.faults.StartFault.TheVariants as faults
 use Rattle.dv_window.specs.Offices.{Held, IsIn, IsLeftIn}
 use Rattle.dv_given.specs.declared.endings.Ending.{Ending}
 use Rattle.dv_given.specs.declared.endings.Ending.TheVariants as endings
@@ -26,7 +26,9 @@ use Rattle.dv_app.specs.Kept.{IsBroken, IsUndamaged, KeptSays, OpenedSays, Opens
 use Rattle.dv_app.specs.Openings.{IsOpen, IsUnopened, Opening}
 use Rattle.dv_app.specs.Places.{Places}
 use Rattle.dv_app.specs.Replies.{IsSaidFor}
-use Rattle.dv_app.specs.Words.{Init, KeptCommand, Load, Mart, Resume, Snapshot, Stored, Table, Windows}
+use Rattle.dv_app.specs.Words.{Init, KeptCommand, Load, Mart, Resume, Snapshot, Stored, Table, Windows, office_command}
+use Rattle.dv_app.specs.declared.words.OfficeCommand.{OfficeCommand}
+use Rattle.dv_app.specs.declared.words.OfficeCommand.TheVariants as office_commands
 use Rattle.dv_app.specs.Works.{Comes, Does, Tells, Works, said_of}
 use Rattle.dv_app.proofs.WorkSteps.{Kept, comes_one, does, keeper_cause, keeper_sound, mapping_sound, memory_cause, memory_does, memory_sound}
 
@@ -54,6 +56,16 @@ unstarted function keeper (faults.Unread unread.Memory) none damaged sound forme
 abbrev pub Opens : KeptCommand → Type 0
 Opens Init = ⊥
 Opens _ = Unit {0}
+
+-- so does each over the office
+pub office_opens : (command : OfficeCommand) → Opens (office_command command)
+office_opens (office_commands.Load manifest) = tt
+office_opens office_commands.Resume = tt
+office_opens (office_commands.Mart what date) = tt
+office_opens (office_commands.Table name) = tt
+office_opens office_commands.Windows = tt
+office_opens (office_commands.Snapshot date) = tt
+office_opens (office_commands.Stored table date) = tt
 
 module _ (command : KeptCommand) (opens : Opens command) (function : DigestFunction) (at : Places) where
   pub kept_by : (store : Store) (said : Tried) → OpensOr at function command store said → KeptSays at function command store said
@@ -115,6 +127,10 @@ module _ (command : KeptCommand) (opens : Opens command) (function : DigestFunct
   }
 
 -- ---- by the office
+
+-- an office that was opened is that of the store behind the opening
+pub open_then : (function : DigestFunction) (keeper : Seen Store) (office : Held) → Opening function keeper (Ok office) → IsOpen function keeper.new office
+open_then function keeper office opening = subst (λ told. IsOpen function told office) (sym opening.left) opening.opens
 
 -- an office that was opened is in each state that the store stands for
 pub opened_in : (function : DigestFunction) (told : Option Store) (office : Held) → IsOpen function told office → (store : Store) → told ≡ Some store → (state : State) → Stands office.vault.mapping (hashes_of function) state store

@@ -16,8 +16,8 @@ use Rattle.dv_given.specs.Lines.{memory_line}
 use Rattle.dv_given.specs.Says.{Gives}
 use Rattle.dv_given.specs.Tried.{Tried, ended}
 use Rattle.dv_given.specs.Worlds.{sight_of}
-use Rattle.dv_try.specs.Causes.{IsCaused}
-use Rattle.dv_try.specs.Says.{Trial, TrialSays, TrySays, Wanted, trial_of, tried_of}
+use Rattle.dv_app.specs.Causes.{IsCaused}
+use Rattle.dv_app.specs.Says.{Trial, TrialSays, TrySays, Wanted, trial_of, tried_of}
 use Rattle.dv_app.specs.Changes.{IsRefusal, IsText, Leaves, LeavesStore, MayChange}
 use Rattle.dv_app.specs.Kept.{IsBroken, memory_said}
 use Rattle.dv_app.specs.Places.{places_of}

@@ -15,7 +15,7 @@ use Rattle.dv_given.specs.Lines.{damaged_line, keeper_line, memory_line, usage_l
 use Rattle.dv_given.specs.Says.{Gives}
 use Rattle.dv_given.specs.Tried.{Tried, ended}
 use Rattle.dv_given.specs.Worlds.{sight_of}
-use Rattle.dv_try.specs.Says.{TryCompletes, TrySays}
+use Rattle.dv_app.specs.Says.{TryCompletes, TrySays}
 use Rattle.dv_app.specs.Changes.{Leaves, LeavesStore}
 use Rattle.dv_app.specs.Damaged.{Finds}
 use Rattle.dv_app.specs.Kept.{IsStanding, memory_said}

@@ -3,9 +3,11 @@ use Rattle.std.specs.Global.{Global}
 use Rattle.std.specs.List.{list_any}
 use Rattle.std.specs.Prelude.{ℕ, ◌==◌, ◌+◌, Bool, false, List, [], ◌∷◌, ◌++◌, Option, Some, None, String, codes, drop, map, position, string_bytes, take, if◌then◌else◌}
 use Rattle.std.specs.Str.{bytes_eq}
-use Rattle.dv_try.specs.Says.{Wanted, wanted}
+use Rattle.dv_app.specs.Says.{Wanted, wanted}
 use Rattle.dv_app.specs.declared.words.KeptCommand.{KeptCommand as Given}
 use Rattle.dv_app.specs.declared.words.KeptCommand.TheVariants as given
+use Rattle.dv_app.specs.declared.words.OfficeCommand.{OfficeCommand as GivenOffice}
+use Rattle.dv_app.specs.declared.words.OfficeCommand.TheVariants as office
 use Rattle.dv_app.specs.declared.words.StoredTable.{StoredTable as GivenTable}
 use Rattle.dv_app.specs.declared.words.StoredTable.TheVariants as tables
 use Rattle.dv_app.specs.declared.words.Parts.{Parts}
@@ -116,15 +118,18 @@ abbrev pub stored_of : GivenTable → StoredTable
 stored_of (tables.Pit hub) = Pit hub.now
 stored_of (tables.Bridge path) = Bridge path.now
 
+abbrev pub office_command : GivenOffice → KeptCommand
+office_command (office.Load manifest) = Load manifest.now
+office_command office.Resume = Resume
+office_command (office.Mart what date) = Mart what.now date.now
+office_command (office.Table name) = Table name.now
+office_command office.Windows = Windows
+office_command (office.Snapshot date) = Snapshot date.now
+office_command (office.Stored table date) = Stored (stored_of table) date.now
+
 abbrev pub kept_of : Given → KeptCommand
 kept_of given.Init = Init
-kept_of (given.Load manifest) = Load manifest.now
-kept_of given.Resume = Resume
-kept_of (given.Mart what date) = Mart what.now date.now
-kept_of (given.Table name) = Table name.now
-kept_of given.Windows = Windows
-kept_of (given.Snapshot date) = Snapshot date.now
-kept_of (given.Stored table date) = Stored (stored_of table) date.now
+kept_of (given.OnOffice command) = office_command command
 
 abbrev pub command_of : Option Parsed → Command
 command_of None = NoCommand

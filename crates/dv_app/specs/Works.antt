@@ -1,7 +1,9 @@
 -- What comes of the work of a command, before anything is written: a reply, or how it ends without one.
-use Rattle.std.specs.Prelude.{◌≡◌, ◌⊎◌, ◌≤◌, Result, Ok, Err}
+use Rattle.std.specs.Prelude.{◌≡◌, ◌⊎◌, ◌≤◌, ℕ, Option, Result, Ok, Err}
 use Rattle.dv_text.specs.Keys.{DigestFunction}
 use Rattle.dv_text.specs.Told.{Told}
+use Rattle.dv_records.specs.declared.stores.Store.{Store}
+use Rattle.dv_window.specs.Offices.{Held}
 use Rattle.dv_given.specs.declared.endings.Ending.{Ending}
 use Rattle.dv_given.specs.Endings.{line_of_ending, status_of}
 use Rattle.dv_given.specs.Tried.{Tried, ended}
@@ -9,6 +11,7 @@ use Rattle.dv_app.specs.declared.replies.Reply.{Reply}
 use Rattle.dv_app.specs.Changes.{Leaves}
 use Rattle.dv_app.specs.Damaged.{NamesDamage}
 use Rattle.dv_app.specs.Kept.{KeptSays, memory_said}
+use Rattle.dv_app.specs.Openings.{Opening}
 use Rattle.dv_app.specs.Places.{Places}
 use Rattle.dv_app.specs.Replies.{IsSaidFor, said}
 use Rattle.dv_app.specs.Words.{KeptCommand}
@@ -50,3 +53,13 @@ pub record Works (command : KeptCommand) (function : DigestFunction) (at : Place
 pub record Replied (command : KeptCommand) (function : DigestFunction) (at : Places) (reply : Reply) : Type 0 where
   pub does : Does command function at (said reply)
   pub later : IsLater at
+
+-- the same places from before an opening of the keeper's store
+abbrev pub opened_from : Option Store → ℕ → Places → Places
+opened_from told before at = record { folder = at.folder; keeper = record { old = told; new = at.keeper.new; before = before; now = at.keeper.now } }
+
+-- and of what comes of it behind the opening of its office
+abbrev pub WorksBehind : KeptCommand → DigestFunction → Held → Places → Result Reply Ending → Type 0
+WorksBehind command function office at result =
+    (told : Option Store) (before : ℕ) → Opening function (record { old = told; new = at.keeper.old; before = before; now = at.keeper.before }) (Ok office)
+    → Works command function (opened_from told before at) result

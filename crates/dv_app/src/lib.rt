@@ -3,7 +3,9 @@
 
 mod inits;
 mod lines;
+mod loadings;
 mod loads;
+mod null_keepers;
 mod openings;
 mod queries;
 mod replies;
@@ -11,6 +13,7 @@ mod resumes;
 mod snapshots;
 mod stored_tables;
 mod top;
+mod tries;
 mod words;
 mod works;
 

@@ -6,11 +6,11 @@ ghost use Rattle.dv_window.specs.Offices.{AgreesUnlessStale};
 ghost use Rattle.dv_given.specs.Readings.{arrival_of};
 ghost use Rattle.dv_app.specs.Kept.{load_said};
 ghost use Rattle.dv_app.specs.Lent.{Same, places};
+ghost use Rattle.dv_app.specs.Openings.{IsOpen};
 ghost use Rattle.dv_app.specs.Takings.{Gave, taken_said};
 ghost use Rattle.dv_app.specs.Words as words;
-ghost use Rattle.dv_app.specs.Works.{Tells, Works};
+ghost use Rattle.dv_app.specs.Works.{Tells, WorksBehind};
 
-use crate::openings::open_office;
 use crate::replies::Reply;
 use crate::works::Work;
 use dv_given::{Arrived, Ending, Taken, bring, is_refusal, status_of_windows, window_line};
@@ -65,13 +65,18 @@ fn answered(alloc: Global, name: &Text, answer: LoadAnswer) -> Result<Reply, End
 
 impl<F: Folder, K: Keeper, H: KeyDigest, G: Gate> Work<'_, '_, '_, '_, F, K, H, G> {
     /// Loads the window of a manifest.
-    pub(crate) fn load(&mut self, alloc: Global, name: &Text) -> Result<Reply, Ending>
-        ensures works { Works (words.Load name.now) H.function (places F.Folder K.Keeper self.old self.new) result }
+    pub(crate) fn load(
+        &mut self,
+        alloc: Global,
+        office: &mut Office,
+        name: &Text,
+    ) -> Result<Reply, Ending>
+        requires open { IsOpen H.function (K.store self.old.keeper.now) office.old }
+        ensures works { WorksBehind (words.Load name.now) H.function office.old (places F.Folder K.Keeper self.old self.new) result }
         ensures same { Same self.old self.new }
     {
-        let mut office = open_office(alloc, self.keeper, self.digest)?;
         let arrived = bring(alloc, self.folder, name)?;
-        let answer = give(&mut office, self.keeper, arrived, self.digest, self.gate);
+        let answer = give(office, self.keeper, arrived, self.digest, self.gate);
         answered(alloc, name, answer)
     }
 }

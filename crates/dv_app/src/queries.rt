@@ -5,24 +5,19 @@ ghost use Rattle.dv_catalog.specs.Tables.{tables};
 ghost use Rattle.dv_records.specs.States.{head_of};
 ghost use Rattle.dv_window.specs.Offices.{staged};
 ghost use Rattle.dv_mart.specs.OfferedMarts.{IsOffered};
-ghost use Rattle.dv_mart.specs.Whats.{offered_mart, table_named};
+ghost use Rattle.dv_mart.specs.Whats.{offered_mart, table_named, what_of};
 ghost use Rattle.dv_given.specs.Endings.{QueryEnds};
-ghost use Rattle.dv_app.specs.Lent.{Same, places};
+ghost use Rattle.dv_app.specs.Loadings.{WhatEnds};
 ghost use Rattle.dv_app.specs.Queries as spec;
 ghost use Rattle.dv_app.specs.Queries.{IsAnswered, MartEnds, TableEnds};
 ghost use Rattle.dv_app.specs.Words as words;
-ghost use Rattle.dv_app.specs.Works.{Works};
 
-use crate::openings::open_office;
 use crate::replies::Reply;
-use crate::works::Work;
 use dv_catalog::{Catalog, TableId};
 use dv_given::{Ending, check_date, text_of};
 use dv_mart::{QueryRule, What, whole_table_text};
-use dv_outside::{Folder, Gate};
 use dv_print::windows_text;
-use dv_records::Keeper;
-use dv_text::{Duplicate, KeyDigest, Memory, Text, WindowHead};
+use dv_text::{Duplicate, Memory, Text, WindowHead};
 use dv_vault::head;
 use dv_window::Office;
 use std::alloc::Global;
@@ -34,6 +29,17 @@ pub(crate) fn unknown_mart(name: &Text) -> Ending
     match name.copy() {
         Ok(name) => Ending::BadQuery(QueryRule::UnknownMart { name }),
         Err(Memory) => Ending::Memory,
+    }
+}
+
+/// The mart or the table that a word names.
+pub(crate) fn check_what(alloc: Global, catalog: &Catalog, word: &Text) -> Result<What, Ending>
+    ensures ok { IfOk result (λ what. what_of catalog.now word.now ≡ Some what) }
+    ensures ends { IfErr result (WhatEnds catalog.now word.now) }
+{
+    match What::read(alloc, catalog, word)? {
+        Some(what) => Ok(what),
+        None => Err(unknown_mart(word)),
     }
 }
 
@@ -64,8 +70,13 @@ fn check_table(catalog: &Catalog, name: &Text) -> Result<TableId, Ending>
     }
 }
 
-// The text of a mart of the office's sealed windows.
-fn mart_of(alloc: Global, office: &Office, what: &Text, date: &Text) -> Result<Text, Ending>
+/// The text of a mart of the office's sealed windows.
+pub(crate) fn mart_of(
+    alloc: Global,
+    office: &Office,
+    what: &Text,
+    date: &Text,
+) -> Result<Text, Ending>
     ensures { IsAnswered (words.Mart what.now date.now) office.now result }
 {
     let what = check_mart(alloc, office.catalog(), what)?;
@@ -73,8 +84,8 @@ fn mart_of(alloc: Global, office: &Office, what: &Text, date: &Text) -> Result<T
     text_of(alloc, office.vault(), &what, date)
 }
 
-// The text of a raw table with all rows that the office's keeper has.
-fn table_of(alloc: Global, office: &Office, name: &Text) -> Result<Text, Ending>
+/// The text of a raw table with all rows that the office's keeper has.
+pub(crate) fn table_of(alloc: Global, office: &Office, name: &Text) -> Result<Text, Ending>
     ensures { IsAnswered (words.Table name.now) office.now result }
 {
     let table = check_table(office.catalog(), name)?;
@@ -91,8 +102,8 @@ fn open_head(alloc: Global, office: &Office) -> Result<Option<WindowHead>, Memor
     }
 }
 
-// The text of the office's windows.
-fn windows_of(alloc: Global, office: &Office) -> Result<Text, Ending>
+/// The text of the office's windows.
+pub(crate) fn windows_of(alloc: Global, office: &Office) -> Result<Text, Ending>
     ensures { IsAnswered words.Windows office.now result }
 {
     let head = open_head(alloc, office)?;
@@ -104,41 +115,12 @@ fn windows_of(alloc: Global, office: &Office) -> Result<Text, Ending>
     )?)
 }
 
-// The reply of a text.
-fn text_reply(text: Result<Text, Ending>) -> Result<Reply, Ending>
+/// The reply of a text.
+pub(crate) fn text_reply(text: Result<Text, Ending>) -> Result<Reply, Ending>
     ensures { result ≡ spec.text_reply text }
 {
     match text {
         Ok(text) => Ok(Reply::Text(text)),
         Err(ending) => Err(ending),
-    }
-}
-
-impl<F: Folder, K: Keeper, H: KeyDigest, G: Gate> Work<'_, '_, '_, '_, F, K, H, G> {
-    /// The text of a mart at a date.
-    pub(crate) fn mart(&mut self, alloc: Global, what: &Text, date: &Text) -> Result<Reply, Ending>
-        ensures works { Works (words.Mart what.now date.now) H.function (places F.Folder K.Keeper self.old self.new) result }
-        ensures same { Same self.old self.new }
-    {
-        let office = open_office(alloc, self.keeper, self.digest)?;
-        text_reply(mart_of(alloc, &office, what, date))
-    }
-
-    /// The text of a raw table with all its rows.
-    pub(crate) fn table(&mut self, alloc: Global, name: &Text) -> Result<Reply, Ending>
-        ensures works { Works (words.Table name.now) H.function (places F.Folder K.Keeper self.old self.new) result }
-        ensures same { Same self.old self.new }
-    {
-        let office = open_office(alloc, self.keeper, self.digest)?;
-        text_reply(table_of(alloc, &office, name))
-    }
-
-    /// The text of the windows.
-    pub(crate) fn windows(&mut self, alloc: Global) -> Result<Reply, Ending>
-        ensures works { Works words.Windows H.function (places F.Folder K.Keeper self.old self.new) result }
-        ensures same { Same self.old self.new }
-    {
-        let office = open_office(alloc, self.keeper, self.digest)?;
-        text_reply(windows_of(alloc, &office))
     }
 }

@@ -15,7 +15,7 @@ use dv_text::{Memory, Text};
 use std::alloc::Global;
 
 /// What a command replies: a text for standard output, a line for standard error with a status, or that memory ran out.
-#[derive(Debug, Drop)]
+#[derive(Drop)]
 pub(crate) enum Reply {
     Text(Text),
     Line { line: Text, status: Status },

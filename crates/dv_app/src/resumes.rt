@@ -1,11 +1,11 @@
 // The command `resume`: the open window of what is kept is completed.
 ghost use Rattle.dv_app.specs.Kept.{resume_said};
 ghost use Rattle.dv_app.specs.Lent.{Same, places};
+ghost use Rattle.dv_app.specs.Openings.{IsOpen};
 ghost use Rattle.dv_app.specs.Words as words;
-ghost use Rattle.dv_app.specs.Works.{Tells, Works};
+ghost use Rattle.dv_app.specs.Works.{Tells, WorksBehind};
 
 use crate::lines::RESUME_LOADED;
-use crate::openings::open_office;
 use crate::replies::{Reply, done_with};
 use crate::works::Work;
 use dv_given::Ending;
@@ -13,6 +13,7 @@ use dv_mart::QueryRule;
 use dv_outside::{Folder, Gate};
 use dv_records::{Keeper, ResumeAnswer};
 use dv_text::KeyDigest;
+use dv_window::Office;
 use std::alloc::Global;
 
 // What is said of an answer.
@@ -30,11 +31,11 @@ fn answered(alloc: Global, answer: ResumeAnswer) -> Result<Reply, Ending>
 
 impl<F: Folder, K: Keeper, H: KeyDigest, G: Gate> Work<'_, '_, '_, '_, F, K, H, G> {
     /// Completes the open window.
-    pub(crate) fn resume(&mut self, alloc: Global) -> Result<Reply, Ending>
-        ensures works { Works words.Resume H.function (places F.Folder K.Keeper self.old self.new) result }
+    pub(crate) fn resume(&mut self, alloc: Global, office: &mut Office) -> Result<Reply, Ending>
+        requires open { IsOpen H.function (K.store self.old.keeper.now) office.old }
+        ensures works { WorksBehind words.Resume H.function office.old (places F.Folder K.Keeper self.old self.new) result }
         ensures same { Same self.old self.new }
     {
-        let mut office = open_office(alloc, self.keeper, self.digest)?;
         let answer = office.resume(self.keeper, self.digest);
         answered(alloc, answer)
     }

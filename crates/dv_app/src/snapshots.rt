@@ -1,11 +1,11 @@
 // The command `snapshot`: a snapshot of the sealed windows of what is kept is stored beside them.
 ghost use Rattle.dv_app.specs.Kept.{snapshot_said};
 ghost use Rattle.dv_app.specs.Lent.{Same, places};
+ghost use Rattle.dv_app.specs.Openings.{IsOpen};
 ghost use Rattle.dv_app.specs.Words as words;
-ghost use Rattle.dv_app.specs.Works.{Tells, Works};
+ghost use Rattle.dv_app.specs.Works.{Tells, WorksBehind};
 
 use crate::lines::{SNAPSHOT_REPEATED, SNAPSHOT_STORED};
-use crate::openings::open_office;
 use crate::replies::{Reply, done, done_with};
 use crate::works::Work;
 use dv_catalog::Catalog;
@@ -14,6 +14,7 @@ use dv_mart::{QueryRule, What, too_large};
 use dv_outside::{Folder, Gate};
 use dv_records::{Keeper, SnapAnswer};
 use dv_text::{KeyDigest, Text};
+use dv_window::Office;
 use std::alloc::Global;
 
 // What is said of an answer.
@@ -36,13 +37,18 @@ fn answered(alloc: Global, catalog: &Catalog, answer: SnapAnswer) -> Result<Repl
 
 impl<F: Folder, K: Keeper, H: KeyDigest, G: Gate> Work<'_, '_, '_, '_, F, K, H, G> {
     /// Stores a snapshot at a date.
-    pub(crate) fn snapshot(&mut self, alloc: Global, date: &Text) -> Result<Reply, Ending>
-        ensures works { Works (words.Snapshot date.now) H.function (places F.Folder K.Keeper self.old self.new) result }
+    pub(crate) fn snapshot(
+        &mut self,
+        alloc: Global,
+        office: &mut Office,
+        date: &Text,
+    ) -> Result<Reply, Ending>
+        requires open { IsOpen H.function (K.store self.old.keeper.now) office.old }
+        ensures works { WorksBehind (words.Snapshot date.now) H.function office.old (places F.Folder K.Keeper self.old self.new) result }
         ensures same { Same self.old self.new }
     {
-        let mut office = open_office(alloc, self.keeper, self.digest)?;
         let date = check_date(date)?;
-        let answer = dv_snapshots::snapshot(alloc, &mut office, self.keeper, date);
+        let answer = dv_snapshots::snapshot(alloc, office, self.keeper, date);
         answered(alloc, office.catalog(), answer)
     }
 }

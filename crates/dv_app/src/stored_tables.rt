@@ -3,12 +3,12 @@ ghost use Rattle.std.specs.Prelude.{◌≡◌, IfErr, IfOk, Some};
 ghost use Rattle.dv_snapshots.specs.StoredTexts.{HasTable};
 ghost use Rattle.dv_app.specs.Kept.{stored_id};
 ghost use Rattle.dv_app.specs.Lent.{Same, places};
+ghost use Rattle.dv_app.specs.Openings.{IsOpen};
 ghost use Rattle.dv_app.specs.Queries.{StoredEnds, ending_of_stored};
 ghost use Rattle.dv_app.specs.Words as words;
 ghost use Rattle.dv_app.specs.Words.{stored_of};
-ghost use Rattle.dv_app.specs.Works.{Works};
+ghost use Rattle.dv_app.specs.Works.{WorksBehind};
 
-use crate::openings::open_office;
 use crate::queries::unknown_mart;
 use crate::replies::Reply;
 use crate::words::StoredTable;
@@ -20,6 +20,7 @@ use dv_outside::{Folder, Gate};
 use dv_records::{Keeper, SnapId};
 use dv_snapshots::{StoredFault, stored_text};
 use dv_text::{KeyDigest, Stamp, Text};
+use dv_window::Office;
 use std::alloc::Global;
 
 // The table that is asked for, by the place of its hub or its path.
@@ -57,16 +58,17 @@ impl<F: Folder, K: Keeper, H: KeyDigest, G: Gate> Work<'_, '_, '_, '_, F, K, H, 
     pub(crate) fn stored(
         &mut self,
         alloc: Global,
+        office: &mut Office,
         table: &StoredTable<'_>,
         date: &Text,
     ) -> Result<Reply, Ending>
-        ensures works { Works (words.Stored (stored_of table.now) date.now) H.function (places F.Folder K.Keeper self.old self.new) result }
+        requires open { IsOpen H.function (K.store self.old.keeper.now) office.old }
+        ensures works { WorksBehind (words.Stored (stored_of table.now) date.now) H.function office.old (places F.Folder K.Keeper self.old self.new) result }
         ensures same { Same self.old self.new }
     {
-        let mut office = open_office(alloc, self.keeper, self.digest)?;
         let id = check_stored(office.catalog(), table)?;
         let date = check_date(date)?;
-        match stored_text(alloc, &mut office, self.keeper, id, date) {
+        match stored_text(alloc, office, self.keeper, id, date) {
             Ok(text) => Ok(Reply::Text(text)),
             Err(fault) => Err(ending_of(fault, date)),
         }

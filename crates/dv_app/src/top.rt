@@ -9,13 +9,13 @@ ghost use Rattle.dv_app.specs.Run.{ChangesAsSaid, DamageIsNamed, IsApart, IsRunC
 ghost use Rattle.dv_app.specs.Words.{asked_of};
 
 use crate::replies::say;
+use crate::tries::try_command;
 use crate::words::{Command, asked_command, parts_of};
 use crate::works::Work;
 use dv_given::{MEMORY, USAGE};
 use dv_outside::{Folder, Gate, Sink, Status, end};
 use dv_records::Keeper;
 use dv_text::{KeyDigest, Memory};
-use dv_try::try_command;
 use std::alloc::Global;
 
 impl<F: Folder, K: Keeper, H: KeyDigest, G: Gate> Work<'_, '_, '_, '_, F, K, H, G> {

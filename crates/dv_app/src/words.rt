@@ -2,11 +2,19 @@ ghost use Rattle.std.specs.Prelude.{◌≡◌, ◌+◌, ◌<◌, ◌++◌, codes
 ghost use Rattle.std.specs.List.{list_any};
 ghost use Rattle.std.specs.Str.{bytes_eq};
 ghost use Rattle.dv_app.specs.Words as spec;
-ghost use Rattle.dv_app.specs.Words.{command_of};
+ghost use Rattle.dv_app.specs.Words.{OnKeeper, command_of, office_command};
 
 use dv_text::{List, Memory, Text};
-use dv_try::Asked;
 use std::alloc::Global;
+
+/// What `try` is asked for: a mart or a table, at a date, over the windows of manifests, of which
+/// there is one at least.
+#[derive(Clone, Copy)]
+pub(crate) struct Asked<'a> {
+    pub(crate) what: &'a Text,
+    pub(crate) date: &'a Text,
+    pub(crate) manifests: &'a [Text],
+}
 
 /// A table of a stored snapshot, by the name of its hub or its path.
 #[derive(Clone, Copy)]
@@ -17,11 +25,9 @@ pub(crate) enum StoredTable<'a> {
     Bridge { path: &'a Text },
 }
 
-/// A command on the vault that is kept.
+/// A command over the office of the vault that is kept.
 #[derive(Clone, Copy)]
-pub(crate) enum KeptCommand<'a> {
-    /// The mapping's file is stored.
-    Init,
+pub(crate) enum OfficeCommand<'a> {
     /// The window of a manifest is loaded.
     Load {
         manifest: &'a Text,
@@ -48,6 +54,15 @@ pub(crate) enum KeptCommand<'a> {
         table: StoredTable<'a>,
         date: &'a Text,
     },
+}
+
+/// A command on the vault that is kept.
+#[derive(Clone, Copy)]
+pub(crate) enum KeptCommand<'a> {
+    /// The mapping's file is stored.
+    Init,
+    /// The office of what is kept is opened first.
+    OnOffice(OfficeCommand<'a>),
 }
 
 /// What the words of the command line ask for.
@@ -155,6 +170,13 @@ pub(crate) fn parts_of(alloc: Global, words: &[String]) -> Result<Option<Parts>,
     }
 }
 
+// A command over the office of what is kept.
+fn on_office(command: OfficeCommand<'_>) -> Option<Command<'_>>
+    ensures { command_of result ≡ OnKeeper (office_command command.entry) }
+{
+    Some(Command::OnKeeper(KeptCommand::OnOffice(command)))
+}
+
 // A command that takes no words.
 fn bare_command<'a>(word: &[u8]) -> Option<Command<'a>>
     ensures { command_of result ≡ spec.bare word.now }
@@ -162,9 +184,9 @@ fn bare_command<'a>(word: &[u8]) -> Option<Command<'a>>
     if word == b"init".as_slice() {
         Some(Command::OnKeeper(KeptCommand::Init))
     } else if word == b"resume".as_slice() {
-        Some(Command::OnKeeper(KeptCommand::Resume))
+        on_office(OfficeCommand::Resume)
     } else if word == b"windows".as_slice() {
-        Some(Command::OnKeeper(KeptCommand::Windows))
+        on_office(OfficeCommand::Windows)
     } else {
         None
     }
@@ -175,11 +197,11 @@ fn command_with_one<'a>(word: &[u8], name: &'a Text) -> Option<Command<'a>>
     ensures { command_of result ≡ spec.with_one word.now name.now }
 {
     if word == b"load".as_slice() {
-        Some(Command::OnKeeper(KeptCommand::Load { manifest: name }))
+        on_office(OfficeCommand::Load { manifest: name })
     } else if word == b"table".as_slice() {
-        Some(Command::OnKeeper(KeptCommand::Table { name }))
+        on_office(OfficeCommand::Table { name })
     } else if word == b"snapshot".as_slice() {
-        Some(Command::OnKeeper(KeptCommand::Snapshot { date: name }))
+        on_office(OfficeCommand::Snapshot { date: name })
     } else {
         None
     }
@@ -190,13 +212,13 @@ fn command_with_two<'a>(word: &[u8], what: &'a Text, date: &'a Text) -> Option<C
     ensures { command_of result ≡ spec.with_two word.now what.now date.now }
 {
     if word == b"mart".as_slice() {
-        Some(Command::OnKeeper(KeptCommand::Mart { what, date }))
+        on_office(OfficeCommand::Mart { what, date })
     } else if word == b"pit".as_slice() {
         let table = StoredTable::Pit { hub: what };
-        Some(Command::OnKeeper(KeptCommand::Stored { table, date }))
+        on_office(OfficeCommand::Stored { table, date })
     } else if word == b"bridge".as_slice() {
         let table = StoredTable::Bridge { path: what };
-        Some(Command::OnKeeper(KeptCommand::Stored { table, date }))
+        on_office(OfficeCommand::Stored { table, date })
     } else {
         None
     }

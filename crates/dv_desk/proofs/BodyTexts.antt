@@ -1,11 +1,27 @@
 -- The bodies of replies as they are written.
 use Rattle.std.specs.Prelude.{◌≡◌, ℕ, List, ◌++◌, codes}
-use Rattle.std.proofs.Common.{append_assoc}
+use Rattle.std.specs.Fmt.{decimal}
+use Rattle.std.proofs.Common.{Global, String, append_assoc, rules, string_bytes}
 use Rattle.json.specs.Print.{quoted}
-use Rattle.serde_json.specs.Data.{string, object, no_members, member}
+use Rattle.serde_json.specs.Data.{Data, number, string, object, no_members, put, unsigned}
+use Rattle.serde_json.specs.View.{view}
 use Rattle.serde_json.specs.Written.{compact_text}
+use Rattle.serde_json.specs.declared.value.Value.{String as Text, the_lemmas}
 use Rattle.serde_json.proofs.OnLiterals.{serde_json_on_literals}
 
-pub written_text : (name text : List ℕ) → compact_text (object (member (codes "answer") (string name) (member (codes "text") (string text) no_members))) ≡ codes "{\"answer\":" ++ quoted name ++ codes ",\"text\":" ++ quoted text ++ codes "}"
+-- the name of an answer, and what it tells more
+abbrev pub told : List ℕ → List ℕ → Data → Data
+told name answer more = object (put name more (put (codes "answer") (string answer) no_members))
+
+-- the data of a text
+pub view_text : (text : String Global) → view (Text text) ≡ string (string_bytes text)
+view_text text = search (rules, the_lemmas)
+
+-- the name of an answer and a text, and a number of rows
+pub written_text : (name text : List ℕ) → compact_text (told (codes "text") name (string text)) ≡ codes "{\"answer\":" ++ quoted name ++ codes ",\"text\":" ++ quoted text ++ codes "}"
 unfolding serde_json_on_literals
 written_text name text = simp append_assoc
+
+pub written_rows : (rows : ℕ) → compact_text (told (codes "rows") (codes "Loaded") (number (unsigned rows))) ≡ codes "{\"answer\":\"Loaded\",\"rows\":" ++ decimal rows ++ codes "}"
+unfolding serde_json_on_literals
+written_rows rows = simp append_assoc

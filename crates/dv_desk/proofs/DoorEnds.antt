@@ -1,11 +1,12 @@
 -- How the serving of doors starts, and where it ends with a damage.
-use Rattle.std.specs.Prelude.{◌≡◌, ℕ, List, Option, None}
+use Rattle.std.specs.Prelude.{◌≡◌, ℕ, List, Option, None, Result, Ok, Err}
 use Rattle.std.proofs.Common.{inl, inr, refl, subst, sym, ◌∙◌}
-use Rattle.dv_text.specs.Causes.{Rose}
+use Rattle.dv_text.specs.Causes.{HasCause, Rose}
 use Rattle.dv_text.specs.Keys.{DigestFunction, hashes_of}
 use Rattle.dv_text.specs.Told.{Told}
 use Rattle.dv_outside.specs.Ends.{Ends}
 use Rattle.dv_outside.specs.Seen.{Seen}
+use Rattle.dv_outside.specs.declared.folders.Failed.{Failed}
 use Rattle.dv_outside.specs.declared.statuses.Status.{Status}
 use Rattle.dv_outside.specs.declared.statuses.Status.TheVariants as statuses
 use Rattle.dv_given.specs.Endings.{EndsBy, EndsOrMemory, ending_of_start}
@@ -13,9 +14,9 @@ use Rattle.dv_records.specs.declared.answers.Damage.{Damage}
 use Rattle.dv_records.specs.declared.stores.Store.{Store}
 use Rattle.dv_restore.specs.Damages.{IsFirstDamage, IsNamedBySome}
 use Rattle.dv_restore.specs.declared.faults.StoreFault.TheVariants as unread
-use Rattle.dv_window.specs.declared.faults.StartFault.{StartFault}
-use Rattle.dv_window.specs.declared.faults.StartFault.TheVariants as faults
-use Rattle.dv_desk.specs.Doors.{IsFaultOf, IsServeCause}
+use Rattle.dv_restore.specs.declared.faults.StartFault.{StartFault}
+use Rattle.dv_restore.specs.declared.faults.StartFault.TheVariants as faults
+use Rattle.dv_desk.specs.Doors.{EndsAs, IsFaultOf, IsServeCause}
 
 -- why no office could be started
 pub fault_is : (function : DigestFunction) (store : Option Store) (before now : ℕ) (fault : StartFault) → (fault ≡ faults.NoMapping → Told store (λ s. s.mapping ≡ None))
@@ -68,3 +69,14 @@ module _ (before now : ℕ) (kept : Seen Store) (err : Seen (List ℕ)) (result 
   unstarted_cause (faults.Unread (unread.Damaged damage)) rose ends = or_cause statuses.Damaged _ tt ends
   unstarted_cause (faults.Unread unread.KeeperFault) rose ends = or_cause statuses.KeeperFault _ (rose refl) ends
   unstarted_cause (faults.Unread unread.Memory) rose ends = or_cause statuses.Memory _ tt ends
+
+-- ---- connections that were served
+
+module _ (err : Seen (List ℕ)) (result : Status) where
+  pub served_cause : (before now : ℕ) (kept : Seen Store) (ended : Result (Unit {0}) Failed) → HasCause before now ended → EndsAs ended err result → IsServeCause before now kept err result
+  served_cause before now kept (Ok done) cause ends = subst (IsServeCause before now kept err) (sym ends.0) tt
+  served_cause before now kept (Err failed) cause ends = ends_cause before now kept err result statuses.ReadFault _ cause.failed ends
+
+  pub served_undamaged : (ended : Result (Unit {0}) Failed) → EndsAs ended err result → result ≡ statuses.Damaged → ⊥
+  served_undamaged (Ok done) ends is = let no : statuses.Done ≡ statuses.Damaged = sym ends.0 ∙ is in cc
+  served_undamaged (Err failed) ends is = let no : statuses.ReadFault ≡ statuses.Damaged = was_damaged err result statuses.ReadFault _ ends is in cc

@@ -1,10 +1,9 @@
 -- Serving leads from states to states.
-use Rattle.std.specs.Prelude.{◌≡◌, ◌≤◌, ℕ, List, [], ◌∷◌, Option, Some, IsSome, Result}
+use Rattle.std.specs.Prelude.{◌≡◌, ◌≤◌, ℕ, List, [], ◌∷◌, Option, Some, IsSome}
 use Rattle.std.proofs.Common.{refl, subst, sym, ◌∙◌}
 use Rattle.dv_text.specs.Keys.{DigestFunction, Hashes, hashes_of}
 use Rattle.dv_outside.specs.Lines.{Lines}
 use Rattle.dv_outside.specs.Seen.{Seen}
-use Rattle.dv_outside.specs.declared.folders.Failed.{Failed}
 use Rattle.dv_outside.specs.declared.statuses.Status.{Status}
 use Rattle.dv_records.specs.declared.stores.Store.{Store}
 use Rattle.dv_records.specs.Standing.{Stands}
@@ -13,7 +12,7 @@ use Rattle.dv_window.specs.Offices.{IsIn}
 use Rattle.dv_serving.specs.Doors.{ServesDoors, ServesEach}
 use Rattle.dv_serving.specs.Exchanges.{Chain, Exchange}
 use Rattle.dv_desk.specs.Answers.{refusal}
-use Rattle.dv_desk.specs.Doors.{EndsAs, ServedDoors, Started, StandsThen, Tells}
+use Rattle.dv_desk.specs.Doors.{ServedDoors, ServesWith, Started, StandsThen, Tells}
 use Rattle.dv_desk.specs.Turns.{HasWidth, IsReplied, Moment}
 use Rattle.dv_desk.proofs.Talked.{leads_in_states, told_of}
 
@@ -80,18 +79,18 @@ module _ (function : DigestFunction) (store : Option Store) (began : Moment) (st
       reached after (each_leads function tells lines backs began after each state (began_in state s told stands) (λ fresh. started.width_is) (subst IsSome (sym (started.store_is ∙ told)) refl))
 
 -- an office was started, and connections were served with it
-pub served_doors : {L : Type 0} (function : DigestFunction) (tells : Tells L) (old new : Option (Lines L)) (kept : Seen Store) (err : Seen (List ℕ)) (result : Status) (began after : Moment) (ended : Result (Unit {0}) Failed)
-    → Started function kept.old began → kept.new ≡ after.store → kept.before ≤ began.faults → kept.now ≡ after.faults → ServesDoors (IsReplied function) refusal tells old new began after ended → EndsAs ended err result
+pub served_doors : {L : Type 0} (function : DigestFunction) (tells : Tells L) (old new : Option (Lines L)) (before now : ℕ) (kept : Seen Store) (err : Seen (List ℕ)) (result : Status) (began after : Moment)
+    → Started function kept.old began → kept.new ≡ after.store → kept.before ≤ began.faults → kept.now ≡ after.faults → ServesWith function tells old new before now began after err result
     → ServedDoors function tells old new kept err result
-served_doors function tells old new kept err result began after ended started is less now_is serves ends = record {
+served_doors function tells old new before now kept err result began after started is less now_is with = record {
   began = began;
   after = after;
   started = started;
   store = is;
   faults = (less, now_is);
-  ended = ended;
-  serves = serves;
+  ended = with.ended;
+  serves = with.serves;
   in_states = leads_in_states function;
-  leads = λ state s told stands. subst (StandsThen began.held.vault.mapping (hashes_of function)) (sym is) (served_leads function kept.old began started tells serves.lines serves.backs after serves.each state s told stands);
-  ends = ends;
+  leads = λ state s told stands. subst (StandsThen began.held.vault.mapping (hashes_of function)) (sym is) (served_leads function kept.old began started tells with.serves.lines with.serves.backs after with.serves.each state s told stands);
+  ends = with.ends;
 }

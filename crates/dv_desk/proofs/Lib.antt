@@ -4,6 +4,7 @@ pub mod Extracts
 pub mod Floatless
 pub mod JsonRead
 pub mod Led
+pub mod Listed
 pub mod Ports
 pub mod Read
 pub mod Stamped

@@ -1,6 +1,6 @@
 -- How the connections of doors are served, one after another.
 use Rattle.std.specs.Prelude.{◌≡◌, ◌⊎◌, ℕ, ◌≤◌, false, List, Option, Some, None, Result, Ok, Err, codes}
-use Rattle.dv_text.specs.Causes.{Rose}
+use Rattle.dv_text.specs.Causes.{HasCause, Rose}
 use Rattle.dv_text.specs.Keys.{DigestFunction, Hashes, hashes_of}
 use Rattle.dv_text.specs.Told.{Told}
 use Rattle.dv_outside.specs.Ends.{Ends, line_of}
@@ -15,8 +15,8 @@ use Rattle.dv_records.specs.Standing.{Stands}
 use Rattle.dv_records.specs.States.{State}
 use Rattle.dv_restore.specs.Damages.{IsFirstDamage, IsInForm, IsNamedBySome}
 use Rattle.dv_restore.specs.declared.faults.StoreFault.TheVariants as unread
-use Rattle.dv_window.specs.declared.faults.StartFault.{StartFault}
-use Rattle.dv_window.specs.declared.faults.StartFault.TheVariants as faults
+use Rattle.dv_restore.specs.declared.faults.StartFault.{StartFault}
+use Rattle.dv_restore.specs.declared.faults.StartFault.TheVariants as faults
 use Rattle.dv_window.specs.Offices.{Agrees, StandsFor}
 use Rattle.dv_given.specs.Endings.{EndsBy, ending_of_start}
 use Rattle.dv_given.specs.Lines.{read_fault_front}
@@ -64,6 +64,13 @@ pub record Unstarted {L : Type 0} (function : DigestFunction) (old new : Option 
 abbrev pub EndsAs : Result (Unit {0}) Failed → Seen (List ℕ) → Status → Type 0
 EndsAs (Ok done) err result = (result ≡ statuses.Done) × (err.new ≡ err.old)
 EndsAs (Err fault) err result = Ends statuses.ReadFault doors_line err.old err.new err.before err.now result
+
+-- connections were served with an office that was started
+pub record ServesWith {L : Type 0} (function : DigestFunction) (tells : Tells L) (old new : Option (Lines L)) (before now : ℕ) (began after : Moment) (err : Seen (List ℕ)) (result : Status) : Type 0 where
+  pub ended : Result (Unit {0}) Failed
+  pub serves : ServesDoors (IsReplied function) refusal tells old new began after ended
+  pub cause : HasCause before now ended
+  pub ends : EndsAs ended err result
 
 -- the store stands for a state
 abbrev pub StandsThen : Mapping → Hashes → Option Store → Type 0

@@ -1,6 +1,6 @@
 // The bodies of replies that are JSON.
 ghost use Rattle.std.specs.Prelude.{◌≡◌, IfOk, codes, false, map, slice_get};
-ghost use Rattle.serde_json.specs.Data.{array, member, no_members, object, string};
+ghost use Rattle.serde_json.specs.Data.{array, no_members, object, put as with_member, string};
 ghost use Rattle.serde_json.specs.View.{items_of, view};
 ghost use Rattle.serde_json.specs.Written.{compact_text, has_float};
 ghost use Rattle.dv_text.specs.Stamps.{stamp_text};
@@ -9,13 +9,13 @@ ghost use Rattle.dv_desk.specs.Bodies as spec;
 
 use dv_catalog::Catalog;
 use dv_text::{Memory, Stamp, Text, WindowHead};
-use serde_json::{Value, json};
+use serde_json::{Map, Value, json, put};
 use std::alloc::Global;
 
 // The text of a value.
-fn text_of(alloc: Global, value: &Value) -> Result<Text, Memory>
-    requires { has_float (view value.now) ≡ false }
-    ensures { IfOk result (λ text. text ≡ compact_text (view value.now)) }
+fn text_of(alloc: Global, value: Value) -> Result<Text, Memory>
+    requires { has_float (view value) ≡ false }
+    ensures { IfOk result (λ text. text ≡ compact_text (view value)) }
 {
     let text = value.to_string(alloc)?;
     Text::from_vec(text.into_bytes())
@@ -26,14 +26,31 @@ pub(crate) fn answer_body(alloc: Global, name: &str) -> Result<Text, Memory>
     ensures { IfOk result (λ body. body ≡ spec.answer_body name.now) }
 {
     let value = json!(in alloc; {"answer": name})?;
-    text_of(alloc, &value)
+    text_of(alloc, value)
 }
 
-// The name of an answer and a text, as a value.
-fn text_value(alloc: Global, name: &str, text: &str) -> Result<Value, Memory>
-    ensures { IfOk result (λ value. view value ≡ object (member (codes "answer") (string name.now) (member (codes "text") (string text.now) no_members))) }
+// An object of two members.
+fn object_of(
+    alloc: Global,
+    name: &str,
+    first: Value,
+    other: &str,
+    second: Value,
+) -> Result<Value, Memory>
+    ensures { IfOk result (λ value. view value ≡ object (with_member other.now (view second) (with_member name.now (view first) no_members))) }
 {
-    Ok(json!(in alloc; {"answer": name, "text": text})?)
+    let mut members = Map::new(alloc);
+    put(&mut members, alloc, name, first)?;
+    put(&mut members, alloc, other, second)?;
+    Ok(Value::Object(members))
+}
+
+// The name of an answer and what it tells more, as a value.
+fn told_value(alloc: Global, answer: &str, name: &str, more: Value) -> Result<Value, Memory>
+    ensures { IfOk result (λ value. view value ≡ object (with_member name.now (view more) (with_member (codes "answer") (string answer.now) no_members))) }
+{
+    let answer = Value::String(String::from_str(alloc, answer)?);
+    object_of(alloc, "answer", answer, name, more)
 }
 
 /// The name of an answer, and a text.
@@ -41,16 +58,16 @@ pub(crate) fn text_body(alloc: Global, name: &str, text: &[u8]) -> Result<Text, 
     ensures { IfOk result (λ body. body ≡ spec.text_body name.now text.now) }
 {
     let text = String::from_utf8_lossy(alloc, text)?;
-    let value = text_value(alloc, name, text.as_str())?;
-    text_of(alloc, &value)
+    let value = told_value(alloc, name, "text", Value::String(text))?;
+    text_of(alloc, value)
 }
 
 /// A window that was loaded, with the number of its rows.
 pub(crate) fn loaded_body(alloc: Global, rows: u64) -> Result<Text, Memory>
     ensures { IfOk result (λ body. body ≡ spec.loaded_body rows) }
 {
-    let value = json!(in alloc; {"answer": "Loaded", "rows": rows})?;
-    text_of(alloc, &value)
+    let value = told_value(alloc, "Loaded", "rows", Value::from(rows))?;
+    text_of(alloc, value)
 }
 
 // The name of the feed at a place; without bytes where there is no such feed.
@@ -97,7 +114,7 @@ fn head_value(alloc: Global, catalog: &Catalog, head: &WindowHead) -> Result<Val
 {
     let feeds = feeds_value(alloc, catalog, head.feeds.items())?;
     let load = load_value(alloc, head.load)?;
-    Ok(json!(in alloc; {"feeds": feeds, "load": load})?)
+    object_of(alloc, "feeds", feeds, "load", load)
 }
 
 // The sealed windows, as a value.
@@ -132,7 +149,7 @@ fn heads_value(
 {
     let begun = begun_value(alloc, begun)?;
     let windows = sealed_value(alloc, catalog, sealed)?;
-    Ok(json!(in alloc; {"open": begun, "windows": windows})?)
+    object_of(alloc, "open", begun, "windows", windows)
 }
 
 /// The windows: the load date of the open one, and the sealed ones in order.
@@ -145,5 +162,5 @@ pub(crate) fn heads_body(
     ensures { IfOk result (λ body. body ≡ spec.heads_body catalog.now sealed.now begun) }
 {
     let value = heads_value(alloc, catalog, sealed, begun)?;
-    text_of(alloc, &value)
+    text_of(alloc, value)
 }

@@ -6,7 +6,7 @@ use dv_text::{Memory, Text};
 use std::alloc::{AllocError, AllocFailed, Global};
 
 /// Why the JSON of a window was not read: at a place it has not the form that it has to have, or memory ran out.
-#[derive(Debug, Drop)]
+#[derive(Drop)]
 pub(crate) enum Misfit {
     At(Text),
     Memory,

@@ -7,7 +7,9 @@ ghost use Rattle.dv_catalog.specs.Entries.{Mapping};
 ghost use Rattle.dv_records.specs.Standing.{Stands};
 ghost use Rattle.dv_records.specs.States.{State};
 ghost use Rattle.dv_records.specs.declared.stores.Store.{Store};
-ghost use Rattle.dv_desk.specs.Doors.{IsServeCause, ServeCompletes, ServeSays, tells};
+ghost use Rattle.dv_window.specs.Offices.{AgreesUnlessStale};
+ghost use Rattle.dv_desk.specs.Doors.{IsServeCause, ServeCompletes, ServeSays, ServesWith, tells};
+ghost use Rattle.dv_desk.specs.Turns.{moment};
 
 use crate::desks::{Desk, Loading};
 use dv_given::{Ending, READ_FAULT, end_command};
@@ -58,6 +60,32 @@ pub fn serve<D: Doors, K: Keeper, E: Sink, H: KeyDigest, G: Gate>(
     serve_by(alloc, doors, keeper, err, loading)
 }
 
+// The connections of the doors are served with an office that was started.
+fn serve_with<D: Doors, K: Keeper, E: Sink, H: KeyDigest, G: Gate>(
+    alloc: Global,
+    doors: &mut D,
+    office: &mut Office,
+    keeper: &mut K,
+    err: &mut E,
+    loading: Loading<'_, '_, H, G>,
+) -> Status
+    requires agrees { AgreesUnlessStale office.old (K.store keeper.old) }
+    ensures serves { ServesWith H.function (tells D.Line.Link) (D.lines doors.old) (D.lines doors.new) (D.faults doors.old) (D.faults doors.new)
+        (moment K.store K.faults office.old keeper.old) (moment K.store K.faults office.new keeper.new) (seen E.contents E.faults err.old err.new) result }
+    ensures port { D.named doors.new ≡ D.named doors.old }
+    ensures later { E.faults err.old ≤ E.faults err.new }
+{
+    let mut desk = Desk {
+        office,
+        keeper,
+        loading,
+    };
+    match desk.serve_doors(alloc, doors) {
+        Ok(()) => Status::Done,
+        Err(Failed) => end_named(err, READ_FAULT, b"doors", Status::ReadFault),
+    }
+}
+
 // The same by how windows are loaded: nothing is chosen here.
 fn serve_by<D: Doors, K: Keeper, E: Sink, H: KeyDigest, G: Gate>(
     alloc: Global,
@@ -79,13 +107,7 @@ fn serve_by<D: Doors, K: Keeper, E: Sink, H: KeyDigest, G: Gate>(
         Ok(office) => office,
         Err(fault) => return end_command(alloc, err, &Ending::from(fault)),
     };
-    let mut desk = Desk {
-        office: &mut office,
-        keeper,
-        loading,
-    };
-    match desk.serve_doors(alloc, doors) {
-        Ok(()) => Status::Done,
-        Err(Failed) => end_named(err, READ_FAULT, b"doors", Status::ReadFault),
-    }
+    let status = serve_with(alloc, doors, &mut office, keeper, err, loading);
+    office.close();
+    status
 }

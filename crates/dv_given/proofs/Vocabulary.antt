@@ -3,11 +3,13 @@ pub use Rattle.dv_text.proofs.Vocabulary.{Bool, Contains, Contains-get_or, List,
 pub use Rattle.dv_text.proofs.Vocabulary.{take_more, true, ℕ}
 pub use Rattle.dv_text.proofs.Vocabulary.{◌++◌, ◌+◌, ◌<◌, ◌==◌, ◌||◌, ◌∙◌, ◌∷◌, ◌≡◌, ◌≤◌, ◌⊎◌}
 pub use Rattle.dv_catalog.proofs.Vocabulary.{Mapping, first_of, nat_lt, printed}
-pub use Rattle.dv_window.proofs.Vocabulary.{Held, IsIn, Ok, StepsTo, Store, StandsFor, State, accepted, beginning, collides, differs, feed_twice, if_new, late, no_extracts, open_other, outcome, refusal, unknown_feed, vault_full, window_of, window_rule}
+pub use Rattle.dv_records.specs.Outcomes.{accepted, collides, differs, feed_twice, if_new, late, no_extracts, open_other, outcome, refusal, unknown_feed, vault_full}
+pub use Rattle.dv_records.specs.States.{State, beginning}
+pub use Rattle.dv_catalog.specs.Windows.{window_of, window_rule}
 pub use Rattle.dv_records.proofs.Vocabulary.{Hashes, find, min, option_map_or}
 pub use Rattle.dv_mapfile.proofs.Vocabulary.{IfOk, if◌then◌else◌, option_map, read_mapping, string_bytes}
 pub use Rattle.dv_outside.proofs.Vocabulary.{Ends, GotPrefix, Rose, after, append-nil, drop, err_from_is_err_and, file_at, take-append-drop, take_all}
-pub use Rattle.dv_vault.proofs.Vocabulary.{HasSealed, RawVault, Told, drop_all, hashes_of}
+pub use Rattle.dv_vault.proofs.Vocabulary.{HasSealed, Ok, RawVault, Told, drop_all, hashes_of}
 pub use Rattle.dv_mart.proofs.Vocabulary.{IsOffered, decimal, mart_text}
 pub use Rattle.dv_given.specs.Causes.{HasLast, HasRefusal, IsRefusedText, IsUnreadText, Wrote}
 pub use Rattle.dv_given.specs.Endings.{BringEnds, DateEnds, EndsBy, EndsOrMemory, ExtractEnds, ExtractsEnd, FileEnds, FilesEnd, IsBringEnd, IsMappingEnd, IsReadCause, IsTextFor, IsTextOf, MappingEnds, QueryEnds, ReadEnds, TextEnds, ending_of_error, ending_of_start}

@@ -22,8 +22,8 @@ use Rattle.dv_records.specs.declared.keepers.KeeperError.TheVariants as keeper_e
 use Rattle.dv_restore.specs.declared.faults.StoreFault.{StoreFault}
 use Rattle.dv_restore.specs.declared.faults.StoreFault.TheVariants as store_faults
 use Rattle.dv_vault.specs.Vaults.{HasSealed, RawVault}
-use Rattle.dv_window.specs.declared.faults.StartFault.{StartFault}
-use Rattle.dv_window.specs.declared.faults.StartFault.TheVariants as start_faults
+use Rattle.dv_restore.specs.declared.faults.StartFault.{StartFault}
+use Rattle.dv_restore.specs.declared.faults.StartFault.TheVariants as start_faults
 use Rattle.dv_given.specs.declared.endings.Ending.{Ending}
 use Rattle.dv_given.specs.declared.endings.Ending.TheVariants.{BadMapping, NoMapping, OtherMapping, BadQuery, Absent, Unread, Damaged, KeeperFault, Memory, Unwritten}
 use Rattle.dv_given.specs.Given.{absent_line, query_line, read_fault_line, refused_mapping_line}

@@ -11,9 +11,8 @@ use dv_catalog::{MapError, printed};
 use dv_mart::QueryRule;
 use dv_outside::{Sink, Status, end};
 use dv_records::{Damage, KeeperError};
-use dv_restore::StoreFault;
+use dv_restore::{StartFault, StoreFault};
 use dv_text::{Memory, Text};
-use dv_window::StartFault;
 use std::alloc::Global;
 
 /// How a command ends that does not come to its end.

@@ -1,13 +1,11 @@
-use Rattle.std.proofs.Common.{◌≡◌, codes, rules}
-use Rattle.serde_json.specs.Data.{string, number, unsigned, object, member, no_members}
-use Rattle.serde_json.specs.View.{view}
-use Rattle.serde_json.specs.declared.value.Value.{the_lemmas}
-use Rattle.serde_json.proofs.OnLiterals.{serde_json_on_literals}
+use Rattle.std.proofs.Common.{◌∙◌, ap, codes}
+use Rattle.std.proofs.lemmas.Result.{IfOk-weaker}
+use Rattle.serde_json.specs.Written.{compact_text, has_float}
+use Rattle.dv_desk.proofs.BodyTexts.{told, written_rows}
 use Rattle.dv_desk.proofs.bodies.loaded_body.Goals as goal
 
+pub text_of-requires : goal.text_of-requires
+text_of-requires c = ap has_float (c.in_ok-value.ensures ∙ ap (told (codes "rows") (codes "Loaded")) c.from.ensures)
+
 pub returns : goal.returns
-unfolding serde_json_on_literals
-returns c =
-    let built : view c.in_ok-value.value ≡ object (member (codes "answer") (string (codes "Loaded")) (member (codes "rows") (number (unsigned c.args.rows)) no_members)) =
-    search (rules, the_lemmas) in
-    search rules
+returns c = IfOk-weaker c.text_of.result _ _ (λ s e. e ∙ ap compact_text (c.in_ok-value.ensures ∙ ap (told (codes "rows") (codes "Loaded")) c.from.ensures) ∙ written_rows c.args.rows) c.text_of.ensures

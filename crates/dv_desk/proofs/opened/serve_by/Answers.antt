@@ -1,8 +1,8 @@
 use Rattle.std.specs.Prelude.{Err}
-use Rattle.std.proofs.Common.{ap, inl, inr, refl, rules, ◌∙◌}
+use Rattle.std.proofs.Common.{ap, inl, inr, refl, ◌∙◌}
 use Rattle.dv_outside.specs.Seen.{seen}
-use Rattle.dv_desk.specs.Desks.{moment_of}
-use Rattle.dv_desk.proofs.DoorEnds.{fault_is, unstarted_cause, unstarted_damaged}
+use Rattle.dv_desk.specs.Turns.{moment}
+use Rattle.dv_desk.proofs.DoorEnds.{fault_is, served_cause, served_undamaged, unstarted_cause, unstarted_damaged}
 use Rattle.dv_desk.proofs.Led.{served_doors}
 use Rattle.dv_desk.proofs.opened.serve_by.Goals as goal
 
@@ -24,21 +24,12 @@ returns-in-Err-clause-says g c = inl (record {
 pub returns-in-Err-clause-cause : goal.returns-in-Err-clause-cause
 returns-in-Err-clause-cause g c = unstarted_cause _ _ (seen g.K.Keeper.store g.K.Keeper.faults c.args.keeper.now c.start.new.keeper) _ c.end_command.result c.in-Err.fault (λ e. c.in-Err.ensures.cause (ap Err e)) (rw c.from.ensures at c.end_command.ensures.says)
 
-pub returns-in-Ok-serve_doors-clause-says : goal.returns-in-Ok-serve_doors-clause-says
-returns-in-Ok-serve_doors-clause-says g c = inr (served_doors g.H.KeyDigest.function _ _ _ _ _ _
-    (record { held = c.in-Ok.office; store = g.K.Keeper.store c.start.new.keeper; faults = g.K.Keeper.faults c.start.new.keeper }) (moment_of g.K.Keeper c.serve_doors.new.self) c.serve_doors.result
-    (record {
-      store_is = c.start.ensures.store;
-      fresh = c.in-Ok.ensures.fresh;
-      width_is = c.in-Ok.ensures.width;
-      agrees = λ s told. c.in-Ok.ensures.agrees s (c.start.ensures.store ∙ told);
-      in_form = c.in-Ok.ensures.in_form;
-      stands = c.in-Ok.ensures.stands;
-    }) (search rules) c.start.ensures.later (search rules) c.serve_doors.ensures.serves (rw c.in-Ok-serve_doors.is (refl, refl)))
+pub serve_with-status-requires-clause-agrees : goal.serve_with-status-requires-clause-agrees
+serve_with-status-requires-clause-agrees g c = λ lifetimes outlive fresh. c.in-Ok.ensures.agrees
 
 pub returns-clause-says : goal.returns-clause-says
-returns-clause-says g c = inr (served_doors g.H.KeyDigest.function _ _ _ _ _ _
-    (record { held = c.in-Ok.office; store = g.K.Keeper.store c.start.new.keeper; faults = g.K.Keeper.faults c.start.new.keeper }) (moment_of g.K.Keeper c.serve_doors.new.self) c.serve_doors.result
+returns-clause-says g c = inr (served_doors g.H.KeyDigest.function _ _ _ _ _ _ _ _
+    (moment g.K.Keeper.store g.K.Keeper.faults c.in-Ok.office c.start.new.keeper) (moment g.K.Keeper.store g.K.Keeper.faults c.serve_with-status.new.office c.serve_with-status.new.keeper)
     (record {
       store_is = c.start.ensures.store;
       fresh = c.in-Ok.ensures.fresh;
@@ -46,4 +37,10 @@ returns-clause-says g c = inr (served_doors g.H.KeyDigest.function _ _ _ _ _ _
       agrees = λ s told. c.in-Ok.ensures.agrees s (c.start.ensures.store ∙ told);
       in_form = c.in-Ok.ensures.in_form;
       stands = c.in-Ok.ensures.stands;
-    }) (search rules) c.start.ensures.later (search rules) c.serve_doors.ensures.serves (rw c.in-Err-serve_doors.is c.end_named.ensures.says))
+    }) refl c.start.ensures.later refl c.serve_with-status.ensures.serves)
+
+pub returns-clause-cause : goal.returns-clause-cause
+returns-clause-cause g c = served_cause _ _ _ _ (seen g.K.Keeper.store g.K.Keeper.faults c.args.keeper.now c.serve_with-status.new.keeper) c.serve_with-status.ensures.serves.ended c.serve_with-status.ensures.serves.cause c.serve_with-status.ensures.serves.ends
+
+pub returns-clause-sound : goal.returns-clause-sound
+returns-clause-sound g c = λ damaged. absurd (served_undamaged _ _ c.serve_with-status.ensures.serves.ended c.serve_with-status.ensures.serves.ends damaged)

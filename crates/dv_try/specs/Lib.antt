@@ -1,5 +1,0 @@
-pub mod Causes
-pub mod Loadings
-pub mod NullKeepers
-pub mod Says
-pub mod Tried
