@@ -1,5 +1,5 @@
 -- What is said of a query, and what comes of a command that writes its text.
-use Rattle.std.specs.Prelude.{◌≡◌, ℕ, true, List, Option, Some, None, Result, Ok, Err, IfOk, IfErr, option_map, option_to_list, take}
+use Rattle.std.specs.Prelude.{◌≡◌, ℕ, true, List, Option, Some, None, Result, Ok, Err, IfOk, IfErr, option_map, option_to_list}
 use Rattle.std.specs.List.{Contains}
 use Rattle.std.proofs.Common.{ap, arith, inl, refl, subst, sym, ◌∙◌}
 use Rattle.dv_text.specs.Keys.{DigestFunction, Hashes, hashes_of}
@@ -19,7 +19,8 @@ use Rattle.dv_records.specs.Standing.{Stands}
 use Rattle.dv_records.specs.States.{State, head_of}
 use Rattle.dv_records.specs.Stores.{rows_in}
 use Rattle.dv_restore.specs.Completions.{rows_there}
-use Rattle.dv_restore.specs.declared.restored.Begun.{Begun}
+use Rattle.dv_vault.specs.declared.begun.Begun.{Begun}
+use Rattle.dv_vault.specs.Additions.{opened_in}
 use Rattle.dv_vault.specs.Vaults.{HasSealed, IsVaultOf, RawVault, has_table}
 use Rattle.dv_vault.proofs.OtherTables.{with_has}
 use Rattle.dv_vault.proofs.VaultFacts.{vault_has}
@@ -121,7 +122,7 @@ module _ (office : Held) (word date : List ℕ) where
 -- a table of the mapping is among those of the vault, also with the rows of the open window behind them
 pub has_there : (table : TableId) (raw : RawVault) (begun : Option Begun) → IsVaultOf raw.mapping raw.tables → Contains (tables raw.mapping) table → has_table table (rows_there raw begun) ≡ true
 has_there table raw None is has = vault_has raw.mapping raw.tables is table has
-has_there table raw (Some begun) is has = with_has table raw.tables (take begun.there begun.addition.batches) ∙ vault_has raw.mapping raw.tables is table has
+has_there table raw (Some begun) is has = with_has table raw.tables (opened_in begun.parts.items) ∙ vault_has raw.mapping raw.tables is table has
 
 -- rows and those behind them, as both crates say it
 pub same_behind : (rows : Rows) (more : Option Rows) → behind_in_marts rows more ≡ behind_in_windows rows more

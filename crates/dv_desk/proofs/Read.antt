@@ -1,6 +1,6 @@
 -- What is read of an office is what is due in the state that it stands for, and by its store.
 use Rattle.std.specs.List.{Contains, list_any}
-use Rattle.std.specs.Prelude.{◌≡◌, ◌↔◌, ◌≤◌, ℕ, ◌==◌, Bool, true, false, List, None, Option, Some, Result, Ok, Err, IfOk, IfSome, IsErrOf, if◌then◌else◌, take}
+use Rattle.std.specs.Prelude.{◌≡◌, ◌↔◌, ◌≤◌, ℕ, ◌==◌, Bool, true, false, List, None, Option, Some, Result, Ok, Err, IfOk, IfSome, IsErrOf, if◌then◌else◌}
 use Rattle.std.proofs.Common.{ap, arith, inl, inr, refl, subst, sym, ◌∙◌}
 use Rattle.dv_text.proofs.Passing.{find_none, list_any-map, none_found_at, none_pass, none_passes}
 use Rattle.dv_text.specs.declared.rows.Window.{Window}
@@ -32,7 +32,8 @@ use Rattle.dv_snapshots.specs.declared.stored.StoredFault.{StoredFault}
 use Rattle.dv_snapshots.specs.declared.stored.StoredFault.TheVariants as stored
 use Rattle.dv_snapshots.specs.StoredRows.{head_at}
 use Rattle.dv_snapshots.specs.StoredTexts.{AreInNoState, IsRowOf, IsStoredDamage, table_text as snap_text}
-use Rattle.dv_restore.specs.declared.restored.Begun.{Begun}
+use Rattle.dv_vault.specs.declared.begun.Begun.{Begun}
+use Rattle.dv_vault.specs.Additions.{opened_in}
 use Rattle.dv_restore.specs.Completions.{rows_there}
 use Rattle.dv_print.specs.TableTexts.{table_text}
 use Rattle.dv_print.specs.Texts.{pit_text}
@@ -118,7 +119,7 @@ named_there mapping name (Err e) is = tt
 -- a table of the mapping is among those of the vault, also with the rows of the open window behind them
 pub has_there : (table : TableId) (raw : RawVault) (begun : Option Begun) → IsVaultOf raw.mapping raw.tables → Contains (tables raw.mapping) table → has_table table (rows_there raw begun) ≡ true
 has_there table raw None is has = vault_has raw.mapping raw.tables is table has
-has_there table raw (Some begun) is has = with_has table raw.tables (take begun.there begun.addition.batches) ∙ vault_has raw.mapping raw.tables is table has
+has_there table raw (Some begun) is has = with_has table raw.tables (opened_in begun.parts.items) ∙ vault_has raw.mapping raw.tables is table has
 
 -- rows and those behind them, as both crates say it
 pub same_behind : (rows : TableRows) (more : Option TableRows) → behind_in_marts rows more ≡ behind_in_windows rows more

@@ -20,7 +20,7 @@ missing_keys mapping (hub ∷ hubs) =
     let parts = parts_of (slice_get mapping.hubs hub) in
     and_from _ _ (and_from _ _ (eq-eqb _ _ (length-replicate parts [])) (all_pass_replicate (λ (part : List ℕ). nat_le (length part) 4096) parts [] refl)) (missing_keys mapping hubs)
 
-all_missing : (mapping : Mapping) (hubs : List ℕ) → list_all is_missing (map (missing_key mapping) hubs) ≡ true
+pub all_missing : (mapping : Mapping) (hubs : List ℕ) → list_all is_missing (map (missing_key mapping) hubs) ≡ true
 all_missing mapping [] = refl
 all_missing mapping (hub ∷ hubs) = and_from _ _ (all_pass_replicate (λ (part : List ℕ). length part == 0) (parts_of (slice_get mapping.hubs hub)) [] refl) (all_missing mapping hubs)
 

@@ -118,22 +118,22 @@ module _ (mapping : Mapping) (link : ℕ) where
         declared : hub < length mapping.hubs
         declared = ltb-true hub (length mapping.hubs) known
 
-        apart : IsApart hashes (hashed_refs mapping (reverse tell.named) (Hub hub))
-        apart = (collision_free mapping hashes (reverse tell.named) (Hub hub)).0 (tell.are.apart hub declared)
+        apart : IsApart hashes (hashed_refs mapping (reverse (tell.named hub)) (Hub hub))
+        apart = (collision_free mapping hashes (reverse (tell.named hub)) (Hub hub)).0 (tell.apart hub declared)
 
-        named : (k : Key) (o : Option Key) → key_with (hashes.hash (k ∷ [])) (appended (hub_batch mapping hashes hub) (reverse (reverse tell.named))) ≡ o → key_named hub (hashes.hash (k ∷ [])) names ≡ o
-        named k o e = tell.are.of_rows hub (hashes.hash (k ∷ [])) declared ∙ ap (λ ws. key_with (hashes.hash (k ∷ [])) (appended (hub_batch mapping hashes hub) ws)) (sym (reverse-reverse tell.named)) ∙ e
+        named : (k : Key) (o : Option Key) → key_with (hashes.hash (k ∷ [])) (appended (hub_batch mapping hashes hub) (reverse (reverse (tell.named hub)))) ≡ o → key_named hub (hashes.hash (k ∷ [])) names ≡ o
+        named k o e = tell.of_rows hub (hashes.hash (k ∷ [])) declared ∙ ap (λ ws. key_with (hashes.hash (k ∷ [])) (appended (hub_batch mapping hashes hub) ws)) (sym (reverse-reverse (tell.named hub))) ∙ e
 
         by : (t : Bool) → is_missing key ≡ t → key_under mapping names hub (hashes.hash (key ∷ [])) ≡ key
         by false e =
             let offered : is_offered mapping (Hub hub) window (key ∷ []) ≡ true = is_offered-member mapping (Hub hub) window (key ∷ []) (key_offered window refs is hub key has e) in
-            let brought = some_passes_at (λ (w : Window). is_offered mapping (Hub hub) w (key ∷ [])) tell.named window (tell.among window window_in) offered in
-            let (row, found, same) = key_found mapping hashes (reverse tell.named) hub apart key (subst (λ ws. is_known mapping (Hub hub) ws (key ∷ []) ≡ true) (sym (reverse-reverse tell.named)) brought) in
+            let brought = some_passes_at (λ (w : Window). is_offered mapping (Hub hub) w (key ∷ [])) (tell.named hub) window (tell.among hub window window_in) offered in
+            let (row, found, same) = key_found mapping hashes (reverse (tell.named hub)) hub apart key (subst (λ ws. is_known mapping (Hub hub) ws (key ∷ []) ≡ true) (sym (reverse-reverse (tell.named hub))) brought) in
             ap (key_or (missing_key mapping hub)) (named key (Some key) (ap (option_map (λ (r : HubRow). r.key)) found ∙ ap Some same))
         by true e =
             let is = the_missing mapping hub key fits e in
             subst (λ k. key_under mapping names hub (hashes.hash (k ∷ [])) ≡ k) (sym is)
-            (ap (key_or (missing_key mapping hub)) (named (missing_key mapping hub) None (ap (option_map (λ (r : HubRow). r.key)) (missing_unfound mapping hashes (reverse tell.named) hub apart))))
+            (ap (key_or (missing_key mapping hub)) (named (missing_key mapping hub) None (ap (option_map (λ (r : HubRow). r.key)) (missing_unfound mapping hashes (reverse (tell.named hub)) hub apart))))
 
     -- a list that windows bring is told
     pub list_told : (refs : List Key) → is_known mapping (Link link) windows refs ≡ true → keys_under mapping names (parent_hubs mapping (Link link)) (each_hash hashes refs) ≡ refs

@@ -29,7 +29,7 @@ pub use Rattle.dv_hub_link.specs.HubDeltas.{AreHubItems, IsHeld, IsHubItem, IsNe
 pub use Rattle.dv_hub_link.specs.ItemTests.{are_apart, are_items, is_alone, is_item, is_table_of}
 pub use Rattle.dv_hub_link.specs.Items.{AreItems, IsItem, are_keys_of, is_key_of, is_parent_table, missing_key}
 pub use Rattle.dv_hub_link.specs.KeyDeltas.{delta, lists_of, new_row, row_cmp}
-pub use Rattle.dv_hub_link.specs.LinkDeltas.{AreLinkItems, AreNames, TellLists, key_with, link_delta, link_hashed}
+pub use Rattle.dv_hub_link.specs.LinkDeltas.{AreLinkItems, TellLists, key_with, link_delta, link_hashed}
 pub use Rattle.dv_hub_link.specs.LinkLists.{are_of_links, hubs_in, hubs_of, is_of_link, key_or, key_under, keys_under, stored}
 pub use Rattle.dv_hub_link.specs.NewLists.{all_hashed, is_new, is_new_beside, kept, new_beside, new_item, new_lists}
 pub use Rattle.dv_hub_link.specs.NewRows.{hub_row_of, link_row}

@@ -47,17 +47,13 @@ link_hashed mapping hashes names rows items = brought mapping hashes items ++ st
 abbrev pub key_with : List ℕ → List HubRow → Option Key
 key_with digest rows = option_map (λ row. row.key) (find (λ row. bytes_eq row.digest digest) rows)
 
--- the names of hubs are those of their rows after windows, which don't collide in any hub
-pub record AreNames (mapping : Mapping) (hashes : Hashes) (names : List HubName) (windows : List Window) : Type 0 where
-  pub of_rows : (hub : ℕ) (digest : List ℕ) → hub < length mapping.hubs → key_named hub digest names ≡ key_with digest (appended (hub_batch mapping hashes hub) windows)
-  pub apart : (hub : ℕ) → hub < length mapping.hubs → collision_in mapping hashes (reverse windows) (Hub hub) ≡ None
-
--- the names of hubs tell the reference lists of windows of a valid mapping: they are those of the hubs' rows after
--- windows of which these are some
+-- the names of hubs tell the reference lists of windows of a valid mapping: those of each hub are those of its rows after
+-- windows of which these are some, and which don't collide in it
 pub record TellLists (mapping : Mapping) (hashes : Hashes) (names : List HubName) (windows : List Window) : Type 0 where
-  pub named : List Window
-  pub among : (window : Window) → Contains windows window → Contains named window
-  pub are : AreNames mapping hashes names named
+  pub named : ℕ → List Window
+  pub among : (hub : ℕ) (window : Window) → Contains windows window → Contains (named hub) window
+  pub of_rows : (hub : ℕ) (digest : List ℕ) → hub < length mapping.hubs → key_named hub digest names ≡ key_with digest (appended (hub_batch mapping hashes hub) (named hub))
+  pub apart : (hub : ℕ) → hub < length mapping.hubs → collision_in mapping hashes (reverse (named hub)) (Hub hub) ≡ None
   pub valid : is_valid mapping ≡ true
   pub whole : list_all (is_window mapping) windows ≡ true
 

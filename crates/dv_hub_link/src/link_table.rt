@@ -1,4 +1,4 @@
-ghost use Rattle.std.specs.Prelude.{◌≡◌, ◌≤◌, ◌∷◌, ◌++◌, [], ℕ, List as list_of, None, IfOk, IsTrue, OnOk, length, nat_le, option_map, reverse};
+ghost use Rattle.std.specs.Prelude.{◌≡◌, ◌≤◌, ◌∷◌, ◌++◌, [], ℕ, List as list_of, None, IfOk, IsTrue, OnOk, length, map, nat_le, option_map, reverse};
 ghost use Rattle.std.specs.List.{list_all};
 ghost use Rattle.dv_text.specs.Keys.{hashes_of};
 ghost use Rattle.dv_text.specs.declared.rows.Window.{Window};
@@ -105,6 +105,13 @@ impl LinkTable {
     {
         let row = self.held.row(d)?;
         Some(&row.hubs)
+    }
+
+    /// Of each of these digests its row, in their order; none exactly where no row has it. One walk over the index.
+    pub fn rows_of(&self, digests: &[Digest]) -> Result<Vec<Option<&LinkRow>>, Memory>
+        ensures { IfOk result (λ found. map (option_map (λ row. row.now)) found.items ≡ map (λ d. spec.row_with d self.now.rows) digests.now) }
+    {
+        self.held.rows_of(digests)
     }
 
     /// Makes room for so many more rows. The rows stay as they are, also for want of memory.

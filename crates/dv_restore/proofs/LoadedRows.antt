@@ -78,17 +78,17 @@ feed_stamped load feed batch stamped older newest row = by (extract_of feed newe
     by (Some extract) e has = stamped (history feed older) extract row has ∙ extract-load feed newest extract e
 
 module _ (hashes : Hashes) (source : List ℕ) (older : List Extract) (newest : Extract) where
-  sat_stamped : (row : SatRow) → Contains (sat_batch hashes source older newest) row → row.load ≡ newest.load
+  pub sat_stamped : (row : SatRow) → Contains (sat_batch hashes source older newest) row → row.load ≡ newest.load
   sat_stamped =
       batch_stamped (λ (row : SatRow). row.load) sat_cmp (sat_row hashes source older newest) newest.load
       (λ of row gives. ap (λ (row : SatRow). row.load) (sym (if_so (is_changed older newest of.refs) _ row gives))) newest.rows
 
-  status_stamped : (row : StatusRow) → Contains (status_batch hashes source older newest) row → row.load ≡ newest.load
+  pub status_stamped : (row : StatusRow) → Contains (status_batch hashes source older newest) row → row.load ≡ newest.load
   status_stamped =
       batch_stamped (λ (row : StatusRow). row.load) status_cmp (status_row hashes source older newest) newest.load
       (λ refs row gives. let (code, found, made) = made_of _ (code_of older newest refs) row gives in ap (λ (row : StatusRow). row.load) (sym made)) (all_refs (newest_rows older) ++ all_refs newest.rows)
 
-  effect_stamped : (row : EffectRow) → Contains (effect_batch hashes source older newest) row → row.load ≡ newest.load
+  pub effect_stamped : (row : EffectRow) → Contains (effect_batch hashes source older newest) row → row.load ≡ newest.load
   effect_stamped =
       batch_stamped (λ (row : EffectRow). row.load) effect_cmp (effect_row hashes source older newest) newest.load
       (λ refs row gives. let (span, found, made) = made_of _ (span_between newest.load (run_begin older refs) (delivers newest.rows refs)) row gives in ap (λ (row : EffectRow). row.load) (sym made))

@@ -1,5 +1,5 @@
 -- Damage names a place and a rule that there may be, whatever is stored.
-use Rattle.dv_store_rules.proofs.Vocabulary.{◌≡◌, ◌≤◌, ◌+◌, ◌&&◌, ℕ, Bool, true, false, List, [], ◌∷◌, ◌++◌, Option, Some, None, length, map, list_all, nat_le, first_of, option_or, option_map, and_parts, made_of, arith, refl, sym, subst}
+use Rattle.dv_store_rules.proofs.Vocabulary.{◌≡◌, ◌≤◌, ◌+◌, ◌&&◌, ℕ, Bool, true, false, List, [], ◌∷◌, ◌++◌, Option, Some, None, length, map, list_all, nat_le, first_of, option_or, option_map, and_parts, made_of, arith, refl, subst}
 use Rattle.dv_store_rules.proofs.Vocabulary.{Known, Mapping, TableId, flaw_in, flaw_behind, first_flaw, first_along, if_broken, codes, table_name, HubRow, LinkRow, StatusRow, inl, inr, Rows, Hubs, Links, Sats, Multis, Statuses, Effects}
 use Rattle.std.proofs.Common.{rules}
 use Rattle.std.specs.Prelude.{IfSome}

@@ -1,6 +1,11 @@
 -- The rows of tables in which no row breaks a rule have load dates of the heads that are known.
 use Rattle.dv_store_rules.proofs.Vocabulary.{Bool, List, None, Option, [], and_from, and_parts, append_assoc, first_along, flaw_behind, if_broken, list_all, list_any, map, none_before_map, option_or, or_none, refl, some_passes, some_passes_at, sym, true, ℕ}
-use Rattle.dv_store_rules.proofs.Vocabulary.{Hashes, Mapping, Window, head_of, option_to_list, subst}
+use Rattle.dv_store_rules.proofs.Vocabulary.{Contains-nil, Hashes, Mapping, Window, ap, bytes_eq, false, head_of, inl, inr, not, option_to_list, subst}
+use Rattle.dv_vault.proofs.Vocabulary.{Contains-cons_cases, not-true}
+use Rattle.dv_records.specs.Hubs.{link_cmp}
+use Rattle.dv_store_rules.specs.FormRules.{are_references, follows, is_light, is_link_row, is_new_digest, is_source, zero_key}
+use Rattle.dv_catalog.specs.FirstOf.{first_of}
+use Rattle.dv_restore.specs.Begins.{HaveNoZeroLinks}
 use Rattle.dv_store_rules.proofs.Vocabulary.{Known, Rows, TableId, TableRows, flaw_in, is_delivered, is_loaded, is_of_kind, ◌&&◌, ◌++◌, ◌==◌, ◌∙◌, ◌∷◌, ◌≡◌}
 use Rattle.dv_text.specs.declared.rows.WindowHead.{WindowHead}
 use Rattle.dv_catalog.specs.declared.tables.TableId.TheVariants.{Hub, Link, Sat, Multi, Status, Effect}
@@ -21,13 +26,17 @@ use Rattle.dv_restore.specs.Readings.{AreInForm}
 second : {R : Type 0} (a b rest : Option R) → option_or a (option_or b rest) ≡ None → b ≡ None
 second a b rest none = (or_none b rest (or_none a (option_or b rest) none).1).0
 
+-- and the fourth
+fourth : {R : Type 0} (a b c d rest : Option R) → option_or a (option_or b (option_or c (option_or d rest))) ≡ None → d ≡ None
+fourth a b c d rest none = second c d rest (or_none b (option_or c (option_or d rest)) (or_none a (option_or b (option_or c (option_or d rest))) none).1).1
+
 -- a window that has a feed is there
 delivered_loaded : (heads : List WindowHead) (feed load : ℕ) → is_delivered heads feed load ≡ true → is_loaded heads load ≡ true
 delivered_loaded heads feed load e =
     let (head, member, is) = some_passes (λ (head : WindowHead). (head.load == load) && list_any (λ other. other == feed) head.feeds) heads e in
     some_passes_at (λ (head : WindowHead). head.load == load) heads head member (and_parts (head.load == load) (list_any (λ other. other == feed) head.feeds) is).0
 
-module _ {R : Type 0} (rule_of : List R → R → Option ℕ) (load_of : R → ℕ) (test : ℕ → Bool) (each : (before : List R) (row : R) → rule_of before row ≡ None → test (load_of row) ≡ true) where
+module _ {R X : Type 0} (rule_of : List R → R → Option ℕ) (load_of : R → X) (test : X → Bool) (each : (before : List R) (row : R) → rule_of before row ≡ None → test (load_of row) ≡ true) where
   all_along : (before rows : List R) → first_along (flaw_behind rule_of) before rows ≡ None → list_all test (map load_of rows) ≡ true
   all_along before [] none = refl
   all_along before (row ∷ rows) none =
@@ -57,6 +66,22 @@ module _ (known : Known) where
       all_along (effect_rule known feed) (λ (row : EffectRow). row.load) is_known (λ before row none. delivered_known feed row.load (second _ _ _ none)) [] rows none
   loads_known table rows kind none = cc
 
+  -- no row of a link stands under the zero key
+  digest_known : (link : ℕ) (before : List LinkRow) (row : LinkRow) → link_rule known link before row ≡ None → not (bytes_eq row.digest (zero_key known.width)) ≡ true
+  digest_known link before row none =
+      held 7 (not (bytes_eq row.digest (zero_key known.width)))
+      (fourth (if_broken 4 (is_link_row known link row)) (if_broken 5 (is_loaded known.heads row.load)) (if_broken 6 (follows (λ (other : LinkRow). other.load) link_cmp before row)) (if_broken 7 (not (bytes_eq row.digest (zero_key known.width))))
+      (first_of (if_broken 8 (is_source known.mapping row.source) ∷ if_broken 9 (are_references known link row.hubs) ∷ if_broken 10 (is_new_digest (λ (other : LinkRow). other.digest) before row.digest) ∷ if_broken 13 (is_light known (Links (before ++ row ∷ []))) ∷ [])) none)
+
+  none_zero : (rows : List LinkRow) → list_all (λ digest. not (bytes_eq digest (zero_key known.width))) (map (λ (row : LinkRow). row.digest) rows) ≡ true → list_any (λ row. bytes_eq row.digest (zero_key known.width)) rows ≡ false
+  none_zero [] all = refl
+  none_zero (row ∷ rows) all =
+      let (here, behind) = and_parts (not (bytes_eq row.digest (zero_key known.width))) (list_all (λ digest. not (bytes_eq digest (zero_key known.width))) (map (λ (row : LinkRow). row.digest) rows)) all in
+      rw (not-true (bytes_eq row.digest (zero_key known.width)) here) (none_zero rows behind)
+
+  links_known : (link : ℕ) (rows : List LinkRow) → flaw_in known (Link link) (Links rows) ≡ None → list_any (λ row. bytes_eq row.digest (zero_key known.width)) rows ≡ false
+  links_known link rows none = none_zero rows (all_along (link_rule known link) (λ (row : LinkRow). row.digest) (λ digest. not (bytes_eq digest (zero_key known.width))) (digest_known link) [] rows none)
+
 -- tables are of their kinds
 abbrev pub are_of_kinds : List TableRows → Bool
 are_of_kinds entries = list_all (λ entry. is_of_kind entry.table entry.rows) entries
@@ -71,6 +96,19 @@ module _ (known : Known) (entries : List TableRows) (in_form : AreInForm known e
 
   pub all_loaded : are_of_kinds entries ≡ true → are_loaded known.heads entries ≡ true
   all_loaded kinds = tables_along [] entries refl kinds
+
+  links_along : (before rest : List TableRows) → entries ≡ before ++ rest → HaveNoZeroLinks known.width rest
+  links_along before [] e link rows has = absurd (Contains-nil _ has)
+  links_along before (entry ∷ rest) e link rows has =
+      elim (Contains-cons_cases entry rest (record { table = Link link; rows = Links rows }) has) [
+        | inl same ↦
+            links_known (record known { tables = before }) link rows
+            (ap (λ (entry : TableRows). flaw_in (record known { tables = before }) entry.table entry.rows) (sym same) ∙ in_form before entry rest e)
+        | inr more ↦ links_along (before ++ entry ∷ []) rest (e ∙ sym (append_assoc before (entry ∷ []) rest)) link rows more
+      ]
+
+  pub no_zero_links : HaveNoZeroLinks known.width entries
+  no_zero_links = links_along [] entries refl
 
 -- all rows of tables have load dates of the heads of sealed windows and the open one
 pub loaded_by : (mapping : Mapping) (hashes : Hashes) (width : ℕ) (heads : List WindowHead) (stage next : Option Window) (entries : List TableRows)

@@ -19,21 +19,22 @@ use Rattle.dv_records.specs.Backwards.{Backwards, with_newest}
 use Rattle.dv_records.specs.Outcomes.{full_at, late_after}
 use Rattle.dv_records.specs.Standing.{HasTables, Stands, TablesStand}
 use Rattle.dv_records.specs.States.{State, all_windows, are_dates_valid, is_valid_state, last_load}
-use Rattle.dv_records.specs.Vault.{partial, table_batch}
+use Rattle.dv_records.specs.Vault.{partial}
 use Rattle.dv_records.specs.declared.answers.Damage.{Damage}
-use Rattle.dv_vault.proofs.AddedBatches.{added_is_batch}
-use Rattle.dv_vault.proofs.AddedWindows.{full_with, last_same}
-use Rattle.dv_vault.proofs.Afterwards.{vault_reached}
-use Rattle.dv_vault.specs.Additions.{AreApart, all_added}
-use Rattle.dv_vault.specs.Vaults.{HasSealed, RawVault, entries_with, last_head}
+use Rattle.dv_vault.proofs.Afterwards.{loaded_batches, vault_with}
+use Rattle.dv_vault.proofs.BegunParts.{at_whole, same_parts}
+use Rattle.dv_vault.proofs.Vocabulary.{All, ArePartsOf, Fits, HasNoClash, HasSealed, IfSome, IsBegunBehind, RawVault, Rows, added_to, entries_with, hub_names, opened_in, parts_at, rest_in, row_count, rows_weight, sum_by, tables_there, tables_weight, weight_with, whole_in, window_batches}
+use Rattle.dv_restore.proofs.AllApart.{partly_apart}
+use Rattle.dv_restore.proofs.HeldBatches.{partly_added}
 use Rattle.dv_restore.proofs.LoadedRows.{rows_left}
+use Rattle.dv_restore.proofs.OpenParts.{all_counted, partly_opened, partly_weighs}
 use Rattle.dv_restore.proofs.StoredTables.{read_partial, read_vault}
-use Rattle.dv_restore.proofs.VaultsApart.{vault_is_apart}
-use Rattle.dv_restore.specs.Completions.{IsBegunAs, MayBeCompleted, MayGoOn}
+use Rattle.dv_restore.specs.Begins.{HasPlace, compared_in}
+use Rattle.dv_restore.specs.Completions.{IsBegunAs, IsBegunOf, IsOpenBehind, MayGoOn, rows_there}
 use Rattle.dv_restore.specs.Damages.{BreaksRule, IsFirstDamage, IsInForm, IsNotRead, IsReadAs, KeepsF15}
 use Rattle.dv_restore.specs.Restored.{IsOfState, heads_of_state}
-use Rattle.dv_restore.specs.Sealed.{sealed_entry, sealed_of}
-use Rattle.dv_restore.specs.declared.restored.Begun.{Begun}
+use Rattle.dv_restore.specs.Sealed.{sealed_entry, sealed_of, stored_vault}
+use Rattle.dv_vault.specs.declared.begun.Begun.{Begun}
 
 -- ---- the vault of the sealed windows
 
@@ -116,28 +117,58 @@ module _ (mapping : Mapping) (hashes : Hashes) (store : Store) (sealed : List Wi
   whole : is_window mapping window ≡ true
   whole = passes_at (is_window mapping) (sealed ++ window ∷ []) window (parts_of_valid mapping hashes (sealed ++ window ∷ []) valid).whole (item_in sealed window [])
 
-  apart : AreApart hashes (sealed_of mapping store) window
-  apart = vault_is_apart hashes sealed raw has valid_mapping window (parts_of_valid mapping hashes (sealed ++ window ∷ []) valid).apart
-
   late : late_after (last_load sealed) window.load ≡ None
   late = not_late sealed window.load (all_earlier mapping hashes sealed window valid)
 
-  late_behind : late_after (last_head store.windows) window.load ≡ None
-  late_behind = ap (λ (last : Option ℕ). late_after last window.load) (ap last_head has.heads_are ∙ sym (last_same sealed)) ∙ late
+  -- with the rows of the window that are there it has a place
+  module _ (k : ℕ) (stand : HasTables store (partial mapping hashes sealed window k)) where
+    read : stored_entries store (tables mapping) ≡ partial mapping hashes sealed window k
+    read = read_partial mapping hashes store sealed window k stand
 
-  may_complete : (k : ℕ) → k ≤ length (tables mapping) → HasTables store (partial mapping hashes sealed window k) → MayBeCompleted hashes (sealed_of mapping store) (stored_entries store (tables mapping)) window
-  may_complete k within stand =
-      let parts = parts_of_valid mapping hashes (sealed ++ window ∷ []) valid in
-      let batches : all_added hashes raw window ≡ map (λ table. table_batch mapping hashes table (backwards sealed) window) (tables mapping) = added_is_batch hashes sealed raw has valid_mapping window whole late apart in
-      let counts = length-append sealed (window ∷ []) in
-      record {
-        apart = apart;
-        room = full_with hashes sealed raw has valid_mapping window whole late_behind apart ∙ not_full (vault_weight mapping hashes (sealed ++ window ∷ [])) (length sealed) parts.light (omega (arith, counts, parts.few));
-        there = k;
-        within = subst (λ n. k ≤ n) (sym (ap length has.tables_are ∙ length-map (tables mapping) (table_entry mapping hashes (backwards sealed)))) within;
-        entries_are = read_partial mapping hashes store sealed window k stand
-            ∙ sym ((λ i. entries_with (has.tables_are i) (take k (batches i))) ∙ vault_reached mapping hashes sealed window k);
-      }
+    lacking : map (added_to mapping hashes window) (partial mapping hashes sealed window k) ≡ rest_in (parts_at k (window_batches mapping hashes sealed window))
+    lacking =
+        partly_added mapping hashes sealed window valid_mapping has.valid valid whole late (parts_of_valid mapping hashes (sealed ++ window ∷ []) valid).apart k
+
+    pub has_place : HasPlace hashes (stored_vault mapping store) window
+    has_place =
+        let parts = parts_of_valid mapping hashes (sealed ++ window ∷ []) valid in
+        let counts = length-append sealed (window ∷ []) in
+        let weight : weight_with hashes (stored_vault mapping store) window ≡ vault_weight mapping hashes (sealed ++ window ∷ []) =
+        ap (λ (entries : List TableRows). tables_weight entries + sum_by rows_weight (map (added_to mapping hashes window) entries)) read
+        ∙ ap (λ (rest : List Rows). tables_weight (partial mapping hashes sealed window k) + sum_by rows_weight rest) lacking
+        ∙ partly_weighs mapping hashes sealed window k in
+        record {
+          apart = subst (λ (entries : List TableRows). All (λ entry. HasNoClash (compared_in mapping hashes (hub_names mapping entries) window entry)) entries) (sym read)
+              (partly_apart mapping hashes sealed window valid_mapping valid k);
+          room = ap (λ weight. full_at weight (length store.windows)) weight
+              ∙ ap (full_at (vault_weight mapping hashes (sealed ++ window ∷ []))) (ap length has.heads_are ∙ length-map sealed head_of)
+              ∙ not_full (vault_weight mapping hashes (sealed ++ window ∷ [])) (length sealed) parts.light (omega (arith, counts, parts.few));
+        }
+
+    -- and what is begun of it is the window behind the sealed ones
+    pub begun_behind : k ≤ length (tables mapping) → (vault : RawVault) → vault ≡ raw → (begun : Begun) → IsBegunOf hashes vault window begun → Fits vault begun → rows_there vault (Some begun) ≡ stored_entries store (tables mapping)
+        → IsBegunBehind vault.mapping hashes sealed window begun
+    begun_behind within vault is begun of fits there =
+        subst (λ (v : RawVault). IsBegunBehind v.mapping hashes sealed window begun) (sym is)
+        (behind_it within begun (subst (λ (v : RawVault). IsBegunOf hashes v window begun) is of) (subst (λ (v : RawVault). Fits v begun) is fits) (ap (λ (v : RawVault). rows_there v (Some begun)) (sym is) ∙ there))
+      where
+        behind_it : k ≤ length (tables mapping) → (begun : Begun) → IsBegunOf hashes raw window begun → Fits raw begun → rows_there raw (Some begun) ≡ stored_entries store (tables mapping) → IsBegunBehind mapping hashes sealed window begun
+        behind_it within begun of fits there =
+            let batches = window_batches mapping hashes sealed window in
+            let partly : tables_there raw.tables begun.parts.items ≡ partial mapping hashes sealed window k = there ∙ read in
+            let opened : opened_in begun.parts.items ≡ opened_in (parts_at k batches) =
+            partly_opened mapping hashes sealed window k begun.parts.items (subst (λ tables. ArePartsOf tables begun.parts.items) has.tables_are fits.parts) (ap (λ tables. tables_there tables begun.parts.items) (sym has.tables_are) ∙ partly) in
+            let rest : rest_in begun.parts.items ≡ rest_in (parts_at k batches) = of.rest_is ∙ ap (map (added_to mapping hashes window)) partly ∙ lacking in
+            let parts : begun.parts.items ≡ parts_at k batches = same_parts begun.parts.items (parts_at k batches) opened rest in
+            record {
+              window_is = of.window_is;
+              there = k;
+              within = within;
+              parts_are = parts;
+              rows_are = of.rows_are ∙ (λ i. sum_by row_count (opened i) + sum_by row_count (rest i)) ∙ all_counted k batches ∙ loaded_batches mapping hashes sealed window;
+              weight_is = fits.weight ∙ ap tables_weight
+                  ((λ i. entries_with (has.tables_are i) ((ap whole_in parts ∙ at_whole k batches) i)) ∙ vault_with mapping hashes sealed window);
+            }
 
 -- ---- a store that stands for a state
 
@@ -149,35 +180,43 @@ module _ (mapping : Mapping) (hashes : Hashes) (state : State) (store : Store) (
   pub has_sealed : HasSealed hashes state.sealed (sealed_of mapping store)
   has_sealed = sealed_there mapping hashes store state.sealed stands.windows state.begun stands.stage (windows_valid mapping hashes state stands.valid) stands.tables_stand
 
+  -- its mapping is valid
+  pub valid_mapping : is_valid mapping ≡ true
+  valid_mapping = read_valid stands.mapped.text mapping stands.mapped.reads
+
+  all_valid : (begun : Option Window) → state.begun ≡ begun → are_windows_valid mapping hashes (state.sealed ++ option_to_list begun) ≡ true
+  all_valid begun e = subst (λ (begun : Option Window). are_windows_valid mapping hashes (state.sealed ++ option_to_list begun) ≡ true) e (windows_valid mapping hashes state stands.valid)
+
+  goes_on : (begun : Option Window) → state.begun ≡ begun → MayGoOn hashes (stored_vault mapping store) begun
+  goes_on None e = tt
+  goes_on (Some window) e =
+      let (k, within, stand) = subst (λ (begun : Option Window). TablesStand mapping hashes state.sealed begun store) e stands.tables_stand in
+      has_place mapping hashes store state.sealed window valid_mapping has_sealed (all_valid (Some window) e) k stand
+
+  pub keeps_f15 : KeepsF15 hashes mapping store
+  keeps_f15 = goes_on store.stage (sym stands.stage)
+
   -- what is restored of it is of the state
-  pub of_state : (raw : RawVault) → raw ≡ sealed_of mapping store → (begun : Option Begun) → IsBegunAs hashes raw store.stage begun → (snapshots : List SnapHead) → snapshots ≡ snapshot_heads store → IsOfState hashes state raw begun snapshots
-  of_state raw is begun begun_as snapshots are = record {
+  pub of_state : (raw : RawVault) → raw ≡ sealed_of mapping store → (begun : Option Begun) → IsBegunAs hashes raw store.stage begun → IfSome begun (Fits raw) → stored_entries store (tables mapping) ≡ rows_there raw begun
+      → (snapshots : List SnapHead) → snapshots ≡ snapshot_heads store → IsOfState hashes state raw begun snapshots
+  of_state raw is begun begun_as fits there snapshots are = record {
     valid = ap (λ (raw : RawVault). is_valid_state raw.mapping hashes state) is ∙ stands.valid;
     sealed_are = subst (HasSealed hashes state.sealed) (sym is) has_sealed;
-    begun_is = subst (λ (stage : Option Window). IsBegunAs hashes raw stage begun) stands.stage begun_as;
+    begun_is = by state.begun refl begun (subst (λ (stage : Option Window). IsBegunAs hashes raw stage begun) stands.stage begun_as) fits there;
     snapshots_are = are
         ∙ ap (map (λ (snap : Snap). snap.head)) stands.snapshots
         ∙ map-map (λ (snap : Snap). snap.head) (snapshot mapping hashes state.sealed) state.dates
         ∙ ap (λ (raw : RawVault). heads_of_state raw.mapping hashes state) (sym is);
   }
-
-  -- its mapping is valid
-  pub valid_mapping : is_valid mapping ≡ true
-  valid_mapping = read_valid stands.mapped.text mapping stands.mapped.reads
-
-  goes_on : (begun : Option Window) → state.begun ≡ begun → MayGoOn hashes (sealed_of mapping store) (stored_entries store (tables mapping)) begun
-  goes_on None e = tt
-  goes_on (Some window) e =
-      let valid = subst (λ (begun : Option Window). are_windows_valid mapping hashes (state.sealed ++ option_to_list begun) ≡ true) e (windows_valid mapping hashes state stands.valid) in
-      let (k, within, stand) = subst (λ (begun : Option Window). TablesStand mapping hashes state.sealed begun store) e stands.tables_stand in
-      may_complete mapping hashes store state.sealed window valid_mapping has_sealed valid k within stand
-
-  -- the open window may be completed
-  pub may_be_completed : (window : Window) → state.begun ≡ Some window → MayBeCompleted hashes (sealed_of mapping store) (stored_entries store (tables mapping)) window
-  may_be_completed window = goes_on (Some window)
-
-  pub keeps_f15 : KeepsF15 hashes mapping store
-  keeps_f15 = goes_on store.stage (sym stands.stage)
+    where
+      by : (staged : Option Window) → state.begun ≡ staged → (begun : Option Begun) → IsBegunAs hashes raw staged begun → IfSome begun (Fits raw) → stored_entries store (tables mapping) ≡ rows_there raw begun
+          → IsOpenBehind raw.mapping hashes state.sealed staged begun
+      by None e None told_as fits there = tt
+      by None e (Some begun) told_as fits there = told_as
+      by (Some window) e None told_as fits there = told_as
+      by (Some window) e (Some begun) told_as fits there =
+          let (k, within, stand) = subst (λ (begun : Option Window). TablesStand mapping hashes state.sealed begun store) e stands.tables_stand in
+          begun_behind mapping hashes store state.sealed window valid_mapping has_sealed (all_valid (Some window) e) k stand within raw is begun told_as fits (sym there)
 
 -- ---- no damage
 

@@ -15,8 +15,8 @@ use Rattle.dv_records.specs.declared.snapshots.SnapHead.{SnapHead}
 use Rattle.dv_vault.specs.Vaults.{RawVault}
 use Rattle.dv_restore.specs.Completions.{IsBegunAs, MayGoOn}
 use Rattle.dv_restore.specs.Damages.{KeepsF15}
-use Rattle.dv_restore.specs.Sealed.{sealed_of, sealed_vault}
-use Rattle.dv_restore.specs.declared.restored.Begun.{Begun}
+use Rattle.dv_restore.specs.Sealed.{sealed_of, sealed_vault, vault_of}
+use Rattle.dv_vault.specs.declared.begun.Begun.{Begun}
 
 -- the first of some answers
 module _ {R : Type 0} (test : Option R) (tests : List (Option R)) where
@@ -98,15 +98,22 @@ module _ (mapping : Mapping) (hashes : Hashes) (width : ℕ) (store : Store) (he
     pub sealed_is : sealed_vault mapping heads stage entries ≡ sealed_of mapping store
     sealed_is = λ i. sealed_vault mapping (windows i) (staged i) (read i)
 
-    pub goes_on : KeepsF15 hashes mapping store → MayGoOn hashes (sealed_vault mapping heads stage entries) entries stage
+    pub goes_on : KeepsF15 hashes mapping store → MayGoOn hashes (vault_of mapping heads entries) stage
     goes_on keeps =
-        subst (λ entries. MayGoOn hashes (sealed_vault mapping heads stage entries) entries stage) (sym read)
-        (subst (λ stage. MayGoOn hashes (sealed_vault mapping heads stage (stored_entries store (tables mapping))) (stored_entries store (tables mapping)) stage) (sym staged)
-        (subst (λ heads. MayGoOn hashes (sealed_vault mapping heads store.stage (stored_entries store (tables mapping))) (stored_entries store (tables mapping)) store.stage) (sym windows) keeps))
+        subst (λ entries. MayGoOn hashes (vault_of mapping heads entries) stage) (sym read)
+        (subst (λ stage. MayGoOn hashes (vault_of mapping heads (stored_entries store (tables mapping))) stage) (sym staged)
+        (subst (λ heads. MayGoOn hashes (vault_of mapping heads (stored_entries store (tables mapping))) store.stage) (sym windows) keeps))
+
+    -- and back
+    pub keeps_on : MayGoOn hashes (vault_of mapping heads entries) stage → KeepsF15 hashes mapping store
+    keeps_on goes =
+        subst (λ heads. MayGoOn hashes (vault_of mapping heads (stored_entries store (tables mapping))) store.stage) windows
+        (subst (λ stage. MayGoOn hashes (vault_of mapping heads (stored_entries store (tables mapping))) stage) staged
+        (subst (λ entries. MayGoOn hashes (vault_of mapping heads entries) stage) read goes))
 
 -- the open window that is begun
-pub staged_is : (hashes : Hashes) (raw : RawVault) (stage : Option Window) (begun : Option Begun) → IsBegunAs hashes raw stage begun → option_map (λ (b : Begun). b.addition.window) begun ≡ stage
+pub staged_is : (hashes : Hashes) (raw : RawVault) (stage : Option Window) (begun : Option Begun) → IsBegunAs hashes raw stage begun → option_map (λ (b : Begun). b.window) begun ≡ stage
 staged_is hashes raw None None is = refl
 staged_is hashes raw None (Some begun) is = absurd is
 staged_is hashes raw (Some window) None is = absurd is
-staged_is hashes raw (Some window) (Some begun) is = ap Some is.adds.window_is
+staged_is hashes raw (Some window) (Some begun) is = ap Some is.window_is

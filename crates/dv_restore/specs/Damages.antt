@@ -5,14 +5,14 @@ use Rattle.dv_catalog.specs.Entries.{Mapping}
 use Rattle.dv_catalog.specs.MappingFiles.{read_mapping}
 use Rattle.dv_catalog.specs.declared.tables.TableId.{TableId}
 use Rattle.dv_catalog.specs.TableLookups.{is_table_of}
-use Rattle.dv_catalog.specs.Tables.{table_name, tables}
+use Rattle.dv_catalog.specs.Tables.{table_name}
 use Rattle.dv_records.specs.declared.answers.Damage.{Damage}
 use Rattle.dv_records.specs.declared.stores.Store.{Store}
 use Rattle.dv_records.specs.Standing.{IsMappedBy}
-use Rattle.dv_store_rules.specs.Damages.{damage_at, form_damage, stored_entries}
+use Rattle.dv_store_rules.specs.Damages.{damage_at, form_damage}
 use Rattle.dv_restore.specs.Begins.{broken_window}
 use Rattle.dv_restore.specs.Completions.{MayGoOn}
-use Rattle.dv_restore.specs.Sealed.{sealed_of}
+use Rattle.dv_restore.specs.Sealed.{stored_vault}
 
 -- the stored text is read as the mapping
 abbrev pub IsReadAs : Mapping → Store → Type 0
@@ -23,9 +23,9 @@ abbrev pub IsMappedAs : Option Mapping → Store → Type 0
 IsMappedAs None store = store.mapping ≡ None
 IsMappedAs (Some mapping) store = IsReadAs mapping store
 
--- the open window of a store, if there is one, may be completed
+-- the open window of a store, if there is one, has a place in the vault as it is stored
 abbrev pub KeepsF15 : Hashes → Mapping → Store → Type 0
-KeepsF15 hashes mapping store = MayGoOn hashes (sealed_of mapping store) (stored_entries store (tables mapping)) store.stage
+KeepsF15 hashes mapping store = MayGoOn hashes (stored_vault mapping store) store.stage
 
 -- a store breaks no rule of form behind that of the mapping
 pub record IsInForm (hashes : Hashes) (width : ℕ) (mapping : Mapping) (store : Store) : Type 0 where
@@ -47,7 +47,7 @@ pub record IsNotRead (store : Store) (damage : Damage) : Type 0 where
 abbrev pub BreaksForm : Hashes → ℕ → Mapping → Store → Damage → Type 0
 BreaksForm hashes width mapping store damage = form_damage mapping hashes width store ≡ Some damage
 
--- F15, which is asked last: none of these is broken, and the open window may not be completed
+-- F15, which is asked last: none of these is broken, and the open window has no place
 pub record BreaksOpen (hashes : Hashes) (width : ℕ) (mapping : Mapping) (store : Store) (damage : Damage) : Type 0 where
   pub undamaged : form_damage mapping hashes width store ≡ None
   pub stops : KeepsF15 hashes mapping store → ⊥

@@ -10,13 +10,13 @@ use Rattle.dv_records.specs.States.{State, is_valid_state}
 use Rattle.dv_store_rules.specs.SnapshotHeads.{snapshot_heads}
 use Rattle.dv_vault.specs.Keeping.{HasRows}
 use Rattle.dv_vault.specs.Vaults.{HasSealed, RawVault}
-use Rattle.dv_restore.specs.declared.restored.Begun.{Begun}
-use Rattle.dv_restore.specs.Completions.{IsBegunAs, rows_there}
+use Rattle.dv_vault.specs.declared.begun.Begun.{Begun}
+use Rattle.dv_restore.specs.Completions.{IsOpenBehind, rows_there}
 
 -- a store has what a vault, a window that is begun and heads of snapshots say, in the tables of the mapping
 pub record HasKept (raw : RawVault) (begun : Option Begun) (snapshots : List SnapHead) (store : Store) : Type 0 where
   pub windows : store.windows ≡ raw.heads
-  pub stage : store.stage ≡ option_map (λ b. b.addition.window) begun
+  pub stage : store.stage ≡ option_map (λ b. b.window) begun
   pub tables_are : HasRows store (rows_there raw begun)
   pub snapshots_are : snapshots ≡ snapshot_heads store
 
@@ -28,5 +28,5 @@ heads_of_state mapping hashes state = map (λ date. (snapshot mapping hashes sta
 pub record IsOfState (hashes : Hashes) (state : State) (raw : RawVault) (begun : Option Begun) (snapshots : List SnapHead) : Type 0 where
   pub valid : is_valid_state raw.mapping hashes state ≡ true
   pub sealed_are : HasSealed hashes state.sealed raw
-  pub begun_is : IsBegunAs hashes raw state.begun begun
+  pub begun_is : IsOpenBehind raw.mapping hashes state.sealed state.begun begun
   pub snapshots_are : snapshots ≡ heads_of_state raw.mapping hashes state

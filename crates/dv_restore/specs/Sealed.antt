@@ -37,3 +37,13 @@ sealed_vault mapping heads stage entries = record { mapping = mapping; tables = 
 -- the vault of the sealed windows of a store
 abbrev pub sealed_of : Mapping → Store → RawVault
 sealed_of mapping store = sealed_vault mapping store.windows store.stage (stored_entries store (tables mapping))
+
+-- ---- with the rows of the open window
+
+-- the vault with these heads, where tables have these rows
+abbrev pub vault_of : Mapping → List WindowHead → List TableRows → RawVault
+vault_of mapping heads entries = record { mapping = mapping; tables = entries; heads = heads }
+
+-- the vault as it is stored: all rows, also those of the open window
+abbrev pub stored_vault : Mapping → Store → RawVault
+stored_vault mapping store = vault_of mapping store.windows (stored_entries store (tables mapping))

@@ -1,28 +1,30 @@
-// The vault of the sealed windows, and the open one, if it may be completed.
+// The vault of the sealed windows, and the open one, if it has a place in the vault as it is stored.
 ghost use Rattle.std.specs.Option.{option_to_list};
-ghost use Rattle.std.specs.Prelude.{◌≡◌, ◌↔◌, ◌++◌, ◌==◌, ◌∷◌, ◌≤◌, ℕ, [], IfOk, IfSome, IsErrOf, IsTrue, None, drop, length, map};
-ghost use Rattle.dv_text.specs.Keys.{hashes_of};
+ghost use Rattle.std.specs.Prelude.{◌≡◌, ◌↔◌, ◌++◌, ◌∷◌, [], IfOk, IfSome, IsErrOf, IsTrue, None, false, length, map, not, true};
+ghost use Rattle.dv_text.specs.Keys.{hashes_of, key_eq};
 ghost use Rattle.dv_records.specs.declared.answers.Damage.{Damage};
-ghost use Rattle.dv_records.specs.Outcomes.{full_at, late_after};
+ghost use Rattle.dv_records.specs.Outcomes.{full_at};
+ghost use Rattle.dv_records.specs.RowViews.{are_up_to};
 ghost use Rattle.dv_records.specs.States.{head_of, is_window};
-ghost use Rattle.dv_records.specs.Stores.{row_count};
 ghost use Rattle.dv_records.specs.Weights.{tables_weight};
 ghost use Rattle.dv_store_rules.specs.StoredHeads.{head_flaw, is_stage};
-ghost use Rattle.dv_vault.specs.Additions.{Fits, IsAddition};
-ghost use Rattle.dv_vault.specs.Vaults.{IsVaultOf, entry_of, last_head};
-ghost use Rattle.dv_restore.specs.Begins.{AreFirst, HasPlace, MayFollow, broken_window, have_no_rows};
-ghost use Rattle.dv_restore.specs.Completions.{IsBegunAs, IsBegunOf, MayBeTaken, MayGoOn, rows_there};
+ghost use Rattle.dv_vault.specs.Additions as weights;
+ghost use Rattle.dv_vault.specs.Additions.{Fits, FollowAll, all_added};
+ghost use Rattle.dv_vault.specs.Vaults.{IsVaultOf, entries_of, entry_of};
+ghost use Rattle.dv_restore.specs.Begins.{AreNamed, HasMisnamed, HasPlace, HaveNoZeroLinks, IsMisnamed, IsNamed, broken_window};
+ghost use Rattle.dv_restore.specs.Completions.{IsBegunAs, MayGoOn, rows_there};
 ghost use Rattle.dv_restore.specs.Parts.{are_loaded};
 ghost use Rattle.dv_restore.specs.Readings.{AreInForm};
-ghost use Rattle.dv_restore.specs.Sealed.{sealed_vault};
+ghost use Rattle.dv_restore.specs.Sealed.{sealed_vault, vault_of};
 
 use crate::faults::StoreFault;
 use crate::parts::in_parts;
-use crate::restored::{Begun, Reopened};
+use crate::restored::Reopened;
 use dv_catalog::Catalog;
+use dv_hub_link::{HubTable, missing_key};
 use dv_records::{Damage, Rows};
-use dv_text::{KeyDigest, List, Memory, Text, Window, WindowHead};
-use dv_vault::{Addition, AdditionFault, Table, Vault};
+use dv_text::{Digest, Key, KeyDigest, List, Memory, Text, Window, WindowHead};
+use dv_vault::{AdditionFault, Begun, RawTables, Table, Vault, weight_with};
 use dv_window_rules::full;
 use std::alloc::Global;
 
@@ -38,45 +40,6 @@ fn broken(alloc: Global) -> Result<StoreFault, Memory>
     }))
 }
 
-// Whether there are no rows.
-fn is_empty(rows: &Rows) -> bool
-    ensures { result ≡ (row_count rows.now == 0) }
-{
-    match rows {
-        Rows::Hubs(rows) => rows.items().is_empty(),
-        Rows::Links(rows) => rows.items().is_empty(),
-        Rows::Sats(rows) => rows.items().is_empty(),
-        Rows::Multis(rows) => rows.items().is_empty(),
-        Rows::Statuses(rows) => rows.items().is_empty(),
-        Rows::Effects(rows) => rows.items().is_empty(),
-        Rows::Pits(rows) => rows.items().is_empty(),
-        Rows::Bridges(rows) => rows.items().is_empty(),
-    }
-}
-
-// One past the last list that has rows, and 0 where none has.
-fn reach(opened: &[Rows]) -> usize
-    ensures within { result ≤ length opened.now }
-    ensures behind { IsTrue (have_no_rows (drop result opened.now)) }
-    ensures least { (there : ℕ) → IsTrue (have_no_rows (drop there opened.now)) → result ≤ there }
-{
-    let mut there = opened.len();
-    while there > 0 {
-        if !is_empty(&opened[there - 1]) {
-            return there;
-        }
-        there -= 1;
-    }
-    0
-}
-
-// Whether batches are the same.
-fn are_same(some: &[Rows], other: &[Rows]) -> bool
-    ensures { IsTrue result ↔ (some.now ≡ other.now) }
-{
-    some == other
-}
-
 // Whether a vault that weighs so much has no room for these windows and one more.
 fn is_full(weight: u64, heads: &[WindowHead]) -> Result<bool, Memory>
     ensures { IfOk result (λ full. IsTrue full ↔ (full_at weight (length heads.now) ≡ None → ⊥)) }
@@ -85,50 +48,106 @@ fn is_full(weight: u64, heads: &[WindowHead]) -> Result<bool, Memory>
     Ok(full(u128::from(weight), u64::from(windows)).is_some())
 }
 
-// What a window adds to a vault, which has room for it.
-fn added<H: KeyDigest>(vault: &Vault, window: Window, digest: &H) -> Result<Addition, StoreFault>
-    requires later { late_after (last_head vault.now.heads) window.load ≡ None }
-    requires window { IsTrue (is_window vault.now.mapping window) }
-    ensures adds { IfOk result (IsAddition (hashes_of H.function) vault.now window) }
-    ensures fits { IfOk result (Fits vault.now) }
-    ensures room { IfOk result (λ addition. full_at addition.weight (length vault.now.heads) ≡ None) }
-    ensures damaged { (damage : Damage) → IsErrOf result (StoreFault.Damaged damage) → (damage ≡ broken_window) × (HasPlace (hashes_of H.function) vault.now window → ⊥) }
-    ensures sound { IsErrOf result StoreFault.KeeperFault → ⊥ }
+// Whether a key is another one.
+fn is_other(key: &Key, other: &Key) -> bool
+    ensures { result ≡ not (key_eq key.now other.now) }
 {
-    let heads = vault.heads();
-    let addition = match vault.addition(window, digest) {
-        Ok(addition) => addition,
-        Err(AdditionFault::Collision { .. }) => return Err(broken(heads.allocator())?),
-        Err(AdditionFault::Memory) => return Err(StoreFault::Memory),
-    };
-    if is_full(addition.weight, heads.items())? {
-        return Err(broken(heads.allocator())?);
-    }
-    Ok(addition)
+    *key != *other
 }
 
-// The open window over the vault of the sealed ones, where tables have these rows of it.
-fn begun<H: KeyDigest>(
-    vault: &Vault,
-    window: Window,
-    opened: &[Rows],
+// Whether another key than the missing one stands under a digest in a hub.
+fn is_misnamed(
+    alloc: Global,
+    catalog: &Catalog,
+    hub: u32,
+    rows: &HubTable,
+    d: &Digest,
+) -> Result<bool, Memory>
+    ensures misnamed { IfOk result (λ is. is ≡ true → IsMisnamed catalog.now d.now hub rows.now.rows) }
+    ensures named { IfOk result (λ is. is ≡ false → IsNamed catalog.now d.now hub rows.now.rows) }
+{
+    match rows.key(d) {
+        Some(key) => Ok(is_other(key, &missing_key(alloc, catalog, hub)?)),
+        None => Ok(false),
+    }
+}
+
+// Whether another key than the missing one stands under a digest in a table, if it is a hub.
+fn is_misnamed_in(
+    alloc: Global,
+    catalog: &Catalog,
+    table: &Table,
+    d: &Digest,
+) -> Result<bool, Memory>
+    ensures misnamed { IfOk result (λ is. is ≡ true → HasMisnamed catalog.now d.now (entry_of table.now ∷ [])) }
+    ensures named { IfOk result (λ is. is ≡ false → AreNamed catalog.now d.now (entry_of table.now ∷ [])) }
+{
+    match table {
+        Table::Hub { hub, rows } => is_misnamed(alloc, catalog, *hub, rows, d),
+        _ => Ok(false),
+    }
+}
+
+// Whether another key than the missing one stands under a digest in some hub.
+fn has_misnamed(
+    alloc: Global,
+    catalog: &Catalog,
+    tables: &[Table],
+    d: &Digest,
+) -> Result<bool, Memory>
+    ensures misnamed { IfOk result (λ has. has ≡ true → HasMisnamed catalog.now d.now (map entry_of tables.now)) }
+    ensures named { IfOk result (λ has. has ≡ false → AreNamed catalog.now d.now (map entry_of tables.now)) }
+{
+    for table in tables {
+        if is_misnamed_in(alloc, catalog, table, d)? {
+            return Ok(true);
+        }
+    }
+    Ok(false)
+}
+
+// The rows of a window that tables lack, and what all weigh with them.
+#[derive(Drop)]
+struct Completion {
+    rest: List<Rows>,
+    weight: u64,
+}
+
+// What tables lack of a window, which has a place in the vault that they are, with all their rows.
+fn lacking<H: KeyDigest>(
+    catalog: &Catalog,
+    heads: &List<WindowHead>,
+    raw: &RawTables,
+    window: &Window,
+    weight: u64,
     digest: &H,
-) -> Result<Begun, StoreFault>
-    requires later { late_after (last_head vault.now.heads) window.load ≡ None }
-    requires window { IsTrue (is_window vault.now.mapping window) }
-    requires opened { length opened.now ≡ length vault.now.tables }
-    ensures begun { IfOk result (IsBegunOf (hashes_of H.function) vault.now window) }
-    ensures taken { IfOk result (MayBeTaken vault.now) }
-    ensures first { IfOk result (λ begun. AreFirst begun.addition.batches opened.now begun.there) }
-    ensures damaged { (damage : Damage) → IsErrOf result (StoreFault.Damaged damage) → (damage ≡ broken_window) × (MayFollow (hashes_of H.function) vault.now window opened.now → ⊥) }
+) -> Result<Completion, StoreFault>
+    requires tables { IsVaultOf catalog.now (entries_of raw.now) }
+    requires dated { IsTrue (are_up_to window.now.load (entries_of raw.now)) }
+    requires window { IsTrue (is_window catalog.now window.now) }
+    requires weight { weight ≡ tables_weight (entries_of raw.now) }
+    requires links { HaveNoZeroLinks H.function.width (entries_of raw.now) }
+    ensures rest { IfOk result (λ made. made.rest ≡ all_added (hashes_of H.function) (vault_of catalog.now heads.now (entries_of raw.now)) window.now) }
+    ensures follow { IfOk result (λ made. FollowAll window.now.load (entries_of raw.now) made.rest) }
+    ensures weight { IfOk result (λ made. made.weight ≡ weights.weight_with (hashes_of H.function) (vault_of catalog.now heads.now (entries_of raw.now)) window.now) }
+    ensures place { IfOk result (λ made. HasPlace (hashes_of H.function) (vault_of catalog.now heads.now (entries_of raw.now)) window.now) }
+    ensures damaged { (damage : Damage) → IsErrOf result (StoreFault.Damaged damage) → (damage ≡ broken_window) × (HasPlace (hashes_of H.function) (vault_of catalog.now heads.now (entries_of raw.now)) window.now → ⊥) }
     ensures sound { IsErrOf result StoreFault.KeeperFault → ⊥ }
 {
-    let addition = added(vault, window, digest)?;
-    let there = reach(opened);
-    if !are_same(&opened[..there], &addition.batches.items()[..there]) {
-        return Err(broken(vault.heads().allocator())?);
+    let alloc = heads.allocator();
+    let rest = match raw.added(alloc, catalog, window, digest) {
+        Ok(rest) => rest,
+        Err(AdditionFault::Collision { .. }) => return Err(broken(alloc)?),
+        Err(AdditionFault::Memory) => return Err(StoreFault::Memory),
+    };
+    if has_misnamed(alloc, catalog, &raw.tables, &Digest::zero(digest.width()))? {
+        return Err(broken(alloc)?);
     }
-    Ok(Begun { addition, there })
+    let weight = weight_with(weight, rest.items())?;
+    if is_full(weight, heads.items())? {
+        return Err(broken(alloc)?);
+    }
+    Ok(Completion { rest, weight })
 }
 
 // The vault of the sealed windows, and the open one over it, where tables have rows of both.
@@ -145,25 +164,29 @@ fn reopened<H: KeyDigest>(
     requires ids { IsVaultOf catalog (map entry_of tables.items) }
     requires weight { weight ≡ tables_weight (map entry_of tables.items) }
     requires loaded { IsTrue (are_loaded (heads ++ head_of window ∷ []) (map entry_of tables.items)) }
+    requires links { HaveNoZeroLinks H.function.width (map entry_of tables.items) }
     ensures vault { IfOk result (λ restored. restored.vault ≡ sealed_vault catalog heads (Some window) (map entry_of tables.items)) }
-    ensures taken { IfOk result (λ restored. IfSome restored.begun (MayBeTaken restored.vault)) }
+    ensures taken { IfOk result (λ restored. IfSome restored.begun (Fits restored.vault)) }
     ensures begun { IfOk result (λ restored. IsBegunAs (hashes_of H.function) restored.vault (Some window) restored.begun) }
     ensures entries { IfOk result (λ restored. map entry_of tables.items ≡ rows_there restored.vault restored.begun) }
-    ensures goes_on { IfOk result (λ restored. MayGoOn (hashes_of H.function) restored.vault (map entry_of tables.items) (Some window)) }
-    ensures damaged { (damage : Damage) → IsErrOf result (StoreFault.Damaged damage) → (damage ≡ broken_window) × (MayGoOn (hashes_of H.function) (sealed_vault catalog heads (Some window) (map entry_of tables.items)) (map entry_of tables.items) (Some window) → ⊥) }
+    ensures goes_on { IfOk result (λ restored. MayGoOn (hashes_of H.function) (vault_of catalog heads (map entry_of tables.items)) (Some window)) }
+    ensures damaged { (damage : Damage) → IsErrOf result (StoreFault.Damaged damage) → (damage ≡ broken_window) × (MayGoOn (hashes_of H.function) (vault_of catalog heads (map entry_of tables.items)) (Some window) → ⊥) }
     ensures sound { IsErrOf result StoreFault.KeeperFault → ⊥ }
 {
-    let parts = in_parts(heads.allocator(), tables, window.load, weight)?;
+    let alloc = heads.allocator();
+    let raw = RawTables { tables };
+    let made = lacking(&catalog, &heads, &raw, &window, weight, digest)?;
+    let parts = in_parts(alloc, raw.tables, window.load, weight)?;
     let vault = Vault::from_tables(catalog, parts.sealed, heads, parts.weight);
-    let begun = begun(&vault, window, parts.opened.items(), digest)?;
+    let begun = Begun::of(alloc, window, parts.opened, made.rest, made.weight)?;
     Ok(Reopened {
         vault,
         begun: Some(begun),
     })
 }
 
-/// The vault of the sealed windows, and the open one with what it adds; or the damage of the open window, where it may
-/// not be completed. Conditions: the heads break no rule of form, and nor does the open window; these are the tables of
+/// The vault of the sealed windows, and the open one with what tables lack of it; or the damage of the open window, where
+/// it has no place in the vault as it is stored. Conditions: the heads break no rule of form, and nor does the open window; these are the tables of
 /// the mapping, which weigh so much, and no row of them breaks one.
 pub(crate) fn restored<H: KeyDigest>(
     catalog: Catalog,
@@ -179,11 +202,11 @@ pub(crate) fn restored<H: KeyDigest>(
     requires weight { weight ≡ tables_weight (map entry_of tables.items) }
     requires clear { AreInForm (record { mapping = catalog; hashes = hashes_of H.function; width = H.function.width; heads = heads ++ map head_of (option_to_list stage); tables = [] }) (map entry_of tables.items) }
     ensures vault { IfOk result (λ restored. restored.vault ≡ sealed_vault catalog heads stage (map entry_of tables.items)) }
-    ensures taken { IfOk result (λ restored. IfSome restored.begun (MayBeTaken restored.vault)) }
+    ensures taken { IfOk result (λ restored. IfSome restored.begun (Fits restored.vault)) }
     ensures begun { IfOk result (λ restored. IsBegunAs (hashes_of H.function) restored.vault stage restored.begun) }
     ensures entries { IfOk result (λ restored. map entry_of tables.items ≡ rows_there restored.vault restored.begun) }
-    ensures goes_on { IfOk result (λ restored. MayGoOn (hashes_of H.function) restored.vault (map entry_of tables.items) stage) }
-    ensures damaged { (damage : Damage) → IsErrOf result (StoreFault.Damaged damage) → (damage ≡ broken_window) × (MayGoOn (hashes_of H.function) (sealed_vault catalog heads stage (map entry_of tables.items)) (map entry_of tables.items) stage → ⊥) }
+    ensures goes_on { IfOk result (λ restored. MayGoOn (hashes_of H.function) (vault_of catalog heads (map entry_of tables.items)) stage) }
+    ensures damaged { (damage : Damage) → IsErrOf result (StoreFault.Damaged damage) → (damage ≡ broken_window) × (MayGoOn (hashes_of H.function) (vault_of catalog heads (map entry_of tables.items)) stage → ⊥) }
     ensures sound { IsErrOf result StoreFault.KeeperFault → ⊥ }
 {
     if let Some(window) = stage {

@@ -16,5 +16,5 @@ mod table_reads;
 
 pub use faults::{StartFault, StoreFault};
 pub use mappings::{mapping_damage, stored_mapping};
-pub use restored::{Begun, Restored};
+pub use restored::Restored;
 pub use stores::read_store;

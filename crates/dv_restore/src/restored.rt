@@ -1,14 +1,6 @@
 use dv_records::SnapHead;
 use dv_text::List;
-use dv_vault::{Addition, Vault};
-
-/// A window that is begun: what it adds to the vault of the sealed windows, and how many first tables, in table order,
-/// have their rows of it.
-#[derive(Drop)]
-pub struct Begun {
-    pub addition: Addition,
-    pub there: usize,
-}
+use dv_vault::{Begun, Vault};
 
 /// The vault of the sealed windows, and the open window, if there is one.
 #[derive(Drop)]

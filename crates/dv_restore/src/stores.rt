@@ -13,7 +13,8 @@ ghost use Rattle.dv_store_rules.specs.Damages as damages;
 ghost use Rattle.dv_store_rules.specs.Damages.{damage_at};
 ghost use Rattle.dv_store_rules.specs.SnapshotHeads.{KeepLimits, snapshot_flaw, snapshot_heads};
 ghost use Rattle.dv_store_rules.specs.StoredHeads as spec;
-ghost use Rattle.dv_restore.specs.Completions.{MayBeTaken};
+ghost use Rattle.dv_vault.specs.Additions.{Fits};
+ghost use Rattle.dv_restore.specs.Completions.{IsBegunAs};
 ghost use Rattle.dv_restore.specs.Damages.{BreaksRule, IsInForm, IsNamed};
 ghost use Rattle.dv_restore.specs.Restored.{HasKept, IsOfState};
 
@@ -146,7 +147,8 @@ pub fn read_store<K: Keeper, H: KeyDigest>(
 ) -> Result<Restored, StoreFault>
     ensures mapping { IfOk result (λ restored. restored.vault.mapping ≡ catalog) }
     ensures kept { IfOk result (λ restored. Told (K.store keeper.old) (HasKept restored.vault restored.begun restored.snapshots)) }
-    ensures taken { IfOk result (λ restored. IfSome restored.begun (MayBeTaken restored.vault)) }
+    ensures taken { IfOk result (λ restored. IfSome restored.begun (Fits restored.vault)) }
+    ensures begun { IfOk result (λ restored. Told (K.store keeper.old) (λ s. IsBegunAs (hashes_of H.function) restored.vault s.stage restored.begun)) }
     ensures in_form { IfOk result (λ restored. Told (K.store keeper.old) (IsInForm (hashes_of H.function) H.function.width catalog)) }
     ensures stands { IfOk result (λ restored. (state : State) → (store : Store) → K.store keeper.old ≡ Some store → Stands catalog (hashes_of H.function) state store → IsOfState (hashes_of H.function) state restored.vault restored.begun restored.snapshots) }
     ensures limits { IfOk result (λ restored. KeepLimits restored.snapshots) }

@@ -45,12 +45,12 @@ module _ (mapping : Mapping) (hashes : Hashes) (sealed : List Window) (window : 
       ∙ ap ascends (map-append (λ (w : Window). w.load) sealed (window ∷ []))
       ∙ loads_ascend (map (λ w. w.load) sealed) window.load (sealed_parts mapping hashes sealed windows_valid).ordered late
 
-  free_at : (parent : Parent) → Contains (parents mapping) parent → collision_in mapping hashes (reverse (window ∷ older)) parent ≡ None
+  pub free_at : (parent : Parent) → Contains (parents mapping) parent → collision_in mapping hashes (reverse (window ∷ older)) parent ≡ None
   free_at parent has =
       ap (λ windows. collision_in mapping hashes windows parent) (turned_back sealed window)
       ∙ All-contains (λ (parent : Parent). collision_in mapping hashes (sealed ++ window ∷ []) parent ≡ None) (parents mapping) parent ((none_collide mapping hashes (sealed ++ window ∷ [])).0 free) has
 
-  free_before : (parent : Parent) → Contains (parents mapping) parent → collision_in mapping hashes (reverse older) parent ≡ None
+  pub free_before : (parent : Parent) → Contains (parents mapping) parent → collision_in mapping hashes (reverse older) parent ≡ None
   free_before parent has =
       unturned mapping hashes sealed window valid windows_valid parent
       (All-contains (λ (parent : Parent). collision_in mapping hashes sealed parent ≡ None) (parents mapping) parent (sealed_parts mapping hashes sealed windows_valid).free has)
@@ -81,7 +81,7 @@ module _ (mapping : Mapping) (hashes : Hashes) (sealed : List Window) (window : 
   next_batch kind feed batch delta is (Some newest) e = ap (λ rows. kind (delta rows newest.load newest.rows)) (appended-history feed batch older) ∙ ap kind (is newest e)
 
   module _ (feed : ℕ) (definition : FeedDef) (at : slice_get mapping.feeds feed ≡ Some definition) where
-    grown : (newest : Extract) → extract_of feed window ≡ Some newest → history feed (window ∷ older) ≡ newest ∷ history feed older
+    pub grown : (newest : Extract) → extract_of feed window ≡ Some newest → history feed (window ∷ older) ≡ newest ∷ history feed older
     grown newest e = ap (λ (found : Option Extract). cons_option found (history feed older)) e
 
     lists_apart : IsApart hashes (lists_of (history feed (window ∷ older)))
@@ -89,39 +89,56 @@ module _ (mapping : Mapping) (hashes : Hashes) (sealed : List Window) (window : 
         feed_lists_apart mapping hashes feed definition at (window ∷ older) all_whole
         (free_at definition.parent (declared_parent definition.parent (valid_feed mapping valid feed definition at).declared))
 
-    order_with : (newest : Extract) → extract_of feed window ≡ Some newest → AreNewestFirst (newest ∷ history feed older)
+    pub order_with : (newest : Extract) → extract_of feed window ≡ Some newest → AreNewestFirst (newest ∷ history feed older)
     order_with newest e = subst AreNewestFirst (grown newest e) (feed_newest_first feed (window ∷ older) all_ascend)
 
-    apart_with : (newest : Extract) → extract_of feed window ≡ Some newest → IsApart hashes (lists_of (newest ∷ history feed older))
+    pub apart_with : (newest : Extract) → extract_of feed window ≡ Some newest → IsApart hashes (lists_of (newest ∷ history feed older))
     apart_with newest e = subst (λ (extracts : List Extract). IsApart hashes (lists_of extracts)) (grown newest e) lists_apart
 
-    plain_with : definition.sub ≡ [] → (newest : Extract) → extract_of feed window ≡ Some newest → (extract : Extract) → Contains (newest ∷ history feed older) extract → IsPlain extract.rows
+    pub plain_with : definition.sub ≡ [] → (newest : Extract) → extract_of feed window ≡ Some newest → (extract : Extract) → Contains (newest ∷ history feed older) extract → IsPlain extract.rows
     plain_with none newest e extract has =
         feed_plain mapping hashes feed definition at (window ∷ older) all_whole none extract (subst (λ (extracts : List Extract). Contains extracts extract) (sym (grown newest e)) has)
+
+    -- the delta of a satellite is its batch
+    pub sat_is : definition.sub ≡ [] → (newest : Extract) → extract_of feed window ≡ Some newest
+        → sat_delta hashes (source mapping feed) (appended (sat_batch hashes (source mapping feed)) (history feed older)) newest.load newest.rows ≡ sat_batch hashes (source mapping feed) (history feed older) newest
+    sat_is none newest e = sat_delta_is hashes (source mapping feed) (history feed older) newest (order_with newest e) (apart_with newest e) (plain_with none newest e)
 
     sat_added : definition.sub ≡ [] → added_at (ids.Sat feed) ≡ batch_of_table (ids.Sat feed)
     sat_added none =
         next_batch Sats feed (sat_batch hashes (source mapping feed)) (λ rows load staged. sat_delta hashes (source mapping feed) rows load staged)
-        (λ newest e. sat_delta_is hashes (source mapping feed) (history feed older) newest (order_with newest e) (apart_with newest e) (plain_with none newest e)) (extract_of feed window) refl
+        (sat_is none) (extract_of feed window) refl
 
-    told_with : (newest : Extract) → extract_of feed window ≡ Some newest → (extract : Extract) → Contains (newest ∷ history feed older) extract → IsTold extract.rows
+    pub told_with : (newest : Extract) → extract_of feed window ≡ Some newest → (extract : Extract) → Contains (newest ∷ history feed older) extract → IsTold extract.rows
     told_with newest e extract has =
         feed_told mapping hashes feed definition at (window ∷ older) all_whole extract (subst (λ (extracts : List Extract). Contains extracts extract) (sym (grown newest e)) has)
+
+    pub multi_is : (newest : Extract) → extract_of feed window ≡ Some newest
+        → multi_delta hashes (source mapping feed) (appended (multi_batch hashes (source mapping feed)) (history feed older)) newest.load newest.rows ≡ multi_batch hashes (source mapping feed) (history feed older) newest
+    multi_is newest e = multi_delta_is hashes (source mapping feed) (history feed older) newest (order_with newest e) (apart_with newest e) (told_with newest e)
 
     multi_added : added_at (ids.Multi feed) ≡ batch_of_table (ids.Multi feed)
     multi_added =
         next_batch Multis feed (multi_batch hashes (source mapping feed)) (λ rows load staged. multi_delta hashes (source mapping feed) rows load staged)
-        (λ newest e. multi_delta_is hashes (source mapping feed) (history feed older) newest (order_with newest e) (apart_with newest e) (told_with newest e)) (extract_of feed window) refl
+        multi_is (extract_of feed window) refl
+
+    pub status_is : (newest : Extract) → extract_of feed window ≡ Some newest
+        → status_delta hashes (source mapping feed) (appended (status_batch hashes (source mapping feed)) (history feed older)) newest.load (all_refs newest.rows) ≡ status_batch hashes (source mapping feed) (history feed older) newest
+    status_is newest e = status_delta_is hashes (source mapping feed) (history feed older) newest (order_with newest e) (apart_with newest e)
 
     status_added : added_at (ids.Status feed) ≡ batch_of_table (ids.Status feed)
     status_added =
         next_batch Statuses feed (status_batch hashes (source mapping feed)) (λ rows load staged. status_delta hashes (source mapping feed) rows load (all_refs staged))
-        (λ newest e. status_delta_is hashes (source mapping feed) (history feed older) newest (order_with newest e) (apart_with newest e)) (extract_of feed window) refl
+        status_is (extract_of feed window) refl
+
+    pub effect_is : (newest : Extract) → extract_of feed window ≡ Some newest
+        → effect_delta hashes (source mapping feed) (appended (effect_batch hashes (source mapping feed)) (history feed older)) newest.load (all_refs newest.rows) ≡ effect_batch hashes (source mapping feed) (history feed older) newest
+    effect_is newest e = effect_delta_is hashes (source mapping feed) (history feed older) newest (order_with newest e) (apart_with newest e)
 
     effect_added : added_at (ids.Effect feed) ≡ batch_of_table (ids.Effect feed)
     effect_added =
         next_batch Effects feed (effect_batch hashes (source mapping feed)) (λ rows load staged. effect_delta hashes (source mapping feed) rows load (all_refs staged))
-        (λ newest e. effect_delta_is hashes (source mapping feed) (history feed older) newest (order_with newest e) (apart_with newest e)) (extract_of feed window) refl
+        effect_is (extract_of feed window) refl
 
   abbrev IsAdded : TableId → Type 0
   IsAdded id = added_at id ≡ batch_of_table id
@@ -139,7 +156,7 @@ module _ (mapping : Mapping) (hashes : Hashes) (sealed : List Window) (window : 
 
   -- ---- all tables
 
-  table_added : (id : TableId) → Contains (tables mapping) id → added_at id ≡ batch_of_table id
+  pub table_added : (id : TableId) → Contains (tables mapping) id → added_at id ≡ batch_of_table id
   table_added id has =
       elim (Contains-append_cases (map table_of (parents mapping)) (feed_tables 0 mapping.feeds) id (subst (λ (all : List TableId). Contains all id) (parents_first mapping) has)) [
         | inl parent ↦

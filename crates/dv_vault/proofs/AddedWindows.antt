@@ -1,11 +1,14 @@
 -- What a vault is with what a window adds: the vault of the sealed windows and the new one.
-use Rattle.dv_vault.proofs.Vocabulary.{map-map, slice_get-map, List, None, Option, [], ap, arith, length, map, refl, suc, sym, true, ℕ, ◌++◌, ◌+◌, ◌-◌, ◌∙◌, ◌∷◌, ◌≡◌, length-map, map-append, option_map, slice_get, sum_by, take}
-use Rattle.dv_vault.proofs.Vocabulary.{Hashes, is_window, head_of, last_load, row_count, rows_weight, tables_weight, vault_weight, vault, table_batch, tables, Rule, late_after, full_at, Rows, TableRows, Window, WindowHead, AreApart}
-use Rattle.dv_vault.proofs.Vocabulary.{raw_with, is_valid, IsAddition, all_added, weight_with, HasSealed, RawVault, entries_with, last_head, Addition, loaded}
+use Rattle.dv_vault.proofs.Vocabulary.{map-map, slice_get-map, List, None, Option, [], ap, arith, length, map, refl, suc, sym, true, ℕ, ◌++◌, ◌+◌, ◌-◌, ◌∙◌, ◌∷◌, ◌≡◌, ◌≤◌, length-map, map-append, option_map, slice_get, sum_by}
+use Rattle.dv_vault.proofs.Vocabulary.{Hashes, Mapping, TableId, are_windows_valid, is_window, head_of, last_load, no_rows, row_count, rows_weight, table_entry, tables_weight, vault_weight, vault, table_batch, tables, Rule, late_after, full_at, Rows, TableRows, Window, WindowHead, AreApart}
+use Rattle.dv_vault.proofs.Vocabulary.{Begun, IsBegunBehind, IsLeftOf, Part, none_like, opened_in, parts_at, rest_in, tables_there, tables_whole, taken_first, whole_in, window_batches}
+use Rattle.dv_vault.proofs.Vocabulary.{raw_with, is_valid, IsAddition, all_added, weight_with, HasSealed, RawVault, entries_with, last_head}
+use Rattle.dv_catalog.specs.declared.tables.TableId.TheVariants as ids
 use Rattle.dv_vault.proofs.AddedBatches.{added_is_batch}
 use Rattle.dv_vault.proofs.Afterwards.{loaded_batches, vault_reached, vault_with, weight_with_batches, windows_still_valid}
+use Rattle.dv_vault.proofs.BegunParts.{at_long, at_taken, at_there, at_whole, lacking_opened, lacking_rest, same_parts}
 use Rattle.dv_vault.proofs.VaultCollisions.{apart_is_free}
-use Rattle.dv_records.specs.Backwards.{backwards}
+use Rattle.dv_records.specs.Backwards.{Backwards, backwards}
 use Rattle.dv_records.specs.Vault.{partial}
 use Rattle.dv_text.proofs.Members.{last_got}
 
@@ -25,6 +28,20 @@ last_same (window ∷ windows) =
 
     by : (all : List Window) (n m : ℕ) → n ≡ m → slice_get (map (λ w. w.load) all) n ≡ option_map (λ head. head.load) (slice_get (map head_of all) m)
     by all n m e = got_load all n ∙ ap (λ k. option_map (λ head. head.load) (slice_get (map head_of all) k)) e
+
+-- no rows of each table are none of the kind of its batch
+no_batches : (mapping : Mapping) (hashes : Hashes) (older : Backwards) (window : Window) (some : List TableId)
+    → map (λ (entry : TableRows). no_rows entry.table) (map (table_entry mapping hashes older) some) ≡ map none_like (map (λ table. table_batch mapping hashes table older window) some)
+no_batches mapping hashes older window [] = refl
+no_batches mapping hashes older window (id ∷ some) = λ i. one id i ∷ no_batches mapping hashes older window some i
+  where
+    one : (id : TableId) → no_rows id ≡ none_like (table_batch mapping hashes id older window)
+    one (ids.Hub n) = refl
+    one (ids.Link n) = refl
+    one (ids.Sat n) = refl
+    one (ids.Multi n) = refl
+    one (ids.Status n) = refl
+    one (ids.Effect n) = refl
 
 module _ (hashes : Hashes) (sealed : List Window) (raw : RawVault) (has : HasSealed hashes sealed raw) (mapped : is_valid raw.mapping ≡ true) (window : Window) (whole : is_window raw.mapping window ≡ true)
     (late : late_after (last_head raw.heads) window.load ≡ None) (apart : AreApart hashes raw window) where
@@ -49,34 +66,90 @@ module _ (hashes : Hashes) (sealed : List Window) (raw : RawVault) (has : HasSea
       ∙ weight_with_batches raw.mapping hashes sealed window)
       ∙ ap (full_at (vault_weight raw.mapping hashes (sealed ++ window ∷ []))) (ap length has.heads_are ∙ length-map sealed head_of)
 
-  module _ (addition : Addition) (adds : IsAddition hashes raw window addition) where
-    batches_are : addition.batches ≡ batches
-    batches_are = adds.batches_are ∙ batches_added
+  -- what is to be opened is the window behind the sealed ones, of which no table has its batch
+  module _ (begun : Begun) (adds : IsAddition hashes raw window begun) where
+    rest_are : rest_in begun.parts.items ≡ batches
+    rest_are = adds.rest_is ∙ batches_added
 
-    pub rows_loaded : addition.rows ≡ loaded raw.mapping hashes sealed window
-    rows_loaded = adds.rows_are ∙ ap (sum_by row_count) batches_are ∙ loaded_batches raw.mapping hashes sealed window
+    opened_are : opened_in begun.parts.items ≡ map none_like batches
+    opened_are =
+        adds.none_there
+        ∙ ap (map (λ (entry : TableRows). no_rows entry.table)) has.tables_are
+        ∙ no_batches raw.mapping hashes (backwards sealed) window (tables raw.mapping)
 
-    -- the tables of which the first k have their batches
-    pub partly_after : (k : ℕ) → entries_with raw.tables (take k addition.batches) ≡ partial raw.mapping hashes sealed window k
-    partly_after k =
-        ap (λ (tables : List TableRows). entries_with tables (take k addition.batches)) has.tables_are
-        ∙ ap (λ (added : List Rows). entries_with (vault raw.mapping hashes sealed) (take k added)) batches_are
-        ∙ vault_reached raw.mapping hashes sealed window k
+    pub added_behind : IsBegunBehind raw.mapping hashes sealed window begun
+    added_behind = record {
+      window_is = adds.window_is;
+      there = 0;
+      within = omega arith;
+      parts_are = same_parts begun.parts.items (parts_at 0 batches) (opened_are ∙ sym (lacking_opened batches)) (rest_are ∙ sym (lacking_rest batches));
+      rows_are = adds.rows_are ∙ ap (sum_by row_count) rest_are ∙ loaded_batches raw.mapping hashes sealed window;
+      weight_is = adds.weight_is
+          ∙ ap (λ (added : List Rows). tables_weight raw.tables + sum_by rows_weight added) batches_added
+          ∙ ap (λ (tables : List TableRows). tables_weight tables + sum_by rows_weight batches) has.tables_are
+          ∙ weight_with_batches raw.mapping hashes sealed window;
+    }
 
-    -- one batch for each table
-    pub batch_count : length addition.batches ≡ length (tables raw.mapping)
-    batch_count = ap length batches_are ∙ length-map (tables raw.mapping) (λ table. table_batch raw.mapping hashes table (backwards sealed) window)
-
-    pub not_full : full_at addition.weight (length raw.heads) ≡ None → fullness ≡ None
+    pub not_full : full_at begun.weight (length raw.heads) ≡ None → fullness ≡ None
     not_full room = sym full_with ∙ ap (λ weight. full_at weight (length raw.heads)) (sym adds.weight_is) ∙ room
 
-    pub sealed_after : full_at addition.weight (length raw.heads) ≡ None → HasSealed hashes (sealed ++ window ∷ []) (raw_with addition raw)
-    sealed_after room = record {
-      valid = windows_still_valid raw.mapping hashes sealed window has.valid whole later (apart_is_free hashes sealed raw has mapped window apart) (not_full room);
-      tables_are = ap (λ (tables : List TableRows). entries_with tables addition.batches) has.tables_are
-          ∙ ap (entries_with (vault raw.mapping hashes sealed)) batches_are
-          ∙ vault_with raw.mapping hashes sealed window;
-      heads_are = ap (λ (heads : List WindowHead). heads ++ head_of addition.window ∷ []) has.heads_are
-          ∙ ap (λ (w : Window). map head_of sealed ++ head_of w ∷ []) adds.window_is
-          ∙ sym (map-append head_of sealed (window ∷ []));
-    }
+    -- and with it the windows are valid
+    pub valid_with : full_at begun.weight (length raw.heads) ≡ None → are_windows_valid raw.mapping hashes (sealed ++ window ∷ []) ≡ true
+    valid_with room = windows_still_valid raw.mapping hashes sealed window has.valid whole later (apart_is_free hashes sealed raw has mapped window apart) (not_full room)
+
+-- ---- a window behind the sealed ones, of which some first tables have their batches
+
+module _ (hashes : Hashes) (sealed : List Window) (raw : RawVault) (has : HasSealed hashes sealed raw) (window : Window) (begun : Begun) (behind : IsBegunBehind raw.mapping hashes sealed window begun) where
+  abbrev own_batches : List Rows
+  own_batches = window_batches raw.mapping hashes sealed window
+
+  parts_long : length begun.parts.items ≡ length (tables raw.mapping)
+  parts_long = ap length behind.parts_are ∙ at_long behind.there own_batches ∙ length-map (tables raw.mapping) (λ table. table_batch raw.mapping hashes table (backwards sealed) window)
+
+  partly : (parts : List Part) (far : ℕ) → parts ≡ parts_at far own_batches → tables_there raw.tables parts ≡ partial raw.mapping hashes sealed window far
+  partly parts far are =
+      (λ i. entries_with (has.tables_are i) (opened_in (are i)))
+      ∙ at_there far (vault raw.mapping hashes sealed) own_batches
+      ∙ vault_reached raw.mapping hashes sealed window far
+
+  pub there_partly : tables_there raw.tables begun.parts.items ≡ partial raw.mapping hashes sealed window behind.there
+  there_partly = partly begun.parts.items behind.there behind.parts_are
+
+  -- after some first tables got what they lacked
+  pub taken_parts : (k : ℕ) → k ≤ length begun.parts.items → (far : ℕ) × (far ≤ length (tables raw.mapping)) × (taken_first k begun.parts.items ≡ parts_at far own_batches)
+  taken_parts k within =
+      let (far, less, is) = at_taken k behind.there own_batches in
+      (far, less (length (tables raw.mapping)) behind.within (omega (arith, within, parts_long)), ap (taken_first k) behind.parts_are ∙ is)
+
+  pub taken_partly : (k : ℕ) → k ≤ length begun.parts.items
+      → (far : ℕ) × (far ≤ length (tables raw.mapping)) × (tables_there raw.tables (taken_first k begun.parts.items) ≡ partial raw.mapping hashes sealed window far)
+  taken_partly k within =
+      let (far, less, is) = taken_parts k within in
+      (far, less, partly (taken_first k begun.parts.items) far is)
+
+  pub left_behind : (left : Begun) → IsLeftOf begun left → IsBegunBehind raw.mapping hashes sealed window left
+  left_behind left of =
+      let (far, less, is) = taken_parts of.taken of.within in
+      record {
+        window_is = of.window_is ∙ behind.window_is;
+        there = far;
+        within = less;
+        parts_are = of.parts_are ∙ is;
+        rows_are = of.rows_are ∙ behind.rows_are;
+        weight_is = of.weight_is ∙ behind.weight_is;
+      }
+
+  -- with all of it the window is sealed
+  pub whole_vault : tables_whole raw.tables begun.parts.items ≡ vault raw.mapping hashes (sealed ++ window ∷ [])
+  whole_vault =
+      (λ i. entries_with (has.tables_are i) ((ap whole_in behind.parts_are ∙ at_whole behind.there own_batches) i))
+      ∙ vault_with raw.mapping hashes sealed window
+
+  pub sealed_after : are_windows_valid raw.mapping hashes (sealed ++ window ∷ []) ≡ true → HasSealed hashes (sealed ++ window ∷ []) (raw_with begun raw)
+  sealed_after valid = record {
+    valid = valid;
+    tables_are = whole_vault;
+    heads_are = ap (λ (heads : List WindowHead). heads ++ head_of begun.window ∷ []) has.heads_are
+        ∙ ap (λ (w : Window). map head_of sealed ++ head_of w ∷ []) behind.window_is
+        ∙ sym (map-append head_of sealed (window ∷ []));
+  }

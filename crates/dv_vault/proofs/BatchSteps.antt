@@ -1,10 +1,21 @@
 -- Tables and their batches, one table after the other.
-use Rattle.dv_vault.proofs.Vocabulary.{get_or-map, length-map, AllZip-long, AreOfKinds, IsOfKind, ◌≡◌, ℕ, ◌+◌, ◌<◌, ◌≤◌, Bool, true, false, List, [], ◌∷◌, ◌++◌, refl, sym, ◌∙◌, ap, subst, arith, add-one, append-nil, drop, drop-cons, get_or}
+use Rattle.dv_vault.proofs.Vocabulary.{get_or-map, length-map, AllZip-long, ◌≡◌, ℕ, ◌+◌, ◌<◌, ◌≤◌, Bool, true, false, List, [], ◌∷◌, ◌++◌, refl, sym, ◌∙◌, ap, subst, arith, add-one, append-nil, drop, drop-cons, get_or}
 use Rattle.dv_vault.proofs.Vocabulary.{length, map, not, slice_set, suc, take, zero, if◌then◌else◌, AllZip, list_any, and_parts, none_passes, same_answer, not-true, false≢true, table_eq-itself, Contains, Contains-get_or, drop_all, take_all}
 use Rattle.dv_vault.proofs.Vocabulary.{nil_from_length, map-append, append_assoc, drop-set-lt, take_more, take_more_set, TableId, Rows, TableRows, appended_to, are_apart, is_of_kind, no_rows, row_count, rows_in, rows_then, table_eq, Table}
 use Rattle.dv_vault.proofs.Vocabulary.{HaveRoom, Follow, entry_of, spare_of, entries_with, has_table, same_table}
 use Rattle.dv_catalog.specs.declared.tables.TableId.TheVariants as ids
 use Rattle.dv_records.specs.declared.stores.Rows.TheVariants as of
+
+-- ---- kinds
+
+-- the rows of a table, and a batch, are of its kind
+pub record IsOfKind (entry : TableRows) (batch : Rows) : Type 0 where
+  pub rows : is_of_kind entry.table entry.rows ≡ true
+  pub more : is_of_kind entry.table batch ≡ true
+
+-- one batch for each table, of its kind
+abbrev pub AreOfKinds : List TableRows → List Rows → Type 0
+AreOfKinds entries batches = AllZip IsOfKind entries batches
 
 -- ---- pairs
 
@@ -107,7 +118,7 @@ nothing_then (ids.Effect n) (of.Effects a) (of.Effects b) k l e = ap of.Effects 
 nothing_then table a b k l e = cc
 
 -- rows behind none
-then_nothing : (table : TableId) (b : Rows) → is_of_kind table b ≡ true → rows_then (no_rows table) b ≡ b
+pub then_nothing : (table : TableId) (b : Rows) → is_of_kind table b ≡ true → rows_then (no_rows table) b ≡ b
 then_nothing (ids.Hub n) (of.Hubs b) k = refl
 then_nothing (ids.Link n) (of.Links b) k = refl
 then_nothing (ids.Sat n) (of.Sats b) k = refl

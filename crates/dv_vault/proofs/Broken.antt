@@ -1,204 +1,238 @@
 -- A store whose keeper broke off to take a window.
-use Rattle.dv_vault.proofs.Vocabulary.{same_Some, ◌≡◌, ◌⊎◌, ◌≤◌, inl, inr, ℕ, List, [], ◌∷◌, ◌++◌, Option, Some, None, refl, sym, ◌∙◌, ap, subst, arith, take_all, length, Ok, Err, Result, Window}
-use Rattle.dv_vault.proofs.Vocabulary.{WindowHead, Told, KeeperError, Changes, Rows, Store, TableRows, changed, rows_in, HasRows, head_of, with_seal, with_stage}
-use Rattle.dv_vault.proofs.Vocabulary.{entries_with, Became, BreaksRows, BreaksWindow, BrokeOff, IfErr, IfSome, IsAsFar, IsBegun, IsLeftOpen, IsOpen, IsReached, TakesWindow, TookRows, TookWindow, reached}
-use Rattle.dv_vault.specs.declared.breaks.Break.{Break}
-use Rattle.dv_vault.proofs.BatchSteps.{no_more}
-use Rattle.dv_vault.proofs.StoreSteps.{TakesSome, made_or_not, sealed, unchanged}
+use Rattle.dv_vault.proofs.Vocabulary.{same_Some, ◌≡◌, ◌⊎◌, inl, inr, ℕ, Bool, true, false, List, [], ◌∷◌, ◌++◌, Option, Some, None, refl, sym, ◌∙◌, ap, subst, arith, length, Ok, Err, Result, Window}
+use Rattle.dv_vault.proofs.Vocabulary.{WindowHead, Told, KeeperError, Changes, Store, TableRows, changed, rows_in, HasRows, head_of, with_seal, with_stage, IsStagedAt}
+use Rattle.dv_vault.proofs.Vocabulary.{Became, Begun, BreaksParts, BreaksWindow, BrokeOff, HasLeft, HasTaken, IfErr, IsBegunIn, IsLeftOf, IsOpen, MayBeLeft, Part, TakesWindow, TookRows, TookSome, TookWindow, Untaken, tables_there, tables_whole, taken_first, with_open}
+use Rattle.dv_vault.proofs.Parts.{none_taken, taken_whole}
+use Rattle.dv_vault.proofs.StoreSteps.{became_changed, made_or_not, unchanged}
 
--- a window that was broken off
-abbrev BreaksOff : Window → List TableRows → List Rows → Option Store → Option Store → Type 0
-BreaksOff window entries batches before after = Became (BrokeOff window entries batches) before after
-
-pub not_begun : (window : Window) (entries : List TableRows) (batches : List Rows) (before after : Option Store) → after ≡ before → BreaksOff window entries batches before after
-not_begun window entries batches before after same now e = (now, sym same ∙ e, inl refl)
-
--- an open window is open with batches
+-- an opening window is opening with the rows of tables
 still_open : (window : Window) (entries : List TableRows) (was now : Store) → was.stage ≡ Some window → TookRows entries was now → IsOpen window entries was now
-still_open window entries was now is_open has =
-    record { tables_are = has.tables_are; others = has.others; stage = has.stage ∙ is_open; windows = has.windows; mapping = has.mapping; snapshots = has.snapshots }
+still_open window entries was now is_open has = record { tables_are = has.tables_are; others = has.others; stage_is = has.stage_is ∙ is_open; windows_are = has.windows_are; beside = has.beside }
 
--- with the batches of some first tables
-pub filling_broke : (window : Window) (entries : List TableRows) (batches : List Rows) (before after : Option Store) → Told before (λ s. s.stage ≡ Some window) → TakesSome entries batches before after
-    → BreaksOff window entries batches before after
-filling_broke window entries batches before after is_open took now e =
-    let (was, at, some) = took now e in
-    let has = some.2 in
-    (was, at, inr (inl (some.0, some.1, still_open window (reached entries batches some.0) was now (is_open was at) has)))
+pub opens_with : (window : Window) (entries : List TableRows) (before after : Option Store) → Told before (λ s. s.stage ≡ Some window) → Became (TookRows entries) before after → Became (IsOpen window entries) before after
+opens_with window entries before after is_open took now e =
+    let (was, at, has) = took now e in
+    (was, at, still_open window entries was now (is_open was at) has)
 
--- with all batches, and the window open or sealed
-pub sealing_broke : (window : Window) (entries : List TableRows) (batches : List Rows) (head : WindowHead) → head ≡ head_of window → (before mid after : Option Store)
-    → Became (IsOpen window (entries_with entries batches)) before mid → (after ≡ mid) ⊎ (after ≡ changed (with_seal head) mid) → BreaksOff window entries batches before after
-sealing_broke window entries batches head is before mid after begun (inl same) = λ now e.
-    let (was, at, is_open) = begun now (sym same ∙ e) in
-    (was, at, inr (inl (length batches, omega arith, subst (λ l. IsOpen window (entries_with entries l) was now) (sym (take_all (length batches) batches (omega arith))) is_open)))
-sealing_broke window entries batches head is before mid after begun (inr made) = λ now e.
-    let (was, at, took) = sealed window entries batches head is before mid after begun made now e in
-    (was, at, inr (inr took))
+pub staged_at : (window : Window) (entries : List TableRows) (load : ℕ) → window.load ≡ load → (before after : Option Store) → Became (IsOpen window entries) before after → Told after (λ s. IsStagedAt load s.stage)
+staged_at window entries load is before after begun s e =
+    let (was, at, has) = begun s e in
+    subst (IsStagedAt load) (sym has.stage_is) is
 
--- ---- a window that is opened first
-
-pub opened_reached : (window : Window) (entries : List TableRows) (batches : List Rows) (before mid : Option Store) → Told before (λ s. (s.stage ≡ None) × HasRows s entries) → mid ≡ changed (with_stage window) before
-    → Told mid (IsReached window entries batches 0)
-opened_reached window entries batches None mid told is s e = cc
-opened_reached window entries batches (Some was) mid told is s e =
-    let staged : with_stage window was ≡ s = same_Some (with_stage window was) s (sym is ∙ e) in
-    subst (IsReached window entries batches 0) staged (refl, subst (HasRows (with_stage window was)) (sym (no_more entries)) (told was refl).1)
-
--- what is kept of a store in which a window is opened
-pub opened_was : (window : Window) (before mid : Option Store) → mid ≡ changed (with_stage window) before → (was : Store) → mid ≡ Some was → (first : Store) × (before ≡ Some first) × (with_stage window first ≡ was)
-opened_was window None mid is was e = cc
-opened_was window (Some first) mid is was e = (first, refl, same_Some (with_stage window first) was (sym is ∙ e))
-
-pub opened_takes : (window : Window) (entries : List TableRows) (batches : List Rows) (before mid after : Option Store) → mid ≡ changed (with_stage window) before → TakesWindow window entries batches mid after
-    → TakesWindow window entries batches before after
-opened_takes window entries batches before mid after is takes now e =
-    let (was, at, took) = takes now e in
-    let (first, there, staged) = opened_was window before mid is was at in (
-      first,
-      there,
-      record {
-        tables_are = took.tables_are;
-        others = λ table none. took.others table none ∙ ap (λ (s : Store). rows_in table s.tables) (sym staged);
-        none_open = took.none_open;
-        windows = took.windows ∙ ap (λ (s : Store). s.windows ++ head_of window ∷ []) (sym staged);
-        mapping = took.mapping ∙ ap (λ (s : Store). s.mapping) (sym staged);
-        snapshots = took.snapshots ∙ ap (λ (s : Store). s.snapshots) (sym staged);
-      },
-    )
-
--- it is opened, and no batch is there yet
-pub opening_broke : (window : Window) (entries : List TableRows) (batches : List Rows) (before after : Option Store) → Told before (λ s. (s.stage ≡ None) × HasRows s entries)
-    → (after ≡ before) ⊎ (after ≡ changed (with_stage window) before) → BreaksOff window entries batches before after
-opening_broke window entries batches before after told (inl same) = not_begun window entries batches before after same
-opening_broke window entries batches before after told (inr made) = λ now e.
-    let (first, there, staged) = opened_was window before after made now e in (
-      first,
-      there,
-      inr (inl (
-        0,
-        omega arith,
-        record {
-          tables_are = (opened_reached window entries batches before after told made now e).1;
-          others = λ table none. ap (λ (s : Store). rows_in table s.tables) (sym staged);
-          stage = ap (λ (s : Store). s.stage) (sym staged);
-          windows = ap (λ (s : Store). s.windows) (sym staged);
-          mapping = ap (λ (s : Store). s.mapping) (sym staged);
-          snapshots = ap (λ (s : Store). s.snapshots) (sym staged);
-        },
-      )),
-    )
-
--- a window that is open in a store is open in it as it was before it was opened
-opened_is_open : (window : Window) (entries : List TableRows) (was first now : Store) → with_stage window first ≡ was → IsOpen window entries was now → IsOpen window entries first now
-opened_is_open window entries was first now staged is_open = record {
-  tables_are = is_open.tables_are;
-  others = λ table none. is_open.others table none ∙ ap (λ (s : Store). rows_in table s.tables) (sym staged);
-  stage = is_open.stage;
-  windows = is_open.windows ∙ ap (λ (s : Store). s.windows) (sym staged);
-  mapping = is_open.mapping ∙ ap (λ (s : Store). s.mapping) (sym staged);
-  snapshots = is_open.snapshots ∙ ap (λ (s : Store). s.snapshots) (sym staged);
-}
-
-pub opened_breaks : (window : Window) (entries : List TableRows) (batches : List Rows) (before mid after : Option Store) → Told before (λ s. (s.stage ≡ None) × HasRows s entries) → mid ≡ changed (with_stage window) before
-    → BreaksOff window entries batches mid after → BreaksOff window entries batches before after
-opened_breaks window entries batches before mid after told is breaks now e =
-    let (was, at, broke) = breaks now e in
-    let (first, there, staged) = opened_was window before mid is was at in
-    by was first there staged broke
-  where
-    by : (was first : Store) → before ≡ Some first → with_stage window first ≡ was
-        → (now ≡ was) ⊎ (IsLeftOpen window entries batches was now ⊎ TookWindow window (entries_with entries batches) was now)
-        → (first : Store) × (before ≡ Some first) × BrokeOff window entries batches first now
-    by was first there staged (inl same) =
-        opening_broke window entries batches before (Some now) told (inr (ap Some (same ∙ sym staged) ∙ ap (changed (with_stage window)) (sym there))) now refl
-    by was first there staged (inr (inl (k, within, is_open))) = (first, there, inr (inl (k, within, opened_is_open window (reached entries batches k) was first now staged is_open)))
-    by was first there staged (inr (inr took)) = (
-      first,
-      there,
-      inr (inr (record {
-        tables_are = took.tables_are;
-        others = λ table none. took.others table none ∙ ap (λ (s : Store). rows_in table s.tables) (sym staged);
-        none_open = took.none_open;
-        windows = took.windows ∙ ap (λ (s : Store). s.windows ++ head_of window ∷ []) (sym staged);
-        mapping = took.mapping ∙ ap (λ (s : Store). s.mapping) (sym staged);
-        snapshots = took.snapshots ∙ ap (λ (s : Store). s.snapshots) (sym staged);
-      })),
-    )
-
--- ---- the breaks of the calls
+pub sealed : (window : Window) (entries : List TableRows) (head : WindowHead) → head ≡ head_of window → (before mid after : Option Store) → Became (IsOpen window entries) before mid → after ≡ changed (with_seal head) mid → TakesWindow window entries before after
+sealed window entries head is before mid after begun e =
+    became_changed (with_seal head) (IsOpen window entries) (TookWindow window entries)
+    (λ was now r. record { tables_are = r.tables_are; others = r.others; stage_is = refl; windows_are = ap (λ l. l ++ head ∷ []) r.windows_are ∙ ap (λ h. was.windows ++ h ∷ []) is; beside = r.beside })
+    before mid after e begun
 
 -- an error that is passed on
 pub err_passed : {T U E : Type 0} (r : Result T E) (r' : Result U E) (P : E → Type 0) → ((e : E) → r' ≡ Err e → r ≡ Err e) → IfErr r P → IfErr r' P
 err_passed r (Ok x) P same is = tt
 err_passed r (Err e) P same is = subst (λ r. IfErr r P) (same e refl) is
 
--- batches were not all appended
-pub appending_breaks : {T : Type 0} (window : Window) (entries : List TableRows) (batches : List Rows) (before after : Option Store) → Told before (λ s. s.stage ≡ Some window) → (r : Result T Break)
-    → IfErr r (BreaksRows entries batches before after) → IfErr r (BreaksWindow window entries batches before after)
-appending_breaks window entries batches before after is_open (Ok x) broken = tt
-appending_breaks window entries batches before after is_open (Err b) broken = record {
-  broke = filling_broke window entries batches before after is_open broken.some;
-  within = broken.within;
-  exact = λ e. exactly (broken.exact e);
-}
-  where
-    exactly : (k : ℕ) × (b.reached ≡ Some k) × Became (TookRows (reached entries batches k)) before after → Became (IsAsFar window entries batches b.reached) before after
-    exactly (k, at, took) = subst (λ r. Became (IsAsFar window entries batches r) before after) (sym at) (λ now e.
-        let (was, there, has) = took now e in
-        (was, there, still_open window (reached entries batches k) was now (is_open was there) has))
+-- what holds of an error, where there is one
+pub of_error : {T E : Type 0} (r : Result T E) (P : E → Type 0) → ((error : E) → r ≡ Err error → P error) → IfErr r P
+of_error (Ok x) P each = tt
+of_error (Err e) P each = each e refl
 
--- the window was not sealed, or was
-pub sealing_breaks : {T : Type 0} (window : Window) (entries : List TableRows) (batches : List Rows) (head : WindowHead) → head ≡ head_of window → (before mid after : Option Store)
-    → Became (IsOpen window (entries_with entries batches)) before mid → (r : Result T KeeperError) (error : KeeperError) → r ≡ Err error → Changes (with_seal head) mid after r → (n : ℕ) → n ≡ length batches
-    → BreaksWindow window entries batches before after (record { error = error; reached = Some n })
-sealing_breaks window entries batches head is before mid after begun r error failed changes n all = record {
-  broke = sealing_broke window entries batches head is before mid after begun (made_or_not (with_seal head) mid after r changes);
-  within = omega (arith, all);
-  exact = λ e now at.
-      let (was, there, is_open) = begun now (sym (unchanged (with_seal head) mid after r (failed ∙ ap Err e) changes) ∙ at) in
-      (was, there, subst (λ l. IsOpen window (entries_with entries l) was now) (sym (take_all n batches (omega (arith, all)))) is_open);
-}
+module _ (entries : List TableRows) (begun : Begun) where
+  abbrev window : Window
+  window = begun.window
 
--- the window was not opened, or was
-pub opening_breaks : {T : Type 0} (window : Window) (entries : List TableRows) (batches : List Rows) (before after : Option Store) → Told before (λ s. (s.stage ≡ None) × HasRows s entries)
-    → (r : Result T KeeperError) (error : KeeperError) → r ≡ Err error → Changes (with_stage window) before after r → BreaksWindow window entries batches before after (record { error = error; reached = None })
-opening_breaks window entries batches before after told r error failed changes = record {
-  broke = opening_broke window entries batches before after told (made_or_not (with_stage window) before after r changes);
-  within = tt;
-  exact = λ e now at.
-      let same = unchanged (with_stage window) before after r (failed ∙ ap Err e) changes in
-      (now, sym same ∙ at, refl);
-}
+  abbrev parts : List Part
+  parts = begun.parts.items
 
--- the window was opened, and then broken off
-pub completing_breaks : {T : Type 0} (window : Window) (entries : List TableRows) (batches : List Rows) (before mid after : Option Store) → Told before (λ s. (s.stage ≡ None) × HasRows s entries)
-    → mid ≡ changed (with_stage window) before → (r : Result T Break) → IfErr r (λ b. b.reached ≡ None → ⊥) → IfErr r (BreaksWindow window entries batches mid after) → IfErr r (BreaksWindow window entries batches before after)
-completing_breaks window entries batches before mid after told is (Ok x) opened broken = tt
-completing_breaks window entries batches before mid after told is (Err b) opened broken = record {
-  broke = opened_breaks window entries batches before mid after told is broken.broke;
-  within = broken.within;
-  exact = λ e. by b.reached refl (broken.exact e);
-}
-  where
-    by : (far : Option ℕ) → b.reached ≡ far → Became (IsAsFar window entries batches far) mid after → Became (IsAsFar window entries batches far) before after
-    by None at far = absurd (opened at)
-    by (Some k) at far = λ now e.
-        let (was, there, is_open) = far now e in
-        let (first, before_is, staged) = opened_was window before mid is was there in
-        (first, before_is, opened_is_open window (reached entries batches k) was first now staged is_open)
+  abbrev BreaksOff : Option Store → Option Store → Type 0
+  BreaksOff before after = Became (BrokeOff entries begun) before after
 
--- nothing was done for a window that was opened or not
-pub nothing_breaks : (window : Window) (entries : List TableRows) (batches : List Rows) (store : Option Store) (error : KeeperError) (begun : Option ℕ) → IfSome begun (λ k. k ≤ length batches) → Told store (IsBegun window entries batches begun)
-    → BreaksWindow window entries batches store store (record { error = error; reached = begun })
-nothing_breaks window entries batches store error begun within told = record {
-  broke = not_begun window entries batches store store refl;
-  within = within;
-  exact = λ e. by begun told;
-}
-  where
-    by : (begun : Option ℕ) → Told store (IsBegun window entries batches begun) → Became (IsAsFar window entries batches begun) store store
-    by None told now at = (now, at, refl)
-    by (Some k) told now at =
-        let (is_open, has) = told now at in
-        (now, at, record { tables_are = has; others = λ table none. refl; stage = is_open; windows = refl; mapping = refl; snapshots = refl })
+  pub not_begun : (before after : Option Store) → after ≡ before → BreaksOff before after
+  not_begun before after same now e = (now, sym same ∙ e, inl refl)
+
+  -- ---- an opening window
+
+  -- the window is opening
+  pub is_staged : (store : Option Store) → Told store (IsBegunIn true entries begun) → Told store (λ s. s.stage ≡ Some window)
+  is_staged store told s e = (told s e).stage_is
+
+  -- some first tables got what they lacked
+  filling_broke : (before after : Option Store) → Told before (λ s. s.stage ≡ Some window) → Became (TookSome entries parts) before after → BreaksOff before after
+  filling_broke before after is_open took now e =
+      let (was, at, (k, within, has)) = took now e in
+      (was, at, inr (inl (k, within, still_open window (tables_there entries (taken_first k parts)) was now (is_open was at) has)))
+
+  pub appending_breaks : (left : Begun) → left.window ≡ window → left.rows ≡ begun.rows → left.weight ≡ begun.weight → (before after : Option Store) → Told before (λ s. s.stage ≡ Some window)
+      → (error : KeeperError) → BreaksParts entries parts before after error left.parts.items → BreaksWindow true entries begun before after (record { error = error; begun = Some left })
+  appending_breaks left same rows weight before after is_open error broken = record {
+    broke = filling_broke before after is_open broken.some;
+    left = record { window_is = same; rows_are = rows; weight_is = weight; taken = broken.taken; within = broken.within; parts_are = broken.left_are };
+    exact = λ e. subst (λ w. Became (IsOpen w (tables_there entries left.parts.items)) before after) (sym same) (opens_with window (tables_there entries left.parts.items) before after is_open (broken.exact e));
+  }
+
+  -- all tables have all rows, and the window is opening or sealed
+  sealing_broke : (head : WindowHead) → head ≡ head_of window → (before mid after : Option Store)
+      → Became (IsOpen window (tables_whole entries parts)) before mid → (after ≡ mid) ⊎ (after ≡ changed (with_seal head) mid) → BreaksOff before after
+  sealing_broke head is before mid after opening (inl same) = λ now e.
+      let (was, at, is_open) = opening now (sym same ∙ e) in
+      (was, at, inr (inl (length parts, omega arith, subst (λ tables. IsOpen window tables was now) (sym (taken_whole (length parts) entries parts (omega arith))) is_open)))
+  sealing_broke head is before mid after opening (inr made) = λ now e.
+      let (was, at, took) = sealed window (tables_whole entries parts) head is before mid after opening made now e in
+      (was, at, inr (inr took))
+
+  pub sealing_breaks : {T : Type 0} (left : Begun) → left.window ≡ window → left.rows ≡ begun.rows → left.weight ≡ begun.weight → left.parts.items ≡ taken_first (length parts) parts
+      → (head : WindowHead) → head ≡ head_of window → (before mid after : Option Store)
+      → Became (IsOpen window (tables_whole entries parts)) before mid → (r : Result T KeeperError) (error : KeeperError) → r ≡ Err error → Changes (with_seal head) mid after r
+      → BreaksWindow true entries begun before after (record { error = error; begun = Some left })
+  sealing_breaks left same rows weight all head is before mid after opening r error failed changes = record {
+    broke = sealing_broke head is before mid after opening (made_or_not (with_seal head) mid after r changes);
+    left = record { window_is = same; rows_are = rows; weight_is = weight; taken = length parts; within = omega arith; parts_are = all };
+    exact = λ e now at.
+        let (was, there, is_open) = opening now (sym (unchanged (with_seal head) mid after r (failed ∙ ap Err e) changes) ∙ at) in
+        let tables : tables_whole entries parts ≡ tables_there entries left.parts.items = sym (taken_whole (length parts) entries parts (omega arith)) ∙ ap (tables_there entries) (sym all) in
+        (was, there, subst (λ w. IsOpen w (tables_there entries left.parts.items) was now) (sym same) (subst (λ tables. IsOpen window tables was now) tables is_open));
+  }
+
+  -- ---- a window that is opened first
+
+  -- what is kept of a store in which a window is opened
+  opened_was : (before mid : Option Store) → mid ≡ changed (with_stage window) before → (was : Store) → mid ≡ Some was → (first : Store) × (before ≡ Some first) × (with_stage window first ≡ was)
+  opened_was None mid is was e = cc
+  opened_was (Some first) mid is was e = (first, refl, same_Some (with_stage window first) was (sym is ∙ e))
+
+  -- what a store has taken, it has taken since before the window was opened
+  since : (stage : Option Window) (more : List WindowHead) (tables : List TableRows) (was first now : Store) → with_stage window first ≡ was → HasTaken stage (was.windows ++ more) tables was now → HasTaken stage (first.windows ++ more) tables first now
+  since stage more tables was first now staged has = record {
+    tables_are = has.tables_are;
+    others = λ table none. has.others table none ∙ ap (λ (s : Store). rows_in table s.tables) (sym staged);
+    stage_is = has.stage_is;
+    windows_are = has.windows_are ∙ ap (λ (s : Store). s.windows ++ more) (sym staged);
+    beside = has.beside ∙ ap (λ (s : Store). record s { tables = []; stage = None; windows = [] }) (sym staged);
+  }
+
+  open_since : (tables : List TableRows) (was first now : Store) → with_stage window first ≡ was → IsOpen window tables was now → IsOpen window tables first now
+  open_since tables was first now staged has = record {
+    tables_are = has.tables_are;
+    others = λ table none. has.others table none ∙ ap (λ (s : Store). rows_in table s.tables) (sym staged);
+    stage_is = has.stage_is;
+    windows_are = has.windows_are ∙ ap (λ (s : Store). s.windows) (sym staged);
+    beside = has.beside ∙ ap (λ (s : Store). record s { tables = []; stage = None; windows = [] }) (sym staged);
+  }
+
+  -- the store in which it was opened
+  just_opened : (before mid : Option Store) → Told before (IsBegunIn false entries begun) → mid ≡ changed (with_stage window) before → Became (IsOpen window (tables_there entries parts)) before mid
+  just_opened before mid told is now e =
+      let (first, there, staged) = opened_was before mid is now e in (
+        first,
+        there,
+        record {
+          tables_are = subst (λ s. HasRows s (tables_there entries parts)) staged (told first there).tables_are;
+          others = λ table none. ap (λ (s : Store). rows_in table s.tables) (sym staged);
+          stage_is = ap (λ (s : Store). s.stage) (sym staged);
+          windows_are = ap (λ (s : Store). s.windows) (sym staged);
+          beside = ap (λ (s : Store). record s { tables = []; stage = None; windows = [] }) (sym staged);
+        },
+      )
+
+  pub opened_in_store : (before mid : Option Store) → Told before (IsBegunIn false entries begun) → mid ≡ changed (with_stage window) before → Told mid (IsBegunIn true entries begun)
+  opened_in_store before mid told is s e =
+      let (first, there, has) = just_opened before mid told is s e in
+      record { stage_is = has.stage_is; tables_are = has.tables_are }
+
+  opening_broke : (before after : Option Store) → Told before (IsBegunIn false entries begun) → (after ≡ before) ⊎ (after ≡ changed (with_stage window) before) → BreaksOff before after
+  opening_broke before after told (inl same) = not_begun before after same
+  opening_broke before after told (inr made) = λ now e.
+      let (first, there, has) = just_opened before after told made now e in
+      (first, there, inr (inl (0, omega arith, subst (λ parts. IsOpen window (tables_there entries parts) first now) (sym (none_taken parts)) has)))
+
+  opened_takes : (before mid after : Option Store) → mid ≡ changed (with_stage window) before → TakesWindow window (tables_whole entries parts) mid after → TakesWindow window (tables_whole entries parts) before after
+  opened_takes before mid after is takes now e =
+      let (was, at, took) = takes now e in
+      let (first, there, staged) = opened_was before mid is was at in
+      (first, there, since None (head_of window ∷ []) (tables_whole entries parts) was first now staged took)
+
+  opened_breaks : (before mid after : Option Store) → Told before (IsBegunIn false entries begun) → mid ≡ changed (with_stage window) before → BreaksOff mid after → BreaksOff before after
+  opened_breaks before mid after told is breaks now e =
+      let (was, at, broke) = breaks now e in
+      let (first, there, staged) = opened_was before mid is was at in
+      by was first there staged broke
+    where
+      by : (was first : Store) → before ≡ Some first → with_stage window first ≡ was → BrokeOff entries begun was now → (first : Store) × (before ≡ Some first) × BrokeOff entries begun first now
+      by was first there staged (inl same) = opening_broke before (Some now) told (inr (ap Some (same ∙ sym staged) ∙ ap (changed (with_stage window)) (sym there))) now refl
+      by was first there staged (inr (inl (k, within, is_open))) = (first, there, inr (inl (k, within, open_since (tables_there entries (taken_first k parts)) was first now staged is_open)))
+      by was first there staged (inr (inr took)) = (first, there, inr (inr (since None (head_of window ∷ []) (tables_whole entries parts) was first now staged took)))
+
+  -- ---- a window that is opening, or is opened first
+
+  pub then_begun : (is_open : Bool) (before mid : Option Store) → Told before (IsBegunIn is_open entries begun) → mid ≡ changed (with_open is_open window) before → Told mid (IsBegunIn true entries begun)
+  then_begun true before mid told is s e = told s (same before mid is ∙ e)
+    where
+      same : (before mid : Option Store) → mid ≡ changed (with_open true window) before → before ≡ mid
+      same None mid is = sym is
+      same (Some s) mid is = sym is
+  then_begun false before mid told is s e = opened_in_store before mid told (by before mid is) s e
+    where
+      by : (before mid : Option Store) → mid ≡ changed (with_open false window) before → mid ≡ changed (with_stage window) before
+      by None mid is = is
+      by (Some s) mid is = is
+
+  pub then_takes : (is_open : Bool) (before mid after : Option Store) → mid ≡ changed (with_open is_open window) before → TakesWindow window (tables_whole entries parts) mid after → TakesWindow window (tables_whole entries parts) before after
+  then_takes true None mid after is = subst (λ mid. TakesWindow window (tables_whole entries parts) mid after) is
+  then_takes true (Some s) mid after is = subst (λ mid. TakesWindow window (tables_whole entries parts) mid after) is
+  then_takes false None mid after is = opened_takes None mid after is
+  then_takes false (Some s) mid after is = opened_takes (Some s) mid after is
+
+  pub then_breaks : (is_open : Bool) (left : Begun) (error : KeeperError) (before mid after : Option Store) → Told before (IsBegunIn is_open entries begun) → mid ≡ changed (with_open is_open window) before
+      → BreaksWindow true entries begun mid after (record { error = error; begun = Some left }) → BreaksWindow is_open entries begun before after (record { error = error; begun = Some left })
+  then_breaks true left error None mid after told is broken = subst (λ mid. BreaksWindow true entries begun mid after (record { error = error; begun = Some left })) is broken
+  then_breaks true left error (Some s) mid after told is broken = subst (λ mid. BreaksWindow true entries begun mid after (record { error = error; begun = Some left })) is broken
+  then_breaks false left error before mid after told is broken = record {
+    broke = opened_breaks before mid after told (by before mid is) broken.broke;
+    left = broken.left;
+    exact = λ e now at.
+        let (was, there, is_open) = broken.exact e now at in
+        let (first, before_is, staged) = opened_was before mid (by before mid is) was there in (
+          first,
+          before_is,
+          subst (λ w. IsOpen w (tables_there entries left.parts.items) first now) (sym broken.left.window_is)
+              (open_since (tables_there entries left.parts.items) was first now staged (subst (λ w. IsOpen w (tables_there entries left.parts.items) was now) broken.left.window_is is_open)),
+        );
+  }
+    where
+      by : (before mid : Option Store) → mid ≡ changed (with_open false window) before → mid ≡ changed (with_stage window) before
+      by None mid is = is
+      by (Some s) mid is = is
+
+  -- ---- nothing was done
+
+  left_itself : IsLeftOf begun begun
+  left_itself = record { window_is = refl; rows_are = refl; weight_is = refl; taken = 0; within = omega arith; parts_are = sym (none_taken parts) }
+
+  pub nothing_breaks : (is_open : Bool) (untaken : Untaken) (store : Option Store) → (is_open ≡ true → untaken.begun ≡ Some begun) → (is_open ≡ false → untaken.begun ≡ None) → Told store (IsBegunIn is_open entries begun)
+      → BreaksWindow is_open entries begun store store untaken
+  nothing_breaks true untaken store opening closed told = record {
+    broke = not_begun store store refl;
+    left = subst (MayBeLeft true begun) (sym (opening refl)) left_itself;
+    exact = λ e. subst (λ left. Became (HasLeft entries left) store store) (sym (opening refl)) (λ now at.
+        let has = told now at in
+        (now, at, record { tables_are = has.tables_are; others = λ table none. refl; stage_is = has.stage_is; windows_are = refl; beside = refl }));
+  }
+  nothing_breaks false untaken store opening closed told = record {
+    broke = not_begun store store refl;
+    left = subst (MayBeLeft false begun) (sym (closed refl)) refl;
+    exact = λ e. subst (λ left. Became (HasLeft entries left) store store) (sym (closed refl)) (λ now at. (now, at, refl));
+  }
+
+  -- the window was not opened, or was
+  pub opening_breaks : {T : Type 0} (is_open : Bool) → is_open ≡ false → (untaken : Untaken) (before after : Option Store) → (is_open ≡ false → untaken.begun ≡ None) → Told before (IsBegunIn is_open entries begun)
+      → (r : Result T KeeperError) (error : KeeperError) → r ≡ Err error → untaken.error ≡ error → Changes (with_open is_open window) before after r → BreaksWindow is_open entries begun before after untaken
+  opening_breaks true never untaken before after closed told r error failed same changes = cc
+  opening_breaks false is untaken before after closed told r error failed same changes = record {
+    broke = opening_broke before after told (either before after (made_or_not (with_open false window) before after r changes));
+    left = subst (MayBeLeft false begun) (sym (closed refl)) refl;
+    exact = λ e. subst (λ left. Became (HasLeft entries left) before after) (sym (closed refl)) (λ now at.
+        (now, sym (unchanged (with_open false window) before after r (failed ∙ ap Err (sym same ∙ e)) changes) ∙ at, refl));
+  }
+    where
+      either : (before after : Option Store) → (after ≡ before) ⊎ (after ≡ changed (with_open false window) before) → (after ≡ before) ⊎ (after ≡ changed (with_stage window) before)
+      either before after (inl same) = inl same
+      either None after (inr made) = inr made
+      either (Some s) after (inr made) = inr made

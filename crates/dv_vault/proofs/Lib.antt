@@ -3,6 +3,7 @@ pub mod AddedWindows
 pub mod Afterwards
 pub mod BatchesSoFar
 pub mod BatchSteps
+pub mod BegunParts
 pub mod Broken
 pub mod DeliverySets
 pub mod EmptyTables
@@ -10,8 +11,10 @@ pub mod FeedLists
 pub mod FeedTables
 pub mod HubLists
 pub mod NamedHubs
+pub mod NewWindows
 pub mod NoWindows
 pub mod OtherTables
+pub mod Parts
 pub mod SortedOffers
 pub mod Stamped
 pub mod StoreSteps

@@ -1,7 +1,7 @@
 -- The names of the hubs of a vault tell the keys of the hubs' rows.
 use Rattle.dv_vault.proofs.Vocabulary.{option_or-none, hubs_in, length-map, length-range_with_len, get_or-map-range_with_len, ◌≡◌, ℕ, zero, suc, ◌+◌, ◌<◌, ◌==◌, Bool, true, false, List, [], ◌∷◌, ◌++◌, Option, Some, None, Bor, refl, sym}
 use Rattle.dv_vault.proofs.Vocabulary.{◌∙◌, ap, arith, map, length, reverse, eq-eqb, cond, find, slice_get, enumerate_from, flat_map, range_with_len, option_map, option_or, IsItemAt, bytes_eq, nat_tests, find-append, slice_get-get_or}
-use Rattle.dv_vault.proofs.Vocabulary.{slice_get-map, slice_get_past, Key, Window, Hashes, Mapping, Indexed, HubRow, appended, HubName, is_named, key_named, hub_batch, hub_rows_in, vault, vault_hub, key_with, hub_names, names_of_hub}
+use Rattle.dv_vault.proofs.Vocabulary.{slice_get-map, slice_get_past, Key, Window, Hashes, Mapping, Indexed, HubRow, appended, HubName, is_named, key_named, hub_batch, hub_rows_in, vault, vault_hub, key_with, hub_names, names_of_hub, TableRows}
 use Rattle.dv_vault.proofs.Vocabulary.{names_of_rows}
 
 -- the names of one hub are those of its rows
@@ -84,12 +84,16 @@ name_there hubs hub digest found there is e =
     named_in hub digest (map (λ hub. hub.now.rows) hubs) ∙ ap (key_in digest) (rows_at hubs hub found is)
     ∙ ap (λ (found : Option (Bor (Bor (Indexed HubRow)))). key_in digest (option_map (λ hub. hub.now.rows) (option_map (λ hub. hub.now) found))) e
 
--- the names of the hubs of a vault are those of their rows
+-- the names of the hubs of tables are those of their rows
+pub names_told : (mapping : Mapping) (tables : List TableRows) (hub : ℕ) (digest : List ℕ) → hub < length mapping.hubs → key_named hub digest (hub_names mapping tables) ≡ key_with digest (hub_rows_in hub tables)
+names_told mapping tables hub digest under =
+    let rows_of = λ (hub : ℕ). hub_rows_in hub tables in
+    let within : hub < length (hubs_in mapping tables) = omega (arith, under, length-map (range_with_len 0 (length mapping.hubs)) rows_of, length-range_with_len 0 (length mapping.hubs)) in
+    named_in hub digest (hubs_in mapping tables)
+    ∙ ap (key_in digest) (slice_get-get_or (hubs_in mapping tables) hub (rows_of hub) within ∙ ap Some (get_or-map-range_with_len rows_of 0 (length mapping.hubs) hub hub (rows_of hub) under (omega arith)))
+
+-- so those of a vault are
 pub hubs_named : (mapping : Mapping) (hashes : Hashes) (sealed : List Window) (hub : ℕ) (digest : List ℕ) → hub < length mapping.hubs
     → key_named hub digest (hub_names mapping (vault mapping hashes sealed)) ≡ key_with digest (appended (hub_batch mapping hashes hub) (reverse sealed))
 hubs_named mapping hashes sealed hub digest under =
-    let rows_of = λ (hub : ℕ). hub_rows_in hub (vault mapping hashes sealed) in
-    let within : hub < length (hubs_in mapping (vault mapping hashes sealed)) = omega (arith, under, length-map (range_with_len 0 (length mapping.hubs)) rows_of, length-range_with_len 0 (length mapping.hubs)) in
-    named_in hub digest (hubs_in mapping (vault mapping hashes sealed))
-    ∙ ap (key_in digest) (slice_get-get_or (hubs_in mapping (vault mapping hashes sealed)) hub (rows_of hub) within ∙ ap Some (get_or-map-range_with_len rows_of 0 (length mapping.hubs) hub hub (rows_of hub) under (omega arith)))
-    ∙ ap (key_with digest) (vault_hub mapping hashes sealed hub under)
+    names_told mapping (vault mapping hashes sealed) hub digest under ∙ ap (key_with digest) (vault_hub mapping hashes sealed hub under)

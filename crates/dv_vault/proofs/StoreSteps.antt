@@ -1,10 +1,11 @@
--- A store that takes batches, one table after the other.
-use Rattle.dv_vault.proofs.Vocabulary.{same_Some, ◌≡◌, ◌⊎◌, inl, inr, ℕ, ◌+◌, ◌<◌, ◌≤◌, ◌==◌, Bool, true, false, List, [], ◌∷◌, ◌++◌, Option, Some, None, refl, sym, ◌∙◌, ap, subst, arith, add-one, suc, take, length, is_ok, Ok, Err, Result, if◌then◌else◌, eqb-true, Window}
-use Rattle.dv_vault.proofs.Vocabulary.{WindowHead, Told, TableId, KeeperError, Failed, Rows, Changes, Store, TableRows, KeeperCause, changed, HasRows, head_of, is_of_kind, row_count, rows_in, with_rows, with_seal, IsStagedAt, same_answer, false≢true, same_table, table_eq, has_table}
-use Rattle.dv_vault.proofs.Vocabulary.{entries_with, Became, IsOfKind, IsOpen, IsReached, TookSome, reached, TakesRows, TakesWindow, TookRows, TookWindow, with_batch}
+-- A store that takes what tables lack of a window, one table after the other.
+use Rattle.dv_vault.proofs.Vocabulary.{same_Some, ◌≡◌, ◌⊎◌, inl, inr, ℕ, ◌+◌, ◌<◌, ◌≤◌, ◌==◌, ◌&&◌, not, Bool, true, false, List, [], ◌∷◌, Option, Some, None, refl, sym, ◌∙◌, ap, subst, arith, add-one, suc, zero, take, length, get_or, is_ok, Ok, Err, Result, if◌then◌else◌, eqb-true}
+use Rattle.dv_vault.proofs.Vocabulary.{AllZip-long, Told, TableId, KeeperError, Failed, Rows, Changes, Store, TableRows, KeeperCause, are_apart, changed, HasRows, is_of_kind, row_count, rows_in, rows_then, with_rows, same_answer, false≢true, same_table, table_eq, has_table}
+use Rattle.dv_vault.proofs.Vocabulary.{ArePartsOf, Became, BreaksParts, IsPartOf, Part, TookRows, TookSome, entries_with, opened_in, rest_in, tables_there, taken_first, with_batch}
 use Rattle.dv_records.specs.declared.keepers.KeeperError.TheVariants.{Memory}
-use Rattle.dv_vault.proofs.BatchSteps.{AtPlace, nothing_then, others_stay, rows_stay}
+use Rattle.dv_vault.proofs.BatchSteps.{AtPlace, IsOfKind, at_place, nothing_then, others_stay, pair_at, rows_stay}
 use Rattle.dv_vault.proofs.OtherTables.{with_has}
+use Rattle.dv_vault.proofs.Parts.{none_taken, rest_kinds, there_taken}
 use Rattle.std.specs.Prelude.{IsSome}
 
 -- ---- changing calls
@@ -26,16 +27,11 @@ unchanged change old new (Ok x) e is = cc
 unchanged change old new (Err Memory) e is = is
 unchanged change old new (Err Failed) e is = cc
 
--- what is there of batches that went no further
-pub rows_exact : (entries : List TableRows) (batches : List Rows) (k : ℕ) (before mid after : Option Store) → TakesRows entries (take k batches) before mid → after ≡ mid
-    → Became (TookRows (reached entries batches k)) before after
-rows_exact entries batches k before mid after took same now e = took now (sym same ∙ e)
-
 -- ---- batches
 
--- the batches of some first tables
-abbrev pub TakesSome : List TableRows → List Rows → Option Store → Option Store → Type 0
-TakesSome entries batches before after = Became (TookSome entries batches) before after
+-- a store that takes batches behind the rows of tables
+abbrev TakesRows : List TableRows → List Rows → Option Store → Option Store → Type 0
+TakesRows entries batches before after = Became (TookRows (entries_with entries batches)) before after
 
 -- a change behind what a store became
 pub became_changed : (change : Store → Store) (R S : Store → Store → Type 0) → ((was now : Store) → R was now → S was (change now))
@@ -44,10 +40,6 @@ became_changed change R S step before None after is b next e = cc
 became_changed change R S step before (Some m) after is b next e =
     let (was, at, r) = b m refl in
     (was, at, subst (S was) (same_Some (change m) next (sym is ∙ e)) (step was m r))
-
--- a store that has the batches of some first tables
-pub took_first : (entries : List TableRows) (batches : List Rows) (k : ℕ) (store : Option Store) → Told store (λ s. HasRows s (reached entries batches k)) → TakesRows entries (take k batches) store store
-took_first entries batches k store told s e = (s, e, record { tables_are = told s e; others = λ table none. refl; stage = refl; windows = refl; mapping = refl; snapshots = refl })
 
 module _ (entries : List TableRows) (batches : List Rows) (i : ℕ) (entry : TableRows) (rows : Rows) (at : AtPlace entries batches i entry rows) (kind : IsOfKind entry rows) where
   -- a table that isn't among them is another
@@ -67,10 +59,9 @@ module _ (entries : List TableRows) (batches : List Rows) (i : ℕ) (entry : Tab
         others = λ id none.
             let apart : has_table id entries ≡ false = sym (with_has id entries (take (suc i) batches)) ∙ none in
             others_stay id entry.table rows kind.more (another id apart) now.tables ∙ took.others id (with_has id entries (take i batches) ∙ apart);
-        stage = took.stage;
-        windows = took.windows;
-        mapping = took.mapping;
-        snapshots = took.snapshots;
+        stage_is = took.stage_is;
+        windows_are = took.windows_are;
+        beside = took.beside;
       }
 
   pub took_more : (table : TableId) → table ≡ entry.table → (before mid after : Option Store) → after ≡ changed (with_batch table rows) mid
@@ -84,45 +75,104 @@ module _ (entries : List TableRows) (batches : List Rows) (i : ℕ) (entry : Tab
       let (was, at_was, has) = took s e in
       ap (λ t. is_of_kind t (rows_in t s.tables)) is ∙ ap (is_of_kind entry.table) (has.tables_are entry.table (with_has entry.table entries (take i batches) ∙ at.among) ∙ at.found) ∙ kind.rows
 
-  -- after a call that may have failed the batches of some first tables are there
-  pub took_some : (table : TableId) → table ≡ entry.table → i < length batches → (before mid after : Option Store) → (after ≡ mid) ⊎ (after ≡ changed (with_batch table rows) mid)
-      → TakesRows entries (take i batches) before mid → TakesSome entries batches before after
-  took_some table is within before mid after (inl same) took now e =
-      let (was, at_was, has) = took now (sym same ∙ e) in
-      (was, at_was, (i, omega (arith, within), has))
-  took_some table is within before mid after (inr made) took now e =
-      let (was, at_was, has) = took_more table is before mid after made took now e in
-      (was, at_was, (i + 1, omega (arith, within), has))
+-- ---- parts
+
+-- the tables stay apart with batches
+apart_with : (entries : List TableRows) (batches : List Rows) → are_apart (entries_with entries batches) ≡ are_apart entries
+apart_with [] batches = refl
+apart_with (entry ∷ entries) [] = refl
+apart_with (entry ∷ entries) (rows ∷ batches) = λ i. not (with_has entry.table entries batches i) && apart_with entries batches i
+
+-- a table with what is there of a window
+abbrev there_with : TableRows → Part → TableRows
+there_with entry part = record { table = entry.table; rows = rows_then entry.rows part.opened }
+
+there_at : (entries : List TableRows) (parts : List Part) (i : ℕ) (entry : TableRows) (part : Part) → i < length entries → i < length parts → get_or entries i entry ≡ entry → get_or parts i part ≡ part
+    → (i < length (tables_there entries parts)) × (get_or (tables_there entries parts) i (there_with entry part) ≡ there_with entry part)
+there_at [] parts i entry part under too at is = absurd (omega (arith, under))
+there_at (first ∷ entries) [] i entry part under too at is = absurd (omega (arith, too))
+there_at (first ∷ entries) (head ∷ parts) zero entry part under too at is = (omega arith, λ i. there_with (at i) (is i))
+there_at (first ∷ entries) (head ∷ parts) (suc i) entry part under too at is =
+    let (within, same) = there_at entries parts i entry part (omega (arith, under)) (omega (arith, too)) at is in
+    (omega (arith, within), same)
+
+rest_at : (parts : List Part) (i : ℕ) (part : Part) → i < length parts → get_or parts i part ≡ part → (i < length (rest_in parts)) × (get_or (rest_in parts) i part.rest ≡ part.rest)
+rest_at [] i part under is = absurd (omega (arith, under))
+rest_at (first ∷ parts) zero part under is = (omega arith, ap (λ (p : Part). p.rest) is)
+rest_at (first ∷ parts) (suc i) part under is =
+    let (within, same) = rest_at parts i part (omega (arith, under)) is in
+    (omega (arith, within), same)
+
+-- a store in which some first tables have got what they lacked
+abbrev pub TakesParts : List TableRows → List Part → ℕ → Option Store → Option Store → Type 0
+TakesParts entries parts k before after = Became (TookRows (tables_there entries (taken_first k parts))) before after
+
+module _ (entries : List TableRows) (parts : List Part) where
+  pub parts_first : (store : Option Store) → Told store (λ s. HasRows s (tables_there entries parts)) → TakesParts entries parts 0 store store
+  parts_first store told s e =
+      (s, e, record { tables_are = subst (λ parts. HasRows s (tables_there entries parts)) (sym (none_taken parts)) (told s e); others = λ table none. refl; stage_is = refl; windows_are = refl; beside = refl })
+
+  pub as_many : ArePartsOf entries parts → length entries ≡ length parts
+  as_many are = omega (arith, AllZip-long IsPartOf entries parts are)
+
+  module _ (are : ArePartsOf entries parts) (apart : are_apart entries ≡ true) (i : ℕ) (entry : TableRows) (part : Part) (under : i < length entries) (at : get_or entries i entry ≡ entry) (is : get_or parts i part ≡ part) where
+    too : i < length parts
+    too = omega (arith, under, as_many are)
+
+    place : AtPlace (tables_there entries parts) (rest_in parts) i (there_with entry part) part.rest
+    place =
+        let (within, here) = there_at entries parts i entry part under too at is in
+        let (among, lacking) = rest_at parts i part too is in
+        at_place (tables_there entries parts) (rest_in parts) i (there_with entry part) part.rest (apart_with entries (opened_in parts) ∙ apart) within here among lacking
+
+    kind : IsOfKind (there_with entry part) part.rest
+    kind =
+        let (within, here) = there_at entries parts i entry part under too at is in
+        let (among, lacking) = rest_at parts i part too is in
+        pair_at IsOfKind (tables_there entries parts) (rest_in parts) i (there_with entry part) part.rest (rest_kinds entries parts are) within here lacking
+
+    pub own_part : IsPartOf entry part
+    own_part = pair_at IsPartOf entries parts i entry part are under at is
+
+    as_batches : (k : ℕ) (before after : Option Store) → TakesParts entries parts k before after → TakesRows (tables_there entries parts) (take k (rest_in parts)) before after
+    as_batches k before after = subst (λ tables. Became (TookRows tables) before after) (sym (there_taken k entries parts are))
+
+    as_parts : (k : ℕ) (before after : Option Store) → TakesRows (tables_there entries parts) (take k (rest_in parts)) before after → TakesParts entries parts k before after
+    as_parts k before after = subst (λ tables. Became (TookRows tables) before after) (there_taken k entries parts are)
+
+    pub parts_more : (table : TableId) → table ≡ entry.table → (before mid after : Option Store) → after ≡ changed (with_batch table part.rest) mid → TakesParts entries parts i before mid → TakesParts entries parts (i + 1) before after
+    parts_more table named before mid after e took =
+        as_parts (i + 1) before after (took_more (tables_there entries parts) (rest_in parts) i (there_with entry part) part.rest place kind table named before mid after e (as_batches i before mid took))
+
+    pub parts_kind : (table : TableId) → table ≡ entry.table → (before mid : Option Store) → TakesParts entries parts i before mid → Told mid (λ s. is_of_kind table (rows_in table s.tables) ≡ true)
+    parts_kind table named before mid took =
+        stored_kind (tables_there entries parts) (rest_in parts) i (there_with entry part) part.rest place kind table named before mid (as_batches i before mid took)
+
+    -- a call that may have failed
+    pub parts_some : (table : TableId) → table ≡ entry.table → (before mid after : Option Store) → (after ≡ mid) ⊎ (after ≡ changed (with_batch table part.rest) mid)
+        → TakesParts entries parts i before mid → Became (TookSome entries parts) before after
+    parts_some table named before mid after (inl same) took now e =
+        let (was, at_was, has) = took now (sym same ∙ e) in
+        (was, at_was, (i, omega (arith, too), has))
+    parts_some table named before mid after (inr made) took now e =
+        let (was, at_was, has) = parts_more table named before mid after made took now e in
+        (was, at_was, (i + 1, omega (arith, too), has))
+
+    -- a call that failed
+    pub parts_break : {T : Type 0} (table : TableId) → table ≡ entry.table → (before mid after : Option Store) (result : Result T KeeperError) (error : KeeperError) → result ≡ Err error → Changes (with_batch table part.rest) mid after result
+        → TakesParts entries parts i before mid → BreaksParts entries parts before after error (taken_first i parts)
+    parts_break table named before mid after result error failed changes took = record {
+      some = parts_some table named before mid after (made_or_not (with_batch table part.rest) mid after result changes) took;
+      taken = i;
+      within = omega (arith, too);
+      left_are = refl;
+      exact = λ e now at. took now (sym (unchanged (with_batch table part.rest) mid after result (failed ∙ ap Err e) changes) ∙ at);
+    }
 
 -- ---- causes
 
 pub caused : {T U : Type 0} (before mid now : ℕ) (r : Result T KeeperError) (r' : Result U KeeperError) → before ≤ mid → KeeperCause mid now r → (r' ≡ Err Failed → r ≡ Err Failed) → KeeperCause before now r'
 caused before mid now r r' le cause same = record { later = omega (arith, le, cause.later); failed = λ e. let rose = cause.failed (same e) in omega (arith, le, rose) }
-
--- ---- a window
-
--- the window is open in a store
-pub reached_open : (window : Window) (entries : List TableRows) (batches : List Rows) (k : ℕ) (store : Option Store) → Told store (IsReached window entries batches k) → Told store (λ s. s.stage ≡ Some window)
-reached_open window entries batches k store told s e = (told s e).0
-
--- with all batches of the tables it is still open
-pub filled : (window : Window) (entries : List TableRows) (batches : List Rows) (before after : Option Store) → Told before (λ s. s.stage ≡ Some window) → TakesRows entries batches before after
-    → Became (IsOpen window (entries_with entries batches)) before after
-filled window entries batches before after is_open took now e =
-    let (was, at, has) = took now e in
-    (was, at, record { tables_are = has.tables_are; others = has.others; stage = has.stage ∙ is_open was at; windows = has.windows; mapping = has.mapping; snapshots = has.snapshots })
-
-pub staged_at : (window : Window) (entries : List TableRows) (load : ℕ) → window.load ≡ load → (before after : Option Store) → Became (IsOpen window entries) before after → Told after (λ s. IsStagedAt load s.stage)
-staged_at window entries load is before after begun s e =
-    let (was, at, has) = begun s e in
-    subst (IsStagedAt load) (sym has.stage) is
-
-pub sealed : (window : Window) (entries : List TableRows) (batches : List Rows) (head : WindowHead) → head ≡ head_of window → (before mid after : Option Store) → Became (IsOpen window (entries_with entries batches)) before mid
-    → after ≡ changed (with_seal head) mid → TakesWindow window entries batches before after
-sealed window entries batches head is before mid after begun e =
-    became_changed (with_seal head) (IsOpen window (entries_with entries batches)) (TookWindow window (entries_with entries batches))
-    (λ was now r. record { tables_are = r.tables_are; others = r.others; none_open = refl; windows = ap (λ l. l ++ head ∷ []) r.windows ∙ ap (λ h. was.windows ++ h ∷ []) is; mapping = r.mapping; snapshots = r.snapshots })
-    before mid after e begun
 
 -- a store that was told is told after a change
 pub stays_told : {T : Type 0} (change : Store → Store) (old new : Option Store) (r : Result T KeeperError) → Changes change old new r → IsSome old → IsSome new

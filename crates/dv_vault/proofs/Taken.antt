@@ -1,33 +1,14 @@
 -- What a vault keeps to with an addition, and what it weighs then.
 use Rattle.dv_vault.proofs.Vocabulary.{ltb-true, list_all-map, all_pass_weaker, lt-ltb, ◌≡◌, ℕ, ◌+◌, ◌-◌, true, List, [], ◌∷◌, ◌++◌, Option, Some, None, refl, sym, ◌∙◌, ap, subst, arith, length, map, nat_lt, slice_get, All, Err, Ok, OnOk}
 use Rattle.dv_vault.proofs.Vocabulary.{Result, Vec, is_ok, sum_by, AllZip, list_all, option_map, option_map_or, with_items, and_from, and_parts, length-append, with_items_is, map-map, All-head, All-tail, list_all-append, sum_by-cons}
-use Rattle.dv_vault.proofs.Vocabulary.{slice_get_within, Staged, WindowHead, Mapping, Rows, Hubs, Links, Sats, Statuses, TableRows, late_after, head_of, is_staged, rows_then, rows_weight, tables_weight, rows_add_up, Addition, Table, Fits}
-use Rattle.dv_vault.proofs.Vocabulary.{AreOfKinds, IsOfKind, Follow, IsVaultOf, RawVault, are_empty, are_heads_of, are_rows_kept, entries_with, entry_of, last_head, all_up_to-later, all_up_to-none, up_to-then, staged_rows, window_parts}
+use Rattle.dv_vault.proofs.Vocabulary.{slice_get_within, Staged, WindowHead, Mapping, Rows, Hubs, Links, Sats, Statuses, TableRows, late_after, head_of, is_staged, rows_then, rows_weight, tables_weight, rows_add_up, Begun, Table, Fits, tables_whole, whole_in}
+use Rattle.dv_vault.proofs.Vocabulary.{Follow, IsVaultOf, RawVault, are_empty, are_heads_of, are_rows_kept, entries_with, entry_of, last_head, all_up_to-later, all_up_to-none, up_to-then, staged_rows, window_parts}
 use Rattle.dv_vault.proofs.Vocabulary.{AreOfLoad, are_up_to, is_up_to}
 use Rattle.dv_records.specs.declared.stores.Rows.TheVariants as of
-use Rattle.dv_vault.specs.declared.tables.Table.TheVariants as table
 use Rattle.dv_vault.proofs.Afterwards.{later_than_last}
 use Rattle.dv_vault.proofs.OtherTables.{same_tables}
 
--- ---- batches that follow the rows of tables are of their kinds
-
-of_kind : (t : Table) (rows : Rows) → Follow (entry_of t).rows rows → IsOfKind (entry_of t) rows
-of_kind (table.Hub n t) (of.Hubs rows) follow = record { rows = refl; more = refl }
-of_kind (table.Link n t) (of.Links rows) follow = record { rows = refl; more = refl }
-of_kind (table.Sat n t) (of.Sats rows) follow = record { rows = refl; more = refl }
-of_kind (table.Multi n t) (of.Multis rows) follow = record { rows = refl; more = refl }
-of_kind (table.Status n t) (of.Statuses rows) follow = record { rows = refl; more = refl }
-of_kind (table.Effect n t) (of.Effects rows) follow = record { rows = refl; more = refl }
-of_kind t rows follow = absurd follow
-
-all_kinds : (tables : List Table) (batches : List Rows) → AllZip Follow (map (λ entry. entry.rows) (map entry_of tables)) batches → AreOfKinds (map entry_of tables) batches
-all_kinds [] [] all = tt
-all_kinds [] (rows ∷ batches) all = absurd all
-all_kinds (t ∷ tables) [] all = absurd all
-all_kinds (t ∷ tables) (rows ∷ batches) all = (of_kind t rows all.0, all_kinds tables batches all.1)
-
-pub kinds : (entries : List TableRows) (batches : List Rows) (tables : List Table) → entries ≡ map entry_of tables → AllZip Follow (map (λ entry. entry.rows) entries) batches → AreOfKinds (map entry_of tables) batches
-kinds entries batches tables is follow = all_kinds tables batches (subst (λ (entries : List TableRows). AllZip Follow (map (λ entry. entry.rows) entries) batches) is follow)
+-- ---- rows that follow those of tables
 
 pub follows : (entries : List TableRows) (batches : List Rows) (tables : List Table) → entries ≡ map entry_of tables → AllZip Follow (map (λ entry. entry.rows) entries) batches
     → AllZip Follow (map (λ t. (entry_of t).rows) tables) batches
@@ -74,22 +55,22 @@ feeds_there mapping extracts all =
 
 -- ---- what an office keeps to
 
-module _ (raw : RawVault) (addition : Addition) (fits : Fits raw addition) (entries : List TableRows) (heads : List WindowHead)
-    (tables_are : entries ≡ entries_with raw.tables addition.batches) (heads_are : heads ≡ raw.heads ++ head_of addition.window ∷ []) where
+module _ (raw : RawVault) (begun : Begun) (fits : Fits raw begun) (entries : List TableRows) (heads : List WindowHead)
+    (tables_are : entries ≡ tables_whole raw.tables begun.parts.items) (heads_are : heads ≡ raw.heads ++ head_of begun.window ∷ []) where
   pub vault_still : IsVaultOf raw.mapping raw.tables → IsVaultOf raw.mapping entries
-  vault_still are = ap (map (λ (entry : TableRows). entry.table)) tables_are ∙ same_tables raw.tables addition.batches ∙ are
+  vault_still are = ap (map (λ (entry : TableRows). entry.table)) tables_are ∙ same_tables raw.tables (whole_in begun.parts.items) ∙ are
 
   pub rows_still : are_rows_kept raw.heads raw.tables ≡ true → are_rows_kept heads entries ≡ true
   rows_still kept =
-      ap (λ last. option_map_or (λ last. are_up_to last entries) last (are_empty entries)) (ap last_head heads_are ∙ last_pushed raw.heads (head_of addition.window))
-      ∙ ap (are_up_to addition.window.load) tables_are
-      ∙ up_with addition.window.load raw.tables addition.batches (rows_not_later raw.heads raw.tables addition.window.load kept fits.later) fits.follow.stamped
+      ap (λ last. option_map_or (λ last. are_up_to last entries) last (are_empty entries)) (ap last_head heads_are ∙ last_pushed raw.heads (head_of begun.window))
+      ∙ ap (are_up_to begun.window.load) tables_are
+      ∙ up_with begun.window.load raw.tables (whole_in begun.parts.items) (rows_not_later raw.heads raw.tables begun.window.load kept fits.later) fits.follow.stamped
 
   pub heads_still : are_heads_of raw.mapping raw.heads ≡ true → are_heads_of raw.mapping heads ≡ true
   heads_still kept =
       ap (are_heads_of raw.mapping) heads_are
-      ∙ list_all-append (λ (head : WindowHead). list_all (λ feed. nat_lt feed (length raw.mapping.feeds)) head.feeds) raw.heads (head_of addition.window ∷ [])
-      ∙ and_from _ _ kept (and_from _ _ (feeds_there raw.mapping addition.window.extracts (window_parts raw.mapping addition.window fits.whole).staged) refl)
+      ∙ list_all-append (λ (head : WindowHead). list_all (λ feed. nat_lt feed (length raw.mapping.feeds)) head.feeds) raw.heads (head_of begun.window ∷ [])
+      ∙ and_from _ _ kept (and_from _ _ (feeds_there raw.mapping begun.window.extracts (window_parts raw.mapping begun.window fits.window).staged) refl)
 
 -- ---- what tables weigh with batches that follow their rows
 

@@ -76,14 +76,12 @@ module _ (mapping : Mapping) (hashes : Hashes) (sealed : List Window) (window : 
     -- the names tell the lists of the sealed windows
     pub sealed_told : TellLists mapping hashes (hub_names mapping (vault mapping hashes sealed)) (reverse sealed)
     sealed_told = record {
-      named = reverse sealed;
-      among = λ window has. has;
-      are = record {
-        of_rows = hubs_named mapping hashes sealed;
-        apart = λ hub under.
-            ap (λ windows. collision_in mapping hashes windows (Hub hub)) (reverse-reverse sealed)
-            ∙ (collision_free mapping hashes sealed (Hub hub)).1 (hub_apart mapping hashes sealed windows_valid hub under);
-      };
+      named = λ hub. reverse sealed;
+      among = λ hub window has. has;
+      of_rows = hubs_named mapping hashes sealed;
+      apart = λ hub under.
+          ap (λ windows. collision_in mapping hashes windows (Hub hub)) (reverse-reverse sealed)
+          ∙ (collision_free mapping hashes sealed (Hub hub)).1 (hub_apart mapping hashes sealed windows_valid hub under);
       valid = valid;
       whole = reversed_whole (is_window mapping) sealed (sealed_parts mapping hashes sealed windows_valid).whole;
     }

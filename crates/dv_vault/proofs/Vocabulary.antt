@@ -74,8 +74,9 @@ pub use Rattle.dv_text.specs.declared.rows.NRow.{NRow}
 pub use Rattle.dv_text.specs.declared.rows.Staged.{Staged}
 pub use Rattle.dv_text.specs.declared.rows.Window.{Window}
 pub use Rattle.dv_text.specs.declared.rows.WindowHead.{WindowHead}
-pub use Rattle.dv_vault.specs.Additions.{AreApart, AreApartBy, ClashesAt, Fits, FollowAll, IsAddition, IsFirstClash, all_added, fault_at, raw_with, weight_with}
-pub use Rattle.dv_vault.specs.Keeping.{AreOfKinds, Became, BreakCause, BreaksRows, BreaksWindow, BrokeOff, HasRows, HaveRoom, IsAsFar, IsBegun, IsLeftOpen, IsOfKind, IsOpen, IsReached, KeepsOthers, TakesRows, TakesWindow, TookRows, TookSome, TookWindow, break_of, reached, with_batch}
+pub use Rattle.dv_vault.specs.Additions.{AreApart, AreApartBy, ArePartsOf, ClashesAt, Fits, FollowAll, IsAddition, IsBegunBehind, IsFirstClash, IsPartOf, all_added, fault_at, none_like, opened_in, part_lacking, part_there, parts_at, raw_with, rest_in}
+pub use Rattle.dv_vault.specs.Additions.{tables_there, tables_whole, taken_first, taken_part, vault_there, weight_with, whole_in, whole_part, window_batches}
+pub use Rattle.dv_vault.specs.Keeping.{Became, BreaksParts, BreaksWindow, BrokeOff, HasLeft, HasRows, HasTaken, HaveRoom, IsBegunIn, IsLeftOf, IsOpen, KeepsOthers, MayBeLeft, TakesWindow, TookRows, TookSome, TookWindow, beside_windows, stage_of, with_batch, with_open}
 pub use Rattle.dv_vault.specs.HashedWindows.{IsHashedWindow}
 pub use Rattle.dv_vault.specs.Offered.{IsKeyOf, Keyed, Offered, all_offered, delivery_to, hashed_as, kept, key_told, keyed, offer_cmp, offered_by, single_keys, stands_at, told_by}
 pub use Rattle.dv_vault.specs.declared.hashed_windows.HashedWindow.{HashedWindow}
@@ -86,7 +87,9 @@ pub use Rattle.dv_records.specs.Deltas.{AreHashed, delivered}
 pub use Rattle.std.proofs.lemmas.Simd.{map-map}
 pub use Rattle.dv_vault.specs.Vaults.{Follow, HasSealed, IsVaultOf, RawVault, added_to, are_empty, are_heads_of, are_rows_kept, entries_of, entries_with, entry_of, has_table, hashed_in, hub_names, hubs_in, is_hub, is_link, is_sat, is_status, last_head, names_of_hub}
 pub use Rattle.dv_vault.specs.Vaults.{names_of_hubs, names_of_rows, rows_of_hubs, spare_of, staged_of}
-pub use Rattle.dv_vault.specs.declared.additions.Addition.{Addition}
+pub use Rattle.dv_vault.specs.declared.begun.Begun.{Begun}
+pub use Rattle.dv_vault.specs.declared.begun.Part.{Part}
+pub use Rattle.dv_vault.specs.declared.breaks.Untaken.{Untaken}
 pub use Rattle.dv_vault.specs.declared.additions.AdditionFault.{AdditionFault}
 pub use Rattle.dv_vault.specs.declared.offers.Offer.{Offer}
 pub use Rattle.dv_vault.specs.declared.tables.Table.{Table}

@@ -1,20 +1,10 @@
-// What a window adds to a vault.
+// Why a window adds nothing to a vault.
 ghost use Rattle.std.specs.Prelude.{◌≡◌};
 ghost use Rattle.dv_vault.specs.Additions.{fault_at};
 
 use dv_catalog::TableId;
-use dv_records::{DeltaFault, Rows};
-use dv_text::{Key, List, Memory, Window};
-
-/// What a window adds: the rows for each table, in table order, how many these are, and what the vault then
-/// weighs.
-#[derive(Drop)]
-pub struct Addition {
-    pub window: Window,
-    pub batches: List<Rows>,
-    pub rows: u64,
-    pub weight: u64,
-}
+use dv_records::DeltaFault;
+use dv_text::{Key, List, Memory};
 
 /// Why a window adds nothing: two different keys of a hub, or reference lists of a link, have one hash key; or
 /// want of memory.

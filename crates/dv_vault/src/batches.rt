@@ -7,7 +7,7 @@ ghost use Rattle.dv_catalog.specs.TableLookups.{is_table_of};
 ghost use Rattle.dv_records.specs.Deltas.{HasNoClash};
 ghost use Rattle.dv_records.specs.RowViews.{are_up_to};
 ghost use Rattle.dv_records.specs.States.{is_window};
-ghost use Rattle.dv_records.specs.Stores.{row_count};
+ghost use Rattle.dv_records.specs.Stores.{no_rows as spec_no_rows, row_count};
 ghost use Rattle.dv_records.specs.Weights.{rows_weight};
 ghost use Rattle.dv_vault.specs.Additions as spec;
 ghost use Rattle.dv_vault.specs.HashedWindows.{IsHashedWindow};
@@ -22,6 +22,17 @@ use dv_records::{Rows, weight};
 use dv_text::{KeyDigest, List, Memory};
 use std::alloc::Global;
 
+// No rows for each of these tables.
+pub(crate) fn none_of_all(alloc: Global, tables: &[Table]) -> Result<List<Rows>, Memory>
+    ensures { IfOk result (λ made. made ≡ map (λ entry. spec_no_rows entry.table) (map entry_of tables.now)) }
+{
+    let mut made = List::new(alloc);
+    for table in tables {
+        made.push(Rows::none_of(alloc, table.id()))?;
+    }
+    Ok(made)
+}
+
 // How many rows batches have together. More than a number of 64 bits has room for find no room in memory.
 pub(crate) fn count_all(batches: &[Rows]) -> Result<u64, Memory>
     ensures { IfOk result (λ count. count ≡ sum_by row_count batches.now) }
@@ -33,8 +44,8 @@ pub(crate) fn count_all(batches: &[Rows]) -> Result<u64, Memory>
     Ok(rows)
 }
 
-// What a vault that weighs so much weighs with batches.
-pub(crate) fn weight_with(weight_before: u64, batches: &[Rows]) -> Result<u64, Memory>
+/// What a vault that weighs so much weighs with batches.
+pub fn weight_with(weight_before: u64, batches: &[Rows]) -> Result<u64, Memory>
     ensures { IfOk result (λ w. w ≡ weight_before + sum_by rows_weight batches.now) }
 {
     let mut sum = weight_before;

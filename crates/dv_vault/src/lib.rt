@@ -3,6 +3,7 @@
 
 mod additions;
 mod batches;
+mod begun;
 mod breaks;
 mod hashed_windows;
 mod hub_keys;
@@ -13,10 +14,13 @@ mod raw_tables;
 mod tables;
 mod vaults;
 
-pub use additions::{Addition, AdditionFault};
+pub use additions::AdditionFault;
+pub use batches::weight_with;
+pub use begun::{Begun, Part};
 pub use breaks::Untaken;
 pub use hashed_windows::{HashedWindow, gathered};
 pub use keeping::head;
 pub use offers::deliveries;
+pub use raw_tables::RawTables;
 pub use tables::Table;
 pub use vaults::Vault;

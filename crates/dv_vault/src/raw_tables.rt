@@ -1,22 +1,31 @@
-ghost use Rattle.std.specs.Prelude.{◌≡◌, false, IfNone, IfOk, IfSome, IsTrue, find, map, option_map, position, true};
+ghost use Rattle.std.specs.Prelude.{◌≡◌, false, IfErr, IfNone, IfOk, IfSome, IsTrue, find, map, option_map, position, true};
+ghost use Rattle.dv_text.specs.Keys.{hashes_of};
 ghost use Rattle.dv_catalog.specs.Tables.{tables};
 ghost use Rattle.dv_records.specs.ReadBack.{effect_rows_in, hub_rows_in, link_rows_in, multi_rows_in, sat_rows_in, status_rows_in};
 ghost use Rattle.dv_records.specs.Stores.{is_of_kind, no_rows, rows_in, table_eq};
+ghost use Rattle.dv_records.specs.RowViews.{are_up_to};
+ghost use Rattle.dv_records.specs.States.{is_window};
+ghost use Rattle.dv_vault.specs.Additions.{AreApartBy, ClashesAt, FollowAll};
 ghost use Rattle.dv_vault.specs.Vaults.{entries_of, entry_of};
 ghost use Rattle.dv_vault.specs.Vaults as spec;
 
+use crate::additions::AdditionFault;
+use crate::batches::all_deltas;
+use crate::hashed_windows::gathered;
+use crate::hub_keys::hub_keys;
 use crate::tables::Table;
 use dv_catalog::{Catalog, TableId};
 use dv_hub_link::{HubTable, LinkTable};
+use dv_records::Rows;
 use dv_sat::{MultiTable, SatTable};
-use dv_text::Memory;
+use dv_text::{KeyDigest, List, Memory, Window};
 use dv_track::{EffectTable, StatusTable};
 use std::alloc::Global;
 
 /// The raw tables of a mapping, in table order (Linstedt and Olschimke 2015, chapter 4).
 #[derive(Drop)]
-pub(crate) struct RawTables {
-    pub(crate) tables: Vec<Table>,
+pub struct RawTables {
+    pub tables: Vec<Table>,
 }
 
 // Tables without rows.
@@ -156,5 +165,29 @@ impl RawTables {
             Some(table) => table,
             None => unreachable!(),
         }
+    }
+
+    /// The rows that a window adds to each of the tables of a mapping, in table order, or the first collision that it makes. To
+    /// a table of a feed that has rows of its load date it adds none. Condition: no row is later than the window, which is
+    /// one of the mapping.
+    pub fn added<H: KeyDigest>(
+        &self,
+        alloc: Global,
+        catalog: &Catalog,
+        window: &Window,
+        digest: &H,
+    ) -> Result<List<Rows>, AdditionFault>
+        requires tables { spec.IsVaultOf catalog.now (entries_of self.now) }
+        requires dated { IsTrue (are_up_to window.now.load (entries_of self.now)) }
+        requires window { IsTrue (is_window catalog.now window.now) }
+        ensures rows { IfOk result (λ batches. batches ≡ map (spec.added_to catalog.now (hashes_of H.function) window.now) (entries_of self.now)) }
+        ensures apart { IfOk result (λ batches. AreApartBy catalog.now (hashes_of H.function) (spec.hub_names catalog.now (entries_of self.now)) window.now (entries_of self.now)) }
+        ensures follow { IfOk result (FollowAll window.now.load (entries_of self.now)) }
+        ensures clashes { IfErr result (ClashesAt catalog.now (hashes_of H.function) (spec.hub_names catalog.now (entries_of self.now)) window.now (entries_of self.now)) }
+    {
+        catalog.note_valid();
+        let names = hub_keys(alloc, catalog, self)?;
+        let hashed = gathered(alloc, catalog, window, digest)?;
+        all_deltas(alloc, &self.tables, &names, &hashed, catalog, digest)
     }
 }

@@ -11,10 +11,9 @@ ghost use Rattle.dv_vault.specs.Additions as spec;
 ghost use Rattle.dv_vault.specs.Additions.{Fits, IsAddition};
 ghost use Rattle.dv_vault.specs.Vaults.{IsVaultOf, are_heads_of, are_rows_kept, entry_of, last_head};
 
-use crate::additions::{Addition, AdditionFault};
-use crate::batches::{all_deltas, count_all, weight_with};
-use crate::hashed_windows::gathered;
-use crate::hub_keys::hub_keys;
+use crate::additions::AdditionFault;
+use crate::batches::{none_of_all, weight_with};
+use crate::begun::Begun;
 use crate::raw_tables::RawTables;
 use crate::tables::Table;
 use dv_catalog::{Catalog, TableId};
@@ -194,35 +193,26 @@ impl Vault {
         ensures follow { IfOk result (spec.FollowAll window.now.load self.now.tables) }
         ensures clashes { IfErr result (spec.Clashes (hashes_of H.function) self.now window.now) }
     {
-        let alloc = self.heads.allocator();
-        let catalog = &self.catalog;
-        let names = hub_keys(alloc, catalog, &self.raw)?;
-        let hashed = gathered(alloc, catalog, window, digest)?;
-        all_deltas(alloc, &self.raw.tables, &names, &hashed, catalog, digest)
+        self.raw
+            .added(self.heads.allocator(), &self.catalog, window, digest)
     }
 
-    /// What a window adds to the vault. Where it makes a collision, the fault names the first table that has
-    /// one, and the least pair there. Condition: it is a window of the mapping, later than the last sealed one.
-    pub fn addition<H: KeyDigest>(
-        &self,
-        window: Window,
-        digest: &H,
-    ) -> Result<Addition, AdditionFault>
+    /// What a window adds to the vault, of which no table has a row. Where it makes a collision, the fault names the first
+    /// table that has one, and the least pair there. Condition: it is a window of the mapping, later than the last sealed
+    /// one.
+    pub fn addition<H: KeyDigest>(&self, window: Window, digest: &H) -> Result<Begun, AdditionFault>
         requires later { late_after (last_head self.now.heads) window.load ≡ None }
         requires window { IsTrue (is_window self.now.mapping window) }
         ensures adds { IfOk result (IsAddition (hashes_of H.function) self.now window) }
         ensures fits { IfOk result (Fits self.now) }
         ensures clashes { IfErr result (spec.Clashes (hashes_of H.function) self.now window) }
     {
+        let alloc = self.heads.allocator();
         let weight_before = self.weight;
-        let batches = self.batches(&window, digest)?;
-        let rows = count_all(batches.items())?;
-        let weight = weight_with(weight_before, batches.items())?;
-        Ok(Addition {
-            window,
-            batches,
-            rows,
-            weight,
-        })
+        let rest = self.batches(&window, digest)?;
+        let weight = weight_with(weight_before, rest.items())?;
+        let opened = none_of_all(alloc, &self.raw.tables)?;
+        let begun = Begun::of(alloc, window, opened, rest, weight)?;
+        Ok(begun)
     }
 }

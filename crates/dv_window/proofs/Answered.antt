@@ -1,7 +1,7 @@
 -- What comes of a window in the state that an office stands for, told from what was decided of it.
 use Rattle.dv_window.proofs.Vocabulary.{Bool, List, None, Option, Some, [], ap, false, is_window, last_head, late_after, inl, inr, refl, subst, sym, true, ◌++◌, ◌∙◌, ◌∷◌, ◌≡◌, option_map_or, Decides, Decides-and, slice_eq-Decides, row_eq-Decides, row_eq, pointwise, rules, eqb-true, NRow}
-use Rattle.dv_window.proofs.Vocabulary.{Hashes, Mapping, Rule, Staged, Window, WindowIn, collision, AreApart, is_valid, RawVault, State, outcome, differs_from, has_same_extracts, staged_eq, open_other, window_of, loaded, not_full, full_with, rows_loaded, apart_is_free, clash_collides}
-use Rattle.dv_window.proofs.Vocabulary.{Addition, Begun, Held, IsBegunAs, MayBeTaken, StandsFor, Collides, IsAgain, IsOpenAgain, IsPlan, IsTooMuch, Stop, Stops, if◌then◌else◌, ◌==◌}
+use Rattle.dv_window.proofs.Vocabulary.{Hashes, Mapping, Rule, Staged, Window, WindowIn, collision, AreApart, is_valid, RawVault, State, outcome, differs_from, has_same_extracts, staged_eq, open_other, window_of, added_behind, all_windows, and_parts, are_dates_valid, are_windows_valid, last_same, not_full, full_with, option_to_list, valid_with, apart_is_free, clash_collides}
+use Rattle.dv_window.proofs.Vocabulary.{Begun, Fits, Held, IsOpenBehind, StandsFor, Collides, IsAgain, IsOpenAgain, IsPlan, IsTooMuch, Stop, Stops, if◌then◌else◌, ◌==◌}
 use Rattle.dv_window.proofs.Growths.{CanAdd}
 use Rattle.dv_window.proofs.OutcomeSteps.{again_says, early_refused, new_collides, new_full, new_loads, open_says}
 use Rattle.dv_window.proofs.PlanFacts.{early_parts, not_late, read_whole}
@@ -68,22 +68,24 @@ module _ (hashes : Hashes) (state : State) (held : Held) (stands : StandsFor has
 
   -- ---- a new window that is to be loaded
 
-  module _ (addition : Addition) (is : IsPlan hashes raw state.begun given addition) where
-    pub can_add : CanAdd hashes raw window addition
+  module _ (begun : Begun) (is : IsPlan hashes raw state.begun given begun) where
+    whole : is_window raw.mapping window ≡ true
+    whole = read_whole raw state.begun given valid_mapping is.passes.early
+
+    late : late_after (last_head raw.heads) window.load ≡ None
+    late = not_late raw state.begun given is.passes
+
+    pub can_add : CanAdd hashes state.sealed raw window begun
     can_add = record {
-      whole = read_whole raw state.begun given valid_mapping is.passes.early;
-      late = not_late raw state.begun given is.passes;
-      adds = is.adds;
-      room = is.not_full;
+      valid = valid_with hashes state.sealed raw stands.sealed_are valid_mapping window whole late is.adds.apart begun is.adds is.not_full;
+      late = ap (λ last. late_after last window.load) (last_same state.sealed ∙ ap last_head (sym stands.sealed_are.heads_are)) ∙ late;
+      behind = added_behind hashes state.sealed raw stands.sealed_are valid_mapping window whole late is.adds.apart begun is.adds;
     }
 
     pub loads : outcome raw.mapping hashes state given ≡ outcomes.Load
     loads =
         new_loads hashes state raw stands.sealed_are.heads_are given is.passes is.none_open (free is.adds.apart)
-        (not_full hashes state.sealed raw stands.sealed_are valid_mapping window can_add.whole can_add.late is.adds.apart addition is.adds is.not_full)
-
-    pub rows : addition.rows ≡ loaded raw.mapping hashes state.sealed window
-    rows = rows_loaded hashes state.sealed raw stands.sealed_are valid_mapping window can_add.whole can_add.late is.adds.apart addition is.adds
+        (not_full hashes state.sealed raw stands.sealed_are valid_mapping window whole late is.adds.apart begun is.adds is.not_full)
 
   -- ---- the open window again
 
@@ -101,17 +103,22 @@ module _ (hashes : Hashes) (state : State) (held : Held) (stands : StandsFor has
         by true e n = eqb-true _ _ e
         by false e n = cc
 
--- what an office has begun may be added to its vault
-pub begun_adds : (hashes : Hashes) (raw : RawVault) (open_window : Option Window) (begun : Begun) → IsBegunAs hashes raw open_window (Some begun) → MayBeTaken raw begun
-    → (window : Window) × (open_window ≡ Some window) × CanAdd hashes raw window begun.addition
-begun_adds hashes vault None begun is taken = absurd is
-begun_adds hashes vault (Some window) begun is taken = (
-  window,
-  refl,
-  record {
-    whole = subst (λ (w : Window). is_window vault.mapping w ≡ true) is.adds.window_is taken.fits.whole;
-    late = subst (λ (w : Window). late_after (last_head vault.heads) w.load ≡ None) is.adds.window_is taken.fits.later;
-    adds = is.adds;
-    room = is.room;
-  },
-)
+-- what an office has begun may be taken by its vault
+pub begun_adds : (hashes : Hashes) (state : State) (held : Held) → StandsFor hashes state held → (begun : Begun) → held.begun ≡ Some begun → Fits held.vault begun
+    → (window : Window) × (state.begun ≡ Some window) × CanAdd hashes state.sealed held.vault window begun
+begun_adds hashes state held stands begun is fits = by state.begun refl (subst (IsOpenBehind held.vault.mapping hashes state.sealed state.begun) is stands.begun_is)
+  where
+    by : (staged_now : Option Window) → state.begun ≡ staged_now → IsOpenBehind held.vault.mapping hashes state.sealed staged_now (Some begun)
+        → (window : Window) × (state.begun ≡ Some window) × CanAdd hashes state.sealed held.vault window begun
+    by None e behind = absurd behind
+    by (Some window) e behind = (
+      window,
+      e,
+      record {
+        valid = subst (λ staged_now. are_windows_valid held.vault.mapping hashes (state.sealed ++ option_to_list staged_now) ≡ true) e
+            (and_parts (are_windows_valid held.vault.mapping hashes (all_windows state)) (are_dates_valid held.vault.mapping hashes state) stands.valid).0;
+        late = ap (λ last. late_after last window.load) (last_same state.sealed ∙ ap last_head (sym stands.sealed_are.heads_are))
+            ∙ subst (λ (w : Window). late_after (last_head held.vault.heads) w.load ≡ None) behind.window_is fits.later;
+        behind = behind;
+      },
+    )

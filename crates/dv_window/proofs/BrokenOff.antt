@@ -1,24 +1,24 @@
--- What an office and its keeper's store are left in where an addition was taken, or broken off.
-use Rattle.dv_window.proofs.Vocabulary.{None, Option, Some, false, inl, inr, length, refl, subst, sym, ℕ, ◌≡◌, ◌≤◌, ◌⊎◌, Told, IfSome, same_Some}
-use Rattle.dv_window.proofs.Vocabulary.{Hashes, Window, Stands, State, Store, opened, sealed_with, Addition, Held, IsLeftIn, StandsFor, held_broken, held_with, is_valid, BrokeAt, KeeperError, TakesWindow}
-use Rattle.dv_window.proofs.Vocabulary.{Became, BrokeOff, IsAsFar, reached, CompletesAs, Err, IsIn, Ok, Result, TookOrBroke, true, ◌∙◌}
+-- What an office and its keeper's store are left in where a window was taken, or broken off.
+use Rattle.dv_window.proofs.Vocabulary.{Bool, None, Option, Some, false, inl, inr, refl, subst, sym, ℕ, ◌≡◌, ◌⊎◌, Told, same_Some}
+use Rattle.dv_window.proofs.Vocabulary.{Hashes, Window, Stands, State, Store, opened, sealed_with, Begun, Held, IsLeftIn, StandsFor, held_broken, held_with, is_valid, BrokeAt, KeeperError, TakesWindow}
+use Rattle.dv_window.proofs.Vocabulary.{Became, BrokeOff, HasLeft, MayBeLeft, CompletesAs, Err, IsIn, Ok, Result, TookOrBroke, tables_whole, true, ◌∙◌}
 use Rattle.dv_records.specs.declared.keepers.KeeperError.TheVariants.{Failed, Memory}
-use Rattle.dv_window.proofs.Growths.{CanAdd, open_stands, opened_stands_for, sealed_stands, sealed_stands_for}
+use Rattle.dv_window.proofs.Growths.{CanAdd, left_stands, open_stands, opened_stands_for, sealed_stands, sealed_stands_for}
 
 -- the states that a broken window may be left in
 abbrev pub LeftState : State → Window → State → Type 0
 LeftState state window state' = (state' ≡ state) ⊎ ((state' ≡ opened window state) ⊎ (state' ≡ sealed_with window state))
 
-module _ (hashes : Hashes) (state : State) (held : Held) (stands : StandsFor hashes state held) (valid_mapping : is_valid held.vault.mapping ≡ true) (window : Window) (addition : Addition)
-    (can : CanAdd hashes held.vault window addition) (before : Option Store) (told : Told before (Stands held.vault.mapping hashes state)) where
+module _ (hashes : Hashes) (state : State) (held : Held) (stands : StandsFor hashes state held) (valid_mapping : is_valid held.vault.mapping ≡ true) (window : Window) (begun : Begun)
+    (can : CanAdd hashes state.sealed held.vault window begun) (before : Option Store) (told : Told before (Stands held.vault.mapping hashes state)) where
   -- a window that was taken
-  pub taken : (held' : Held) (after : Option Store) → held' ≡ held_with addition held → TakesWindow addition.window held.vault.tables addition.batches before after
+  pub taken : (held' : Held) (after : Option Store) → held' ≡ held_with begun held → TakesWindow begun.window (tables_whole held.vault.tables begun.parts.items) before after
       → IsLeftIn hashes (sealed_with window state) held' after
   taken held' after is takes = record {
-    stands = λ fresh. subst (StandsFor hashes (sealed_with window state)) (sym is) (sealed_stands_for hashes state held stands valid_mapping window addition can);
+    stands = λ fresh. subst (StandsFor hashes (sealed_with window state)) (sym is) (sealed_stands_for hashes state held stands valid_mapping window begun can);
     store_stands = λ now e.
         let (was, at, took) = takes now e in
-        subst (λ (held : Held). Stands held.vault.mapping hashes (sealed_with window state) now) (sym is) (sealed_stands hashes state held stands valid_mapping window addition can was (told was at) now took);
+        subst (λ (held : Held). Stands held.vault.mapping hashes (sealed_with window state) now) (sym is) (sealed_stands hashes state held stands valid_mapping window begun can was (told was at) now took);
   }
 
   -- the office and the store are left in one of these
@@ -26,51 +26,51 @@ module _ (hashes : Hashes) (state : State) (held : Held) (stands : StandsFor has
   Left held' after = (state' : State) × LeftState state window state' × IsLeftIn hashes state' held' after
 
   -- a store that is told
-  store_left : (was now : Store) → Stands held.vault.mapping hashes state was → BrokeOff addition.window held.vault.tables addition.batches was now
+  store_left : (was now : Store) → Stands held.vault.mapping hashes state was → BrokeOff held.vault.tables begun was now
       → (state' : State) × LeftState state window state' × Stands held.vault.mapping hashes state' now
   store_left was now stood (inl same) = (state, inl refl, subst (Stands held.vault.mapping hashes state) (sym same) stood)
   store_left was now stood (inr (inl (k, within, is_open))) =
-      (opened window state, inr (inl refl), open_stands hashes state held stands valid_mapping window addition can was stood now k within is_open)
-  store_left was now stood (inr (inr took)) = (sealed_with window state, inr (inr refl), sealed_stands hashes state held stands valid_mapping window addition can was stood now took)
+      (opened window state, inr (inl refl), open_stands hashes state held stands valid_mapping window begun can was stood now k within is_open)
+  store_left was now stood (inr (inr took)) = (sealed_with window state, inr (inr refl), sealed_stands hashes state held stands valid_mapping window begun can was stood now took)
 
   -- the keeper failed: the office is stale
-  failed_left : (reached : Option ℕ) (after : Option Store) → Became (BrokeOff addition.window held.vault.tables addition.batches) before after → Left (held_broken addition Failed reached held) after
-  failed_left reached None broke = (state, inl refl, record { stands = λ no. cc; store_stands = λ now e. cc })
-  failed_left reached (Some now) broke =
+  failed_left : (left : Option Begun) (after : Option Store) → Became (BrokeOff held.vault.tables begun) before after → Left (held_broken Failed left held) after
+  failed_left left None broke = (state, inl refl, record { stands = λ no. cc; store_stands = λ now e. cc })
+  failed_left left (Some now) broke =
       let (was, at, how) = broke now refl in
-      let (state', left, stood) = store_left was now (told was at) how in
-      (state', left, record { stands = λ no. cc; store_stands = λ other e. subst (Stands held.vault.mapping hashes state') (same_Some now other e) stood })
+      let (state', which, stood) = store_left was now (told was at) how in
+      (state', which, record { stands = λ no. cc; store_stands = λ other e. subst (Stands held.vault.mapping hashes state') (same_Some now other e) stood })
 
-  -- memory ran out: the office has the window as far as it got
-  memory_left : (reached : Option ℕ) (after : Option Store) → (reached ≡ None → held.begun ≡ None) → held.stale ≡ false → IfSome reached (λ k. k ≤ length addition.batches)
-      → Became (IsAsFar addition.window held.vault.tables addition.batches reached) before after → Left (held_broken addition Memory reached held) after
-  memory_left None after none fresh within far = (
+  -- memory ran out: the office has what is left of the window
+  memory_left : (is_open : Bool) (left : Option Begun) (after : Option Store) → (is_open ≡ false → held.begun ≡ None) → held.stale ≡ false → MayBeLeft is_open begun left
+      → Became (HasLeft held.vault.tables left) before after → Left (held_broken Memory left held) after
+  memory_left is_open None after none fresh closed has = (
     state,
     inl refl,
     record {
-      stands = λ e. subst (λ begun. StandsFor hashes state (record held { begun = begun; stale = false })) (none refl) (subst (λ stale. StandsFor hashes state (record held { stale = stale })) fresh stands);
+      stands = λ e. subst (λ begun. StandsFor hashes state (record held { begun = begun; stale = false })) (none closed) (subst (λ stale. StandsFor hashes state (record held { stale = stale })) fresh stands);
       store_stands = λ now e.
-          let (was, at, same) = far now e in
+          let (was, at, same) = has now e in
           subst (Stands held.vault.mapping hashes state) (sym same) (told was at);
     },
   )
-  memory_left (Some k) after none fresh within far = (
+  memory_left is_open (Some left) after none fresh of has = (
     opened window state,
     inr (inl refl),
     record {
-      stands = λ e. opened_stands_for hashes state held stands valid_mapping window addition can k false;
+      stands = λ e. opened_stands_for hashes state held stands valid_mapping window begun can left of false;
       store_stands = λ now e.
-          let (was, at, is_open) = far now e in
-          open_stands hashes state held stands valid_mapping window addition can was (told was at) now k within is_open;
+          let (was, at, staged_now) = has now e in
+          left_stands hashes state held stands valid_mapping window begun can was (told was at) now left of staged_now;
     },
   )
 
   -- a window that was broken off
-  pub broken : (begun : Option ℕ) (error : KeeperError) (held' : Held) (after : Option Store) → held.stale ≡ false → (broke : BrokeAt begun addition error held held' before after) → (begun ≡ None → held.begun ≡ None)
+  pub broken : (is_open : Bool) (error : KeeperError) (held' : Held) (after : Option Store) → held.stale ≡ false → (broke : BrokeAt is_open begun error held held' before after) → (is_open ≡ false → held.begun ≡ None)
       → Left held' after
-  broken begun Failed held' after fresh broke none = subst (λ held. Left held after) (sym broke.held_is) (failed_left broke.reached after broke.broke.broke)
-  broken begun Memory held' after fresh broke none =
-      subst (λ held. Left held after) (sym broke.held_is) (memory_left broke.reached after (λ e. none (broke.still e)) fresh broke.broke.within (broke.broke.exact refl))
+  broken is_open Failed held' after fresh broke none = subst (λ held. Left held after) (sym broke.held_is) (failed_left broke.left after broke.broke.broke)
+  broken is_open Memory held' after fresh broke none =
+      subst (λ held. Left held after) (sym broke.held_is) (memory_left is_open broke.left after none fresh broke.broke.left (broke.broke.exact refl))
 
 -- ---- whatever is told of the store
 
@@ -85,15 +85,14 @@ untold_in hashes state held stands fresh = record {
     no : false ≡ true → ⊥
     no e = cc
 
--- an addition that was taken, or broken off
-pub untold : (begun : Option ℕ) (addition : Addition) (held held' : Held) (before after : Option Store) (result : Result ℕ KeeperError) → TookOrBroke begun addition held held' before after result
-    → TookOrBroke begun addition held held' None None result
-untold begun addition held held' before after (Ok rows) (rows_are, is, took) = (rows_are, is, λ now e. cc)
-untold begun addition held held' before after (Err error) broke = record {
-  reached = broke.reached;
-  still = broke.still;
+-- a window that was taken, or broken off
+pub untold : (is_open : Bool) (begun : Begun) (held held' : Held) (before after : Option Store) (result : Result ℕ KeeperError) → TookOrBroke is_open begun held held' before after result
+    → TookOrBroke is_open begun held held' None None result
+untold is_open begun held held' before after (Ok rows) (rows_are, is, took) = (rows_are, is, λ now e. cc)
+untold is_open begun held held' before after (Err error) broke = record {
+  left = broke.left;
   held_is = broke.held_is;
-  broke = record { broke = λ now e. cc; within = broke.broke.within; exact = λ same now e. cc };
+  broke = record { broke = λ now e. cc; left = broke.broke.left; exact = λ same now e. cc };
 }
 
 -- the open window that was completed, or broken off
@@ -102,5 +101,5 @@ untold_open held held' before after result came = record {
   begun = came.begun;
   begun_is = came.begun_is;
   may_be = came.may_be;
-  came = untold (Some came.begun.there) came.begun.addition held held' before after result came.came;
+  came = untold true came.begun held held' before after result came.came;
 }

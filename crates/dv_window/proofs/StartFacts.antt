@@ -1,5 +1,5 @@
 -- The office of no windows stands for the beginning, and what is restored of a store for the store's state.
-use Rattle.dv_window.proofs.Vocabulary.{[], and_from, ap, map, refl, subst, sym, ◌∙◌, ◌≡◌, Hashes, IsBegunAs, Mapping, State, beginning, no_rows, none_sealed, none_valid, tables, Held, IsOfState, StandsFor, None, Option, Some, IsReadAs, Store}
+use Rattle.dv_window.proofs.Vocabulary.{[], and_from, ap, map, refl, subst, sym, ◌∙◌, ◌≡◌, Hashes, IsOpenBehind, Mapping, State, beginning, no_rows, none_sealed, none_valid, tables, Held, IsOfState, StandsFor, None, Option, Some, IsReadAs, Store}
 use Rattle.dv_restore.specs.Damages.{IsMappedAs}
 
 module _ (mapping : Mapping) (held : Held) (mapping_is : held.vault.mapping ≡ mapping) (tables_are : held.vault.tables ≡ map (λ id. record { table = id; rows = no_rows id }) (tables mapping))
@@ -11,7 +11,7 @@ module _ (mapping : Mapping) (held : Held) (mapping_is : held.vault.mapping ≡ 
   stands_new hashes = record {
     valid = and_from _ _ (none_valid held.vault.mapping hashes) refl;
     sealed_are = none_sealed hashes held.vault own_tables no_heads;
-    begun_is = subst (IsBegunAs hashes held.vault None) (sym none_open) tt;
+    begun_is = subst (IsOpenBehind held.vault.mapping hashes [] None) (sym none_open) tt;
     snapshots_are = no_snapshots;
   }
 

@@ -1,16 +1,22 @@
 -- The answer to a window, or to the completion of the open one, is a step of the machine.
-use Rattle.dv_window.proofs.Vocabulary.{None, Option, Some, ap, false, inl, inr, option_map, refl, subst, sym, ℕ, ◌∙◌, ◌≡◌, ◌⊎◌, Result, Ok, Err, true}
-use Rattle.dv_window.proofs.Vocabulary.{Hashes, Window, WindowIn, is_valid, State, Store, opened, sealed_with, loaded, outcome, window_of, rows_loaded, Addition, Begun, CompletesAs, CompletesTo, Held, IsBegunAs, IsIn, IsLeftIn, IsOpenAgain, IsPlan}
+use Rattle.dv_window.proofs.Vocabulary.{List, Mapping, None, Option, Some, ap, false, inl, inr, option_map, refl, subst, sym, ℕ, ◌∙◌, ◌≡◌, ◌⊎◌, Result, Ok, Err, true}
+use Rattle.dv_window.proofs.Vocabulary.{Hashes, Window, WindowIn, is_valid, State, Store, opened, sealed_with, loaded, outcome, window_of, Begun, CompletesAs, CompletesTo, Held, IsOpenBehind, IsIn, IsLeftIn, IsOpenAgain, IsPlan}
 use Rattle.dv_window.proofs.Vocabulary.{StandsFor, StepsTo, Stop, Stops, TookOrBroke, answer_of, load_answer, resume_answer, staged, KeeperError, LoadBroke, same_Some}
 use Rattle.dv_records.specs.declared.answers.Outcome.TheVariants as outcomes
 use Rattle.dv_records.specs.declared.answers.ResumeAnswer.TheVariants.{NothingOpen}
 use Rattle.dv_records.specs.declared.keepers.KeeperError.TheVariants.{Failed, Memory}
-use Rattle.dv_restore.proofs.StoreReads.{staged_is}
 use Rattle.dv_window.proofs.Agreed.{none_staged}
-use Rattle.dv_window.proofs.Answered.{StopSays, begun_adds, can_add, completes, is_given, loads, rows, stopped}
+use Rattle.dv_window.proofs.Answered.{StopSays, begun_adds, can_add, completes, is_given, loads, stopped}
 use Rattle.dv_window.proofs.BrokenOff.{LeftState, broken, taken}
 use Rattle.dv_window.proofs.Growths.{CanAdd}
 use Rattle.dv_window.specs.declared.stops.Stop.TheVariants as stop
+
+-- the open window of an office is that of the state
+staged_behind : (mapping : Mapping) (hashes : Hashes) (sealed : List Window) (staged_now : Option Window) (begun : Option Begun) → IsOpenBehind mapping hashes sealed staged_now begun → option_map (λ (b : Begun). b.window) begun ≡ staged_now
+staged_behind mapping hashes sealed None None is = refl
+staged_behind mapping hashes sealed None (Some begun) is = absurd is
+staged_behind mapping hashes sealed (Some window) None is = absurd is
+staged_behind mapping hashes sealed (Some window) (Some begun) is = ap Some is.window_is
 
 module _ (hashes : Hashes) (state : State) (held : Held) (valid_mapping : is_valid held.vault.mapping ≡ true) (before : Option Store) (fresh : held.stale ≡ false) (is_in : IsIn hashes state held before) where
   stands : StandsFor hashes state held
@@ -20,7 +26,7 @@ module _ (hashes : Hashes) (state : State) (held : Held) (valid_mapping : is_val
   still_in = record { stands = is_in.stands; store_stands = is_in.store_stands }
 
   begun_same : staged held ≡ state.begun
-  begun_same = staged_is hashes held.vault state.begun held.begun stands.begun_is
+  begun_same = staged_behind held.vault.mapping hashes state.sealed state.begun held.begun stands.begun_is
 
   -- ---- a window that is not loaded
 
@@ -41,18 +47,18 @@ module _ (hashes : Hashes) (state : State) (held : Held) (valid_mapping : is_val
 
   -- ---- a new window
 
-  module _ (given : WindowIn) (addition : Addition) (plan : IsPlan hashes held.vault (staged held) given addition) where
+  module _ (given : WindowIn) (begun : Begun) (plan : IsPlan hashes held.vault (staged held) given begun) where
     abbrev window : Window
     window = window_of held.vault.mapping given
 
-    plan_here : IsPlan hashes held.vault state.begun given addition
-    plan_here = subst (λ begun. IsPlan hashes held.vault begun given addition) begun_same plan
+    plan_here : IsPlan hashes held.vault state.begun given begun
+    plan_here = subst (λ staged_now. IsPlan hashes held.vault staged_now given begun) begun_same plan
 
-    can : CanAdd hashes held.vault window addition
-    can = can_add hashes state held stands valid_mapping given addition plan_here
+    can : CanAdd hashes state.sealed held.vault window begun
+    can = can_add hashes state held stands valid_mapping given begun plan_here
 
     to_load : outcome held.vault.mapping hashes state given ≡ outcomes.Load
-    to_load = loads hashes state held stands valid_mapping given addition plan_here
+    to_load = loads hashes state held stands valid_mapping given begun plan_here
 
     none_begun : held.begun ≡ None
     none_begun = none_staged held plan.none_open
@@ -61,17 +67,17 @@ module _ (hashes : Hashes) (state : State) (held : Held) (valid_mapping : is_val
     broke_load state' (inl same) = inl same
     broke_load state' (inr left) = inr (to_load, left)
 
-    pub new_step : (held' : Held) (after : Option Store) (result : Result ℕ KeeperError) → TookOrBroke None addition held held' before after result → StepsTo held.vault.mapping hashes state given (load_answer result) held' after
+    pub new_step : (held' : Held) (after : Option Store) (result : Result ℕ KeeperError) → TookOrBroke false begun held held' before after result → StepsTo held.vault.mapping hashes state given (load_answer result) held' after
     new_step held' after (Ok count) (rows_are, is, took) = (
       sealed_with window state,
-      (to_load, refl, rows_are ∙ rows hashes state held stands valid_mapping given addition plan_here),
-      taken hashes state held stands valid_mapping window addition can before is_in.store_stands held' after is took,
+      (to_load, refl, rows_are ∙ can.behind.rows_are),
+      taken hashes state held stands valid_mapping window begun can before is_in.store_stands held' after is took,
     )
     new_step held' after (Err Failed) broke =
-        let (state', left, is_left) = broken hashes state held stands valid_mapping window addition can before is_in.store_stands None Failed held' after fresh broke (λ e. none_begun) in
+        let (state', left, is_left) = broken hashes state held stands valid_mapping window begun can before is_in.store_stands false Failed held' after fresh broke (λ e. none_begun) in
         (state', broke_load state' left, is_left)
     new_step held' after (Err Memory) broke =
-        let (state', left, is_left) = broken hashes state held stands valid_mapping window addition can before is_in.store_stands None Memory held' after fresh broke (λ e. none_begun) in
+        let (state', left, is_left) = broken hashes state held stands valid_mapping window begun can before is_in.store_stands false Memory held' after fresh broke (λ e. none_begun) in
         (state', broke_load state' left, is_left)
 
   -- ---- the open window
@@ -80,8 +86,8 @@ module _ (hashes : Hashes) (state : State) (held : Held) (valid_mapping : is_val
     abbrev begun : Begun
     begun = came.begun
 
-    adds : (window : Window) × (state.begun ≡ Some window) × CanAdd hashes held.vault window begun.addition
-    adds = begun_adds hashes held.vault state.begun begun (subst (IsBegunAs hashes held.vault state.begun) came.begun_is stands.begun_is) came.may_be
+    adds : (window : Window) × (state.begun ≡ Some window) × CanAdd hashes state.sealed held.vault window begun
+    adds = begun_adds hashes state held stands begun came.begun_is came.may_be
 
     abbrev open_window : Window
     open_window = adds.0
@@ -89,10 +95,8 @@ module _ (hashes : Hashes) (state : State) (held : Held) (valid_mapping : is_val
     reopened : opened open_window state ≡ state
     reopened = λ i. record state { begun = sym adds.1 i }
 
-    open_rows : begun.addition.rows ≡ loaded held.vault.mapping hashes state.sealed open_window
-    open_rows =
-        let can = adds.2 in
-        rows_loaded hashes state.sealed held.vault stands.sealed_are valid_mapping open_window can.whole can.late can.adds.apart begun.addition can.adds
+    open_rows : begun.rows ≡ loaded held.vault.mapping hashes state.sealed open_window
+    open_rows = adds.2.behind.rows_are
 
     -- where it was broken off, the state is as before, or has it sealed
     abbrev Resumed : Result ℕ KeeperError → State → Type 0
@@ -104,11 +108,11 @@ module _ (hashes : Hashes) (state : State) (held : Held) (valid_mapping : is_val
     left_so state' (inr (inl opened)) = inl (opened ∙ reopened)
     left_so state' (inr (inr sealed)) = inr sealed
 
-    resumed : (result : Result ℕ KeeperError) → TookOrBroke (Some begun.there) begun.addition held held' before after result → (state' : State) × Resumed result state' × IsLeftIn hashes state' held' after
+    resumed : (result : Result ℕ KeeperError) → TookOrBroke true begun held held' before after result → (state' : State) × Resumed result state' × IsLeftIn hashes state' held' after
     resumed (Ok count) (rows_are, is, took) =
-        (sealed_with open_window state, (refl, rows_are ∙ open_rows), taken hashes state held stands valid_mapping open_window begun.addition adds.2 before is_in.store_stands held' after is took)
+        (sealed_with open_window state, (refl, rows_are ∙ open_rows), taken hashes state held stands valid_mapping open_window begun adds.2 before is_in.store_stands held' after is took)
     resumed (Err error) broke =
-        let (state', left, is_left) = broken hashes state held stands valid_mapping open_window begun.addition adds.2 before is_in.store_stands (Some begun.there) error held' after fresh broke (λ no. cc) in
+        let (state', left, is_left) = broken hashes state held stands valid_mapping open_window begun adds.2 before is_in.store_stands true error held' after fresh broke (λ no. cc) in
         (state', left_so state' left, is_left)
 
     pub open_completes : CompletesTo held.vault.mapping hashes state (resume_answer result) held' after
@@ -152,4 +156,4 @@ module _ (hashes : Hashes) (state : State) (held : Held) (valid_mapping : is_val
   -- nothing is open
   pub nothing_completes : held.begun ≡ None → (after : Option Store) → after ≡ before → CompletesTo held.vault.mapping hashes state NothingOpen held after
   nothing_completes none after same =
-      (state, (sym begun_same ∙ ap (option_map (λ (b : Begun). b.addition.window)) none, refl), subst (IsLeftIn hashes state held) (sym same) still_in)
+      (state, (sym begun_same ∙ ap (option_map (λ (b : Begun). b.window)) none, refl), subst (IsLeftIn hashes state held) (sym same) still_in)

@@ -24,22 +24,22 @@ pub use Rattle.dv_text.specs.declared.rows.NRow.{NRow}
 pub use Rattle.dv_text.specs.declared.rows.Staged.{Staged}
 pub use Rattle.dv_text.specs.declared.rows.Window.{Window}
 pub use Rattle.dv_text.specs.declared.rows.WindowHead.{WindowHead}
-pub use Rattle.dv_vault.proofs.AddedWindows.{batch_count, full_with, last_same, not_full, partly_after, rows_loaded, sealed_after}
+pub use Rattle.dv_vault.proofs.AddedWindows.{added_behind, full_with, last_same, left_behind, not_full, sealed_after, taken_partly, valid_with}
 pub use Rattle.dv_vault.proofs.EmptyTables.{empty_rows}
 pub use Rattle.dv_records.proofs.NoWindows.{none_valid}
 pub use Rattle.dv_vault.proofs.NoWindows.{none_sealed}
-pub use Rattle.dv_restore.specs.Completions.{IsBegunAs, MayBeTaken}
+pub use Rattle.dv_restore.specs.Completions.{IsOpenBehind}
 pub use Rattle.dv_catalog.specs.MappingFiles.{read_mapping}
 pub use Rattle.dv_restore.specs.Damages.{BreaksRule, IsFirstDamage, IsInForm, IsNotRead, IsReadAs}
 pub use Rattle.std.specs.Prelude.{not}
 pub use Rattle.dv_restore.specs.Restored.{HasKept, IsOfState}
-pub use Rattle.dv_restore.specs.declared.restored.Begun.{Begun}
+pub use Rattle.dv_vault.specs.declared.begun.Begun.{Begun}
+pub use Rattle.dv_vault.specs.declared.begun.Part.{Part}
 pub use Rattle.dv_vault.proofs.OtherTables.{has_all, same_tables}
-pub use Rattle.dv_vault.specs.Keeping.{Became, BreaksWindow, BrokeOff, HasRows, IsAsFar, IsBegun, IsLeftOpen, IsOpen, KeepsOthers, TookWindow, reached}
+pub use Rattle.dv_vault.specs.Keeping.{Became, BreaksWindow, BrokeOff, HasLeft, HasRows, IsBegunIn, IsLeftOf, IsOpen, KeepsOthers, MayBeLeft, TookWindow}
 pub use Rattle.dv_vault.specs.Vaults.{entries_with}
 pub use Rattle.dv_contents.proofs.SealedContents.{sealed_rows}
 pub use Rattle.dv_vault.proofs.VaultCollisions.{apart_is_free, clash_collides}
-pub use Rattle.dv_vault.specs.declared.additions.Addition.{Addition}
 pub use Rattle.dv_window.specs.Offices.{Agrees, AgreesUnlessStale, CompletesTo, Held, IsDamageFor, IsIn, IsLeftIn, IsOther, IsOtherMapping, LeavesOffice, LeavesStill, LeavesStore, StaleAfter, StaleThen, StandsFor, StepsTo, rows_behind, staged}
 pub use Rattle.dv_window.specs.Plans.{Collides, IsAgain, IsNewWindow, IsOpenAgain, IsPlan, IsPlanned, IsTooMuch, Stops, early_rule, given_rules, head_at, held_broken, held_with, late_by, window_read}
 pub use Rattle.dv_window.specs.Stopping.{answer_of, load_answer, resume_answer, unrefreshed, unresumed}
@@ -52,7 +52,7 @@ pub use Rattle.dv_text.proofs.Vocabulary.{Decides-and, slice_eq-Decides, drop}
 pub use Rattle.dv_catalog.specs.declared.tables.TableId.{TableId}
 pub use Rattle.dv_records.specs.declared.stores.Rows.{Rows}
 pub use Rattle.dv_records.specs.Vault.{table_entry}
-pub use Rattle.dv_vault.specs.Additions.{raw_with}
+pub use Rattle.dv_vault.specs.Additions.{ArePartsOf, Fits, IsBegunBehind, IsPartOf, opened_in, raw_with, tables_there, tables_whole, taken_first, whole_in}
 pub use Rattle.dv_text.proofs.Vocabulary.{rules}
 pub use Rattle.std.proofs.lemmas.Bool.{eqb-true}
 pub use Rattle.std.specs.Cmp.Lexicographic.{pointwise}

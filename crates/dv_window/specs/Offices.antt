@@ -18,13 +18,13 @@ use Rattle.dv_records.specs.Standing.{IsMappedBy, Stands}
 use Rattle.dv_records.specs.States.{State, is_valid_state}
 use Rattle.dv_records.specs.Steps.{LoadStep, ResumeStep}
 use Rattle.dv_records.specs.Stores.{rows_then}
-use Rattle.dv_restore.specs.declared.restored.Begun.{Begun}
-use Rattle.dv_restore.specs.Completions.{IsBegunAs}
+use Rattle.dv_vault.specs.declared.begun.Begun.{Begun}
+use Rattle.dv_restore.specs.Completions.{IsOpenBehind}
 use Rattle.dv_restore.specs.Damages.{IsFirstDamage, IsReadAs, mapping_damage}
 use Rattle.dv_restore.specs.Restored.{HasKept, heads_of_state}
 use Rattle.dv_vault.specs.Vaults.{HasSealed, RawVault}
 
--- what an office holds: the vault of the sealed windows, the open window with what it adds, the heads of the snapshots,
+-- what an office holds: the vault of the sealed windows, the open window with what the tables lack of it, the heads of the snapshots,
 -- whether its keeper may have more than it knows, and the width of the digests with which it was read
 pub record Held : Type 0 where
   pub vault : RawVault
@@ -35,7 +35,7 @@ pub record Held : Type 0 where
 
 -- the open window of an office
 abbrev pub staged : Held → Option Window
-staged held = option_map (λ b. b.addition.window) held.begun
+staged held = option_map (λ b. b.window) held.begun
 
 -- an office that is the same, but stale
 abbrev pub made_stale : Held → Held
@@ -50,7 +50,7 @@ rows_behind rows (Some more) = rows_then rows more
 pub record StandsFor (hashes : Hashes) (state : State) (held : Held) : Type 0 where
   pub valid : is_valid_state held.vault.mapping hashes state ≡ true
   pub sealed_are : HasSealed hashes state.sealed held.vault
-  pub begun_is : IsBegunAs hashes held.vault state.begun held.begun
+  pub begun_is : IsOpenBehind held.vault.mapping hashes state.sealed state.begun held.begun
   pub snapshots_are : held.snapshots ≡ heads_of_state held.vault.mapping hashes state
 
 -- a store has what an office holds

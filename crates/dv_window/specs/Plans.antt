@@ -1,6 +1,6 @@
 -- What is decided of a window, told from what a vault has: the rule that it breaks, or that it repeats a sealed one,
 -- or what it adds.
-use Rattle.std.specs.Prelude.{◌≡◌, ◌⊎◌, ℕ, ◌==◌, Bool, true, List, [], ◌∷◌, Option, None, Some, is_some, if◌then◌else◌, find, length, map, option_map}
+use Rattle.std.specs.Prelude.{◌≡◌, ◌⊎◌, ℕ, ◌==◌, Bool, true, List, [], ◌∷◌, Option, None, Some, is_some, if◌then◌else◌, find, length, map}
 use Rattle.dv_text.specs.declared.rows.Window.{Window}
 use Rattle.dv_text.specs.declared.rows.WindowHead.{WindowHead}
 use Rattle.dv_text.specs.Keys.{Hashes}
@@ -17,7 +17,7 @@ use Rattle.dv_records.specs.declared.keepers.KeeperError.{KeeperError}
 use Rattle.dv_records.specs.Collisions.{Pair}
 use Rattle.dv_records.specs.Outcomes.{differs_from, feed_twice, full_at, late_after, no_extracts, open_other, too_long, unknown_feed}
 use Rattle.dv_records.specs.ReadBack.{any_content_read}
-use Rattle.dv_vault.specs.declared.additions.Addition.{Addition}
+use Rattle.dv_vault.specs.declared.begun.Begun.{Begun}
 use Rattle.dv_vault.specs.declared.additions.AdditionFault.{AdditionFault}
 use Rattle.dv_vault.specs.declared.additions.AdditionFault.TheVariants as fault
 use Rattle.dv_vault.specs.Additions.{AreApart, Fits, IsAddition, IsFirstClash, raw_with, weight_with}
@@ -65,12 +65,12 @@ pub record IsNewWindow (raw : RawVault) (begun : Option Window) (given : WindowI
   pub is_new : head_at given.load raw.heads ≡ None
 
 -- no window is open, and the vault may grow by what the window adds
-pub record IsPlan (hashes : Hashes) (raw : RawVault) (begun : Option Window) (given : WindowIn) (addition : Addition) : Type 0 where
+pub record IsPlan (hashes : Hashes) (raw : RawVault) (begun : Option Window) (given : WindowIn) (planned : Begun) : Type 0 where
   pub passes : IsNewWindow raw begun given
   pub none_open : begun ≡ None
-  pub adds : IsAddition hashes raw (window_of raw.mapping given) addition
-  pub fits : Fits raw addition
-  pub not_full : full_at addition.weight (length raw.heads) ≡ None
+  pub adds : IsAddition hashes raw (window_of raw.mapping given) planned
+  pub fits : Fits raw planned
+  pub not_full : full_at planned.weight (length raw.heads) ≡ None
 
 -- a window repeats the sealed one of its load date, or differs from it
 pub record IsAgain (raw : RawVault) (begun : Option Window) (given : WindowIn) (differs : Option Rule) : Type 0 where
@@ -88,7 +88,7 @@ pub record IsOpenAgain (raw : RawVault) (begun : Option Window) (given : WindowI
 
 -- what is to be done for a window that breaks no rule: it is taken, or the open one is completed
 abbrev pub IsPlanned : Hashes → Held → WindowIn → Planned → Type 0
-IsPlanned hashes held given (planned.New addition) = IsPlan hashes held.vault (staged held) given addition
+IsPlanned hashes held given (planned.New begun) = IsPlan hashes held.vault (staged held) given begun
 IsPlanned hashes held given planned.Open = IsOpenAgain held.vault (staged held) given None
 
 -- the rule of a collision
@@ -147,15 +147,12 @@ Stops hashes raw begun given (stop.Refused rule) =
     ⊎ (IsOpenAgain raw begun given (Some rule) ⊎ (Collides hashes raw begun given rule ⊎ IsTooMuch hashes raw begun given rule)))
 Stops hashes raw begun given stop.Memory = Unit {0}
 
--- ---- an office with an addition
+-- ---- an office with a window
 
--- an office with an addition, and no window open
-abbrev pub held_with : Addition → Held → Held
-held_with addition held = record held { vault = raw_with addition held.vault; begun = None }
+-- an office with all of a window, and none open
+abbrev pub held_with : Begun → Held → Held
+held_with begun held = record held { vault = raw_with begun held.vault; begun = None }
 
--- an office that broke off to take an addition, as far as it got; where its keeper failed it is stale
-abbrev pub held_broken : Addition → KeeperError → Option ℕ → Held → Held
-held_broken addition error reached held = record held {
-  begun = option_map (λ there. record { addition = addition; there = there }) reached;
-  stale = is_failed error;
-}
+-- an office that broke off to take a window, with what is left of it; where its keeper failed it is stale
+abbrev pub held_broken : KeeperError → Option Begun → Held → Held
+held_broken error left held = record held { begun = left; stale = is_failed error }

@@ -40,7 +40,7 @@ impl Office {
         ensures later { K.faults keeper.old ≤ K.faults keeper.new }
     {
         match self.plan(given, digest) {
-            Ok(Planned::New(addition)) => load_answer(self.carry_out(keeper, None, addition)),
+            Ok(Planned::New(begun)) => load_answer(self.carry_out(keeper, false, begun)),
             Ok(Planned::Open) => match self.complete(keeper) {
                 Some(completed) => load_answer(completed),
                 None => unreachable!(),

@@ -3,6 +3,7 @@ ghost use Rattle.std.specs.Prelude.{◌≡◌, ◌<◌, IfOk, IfSome, IsTrue, le
 ghost use Rattle.dv_store_rules.specs.SnapshotHeads.{KeepLimits};
 ghost use Rattle.dv_records.specs.ReadBack.{any_content_read};
 ghost use Rattle.dv_records.specs.Stores.{is_of_kind, rows_in};
+ghost use Rattle.dv_vault.specs.Additions.{opened_in};
 ghost use Rattle.dv_restore.specs.Completions.{rows_there};
 ghost use Rattle.dv_catalog.specs.Mappings.{is_valid};
 ghost use Rattle.dv_vault.specs.Vaults.{IsVaultOf, are_heads_of, last_head};
@@ -11,13 +12,12 @@ ghost use Rattle.dv_window.specs.Offices as spec;
 use dv_catalog::{Catalog, TableId};
 use dv_contents::content;
 use dv_records::{Rows, SnapHead};
-use dv_restore::Begun;
 use dv_text::{List, Memory, NRow, Stamp, Window, WindowHead};
-use dv_vault::Vault;
+use dv_vault::{Begun, Part, Vault};
 use std::alloc::Global;
 use std::marker::Model;
 
-/// What loads windows: the vault of the sealed ones, the open one with what it adds, the heads of the snapshots, whether
+/// What loads windows: the vault of the sealed ones, the open one with what tables lack of it, the heads of the snapshots, whether
 /// its keeper may have more than it knows, and the width of the digests with which it was read. Contracts see these.
 #[derive(Drop)]
 pub struct Office {
@@ -31,14 +31,14 @@ pub struct Office {
 impl Model for Office {
     ghost use Rattle.std.specs.Prelude.{IfSome};
     ghost use Rattle.dv_store_rules.specs.SnapshotHeads.{KeepLimits};
-    ghost use Rattle.dv_restore.specs.Completions.{MayBeTaken};
+    ghost use Rattle.dv_vault.specs.Additions.{Fits};
     ghost use Rattle.dv_window.specs.Offices.{Held};
 
     ghost Value = { Held };
 
     ghost view = { λ o. record { vault = o.vault; begun = o.begun; snapshots = o.snapshots; stale = o.stale; width = o.width } };
 
-    ghost invariant = { λ o. KeepLimits o.snapshots × IfSome o.begun (MayBeTaken o.vault) };
+    ghost invariant = { λ o. KeepLimits o.snapshots × IfSome o.begun (Fits o.vault) };
 }
 
 /// The order in which the tasks of a window are worked through.
@@ -48,11 +48,12 @@ pub enum Order {
     Reverse,
 }
 
-// The batch at a place; none past the last one.
-fn batch_at(batches: &[Rows], place: usize) -> Option<&Rows>
-    ensures { option_map (λ rows. rows.now) result ≡ slice_get batches.now place }
+// The rows that are there of a window in the table at a place; none past the last one.
+fn opened_at(parts: &[Part], place: usize) -> Option<&Rows>
+    ensures { option_map (λ rows. rows.now) result ≡ slice_get (opened_in parts.now) place }
 {
-    batches.get(place)
+    let part = parts.get(place)?;
+    Some(&part.opened)
 }
 
 impl Office {
@@ -103,7 +104,7 @@ impl Office {
         ensures { option_map (λ window. window.now) result ≡ spec.staged self.now }
     {
         let begun = self.begun.as_ref()?;
-        Some(&begun.addition.window)
+        Some(&begun.window)
     }
 
     /// The heads of the stored snapshots, by date: at most 1,000, which weigh at most 268,435,456 together. Takes no
@@ -116,7 +117,7 @@ impl Office {
     }
 
     /// The rows that the open window has in a raw table of the keeper already; none where no window is
-    /// open, or the table has not got its rows of it yet. Takes no memory.
+    /// open, or the mapping hasn't the table. Takes no memory.
     pub fn rows_begun(&self, table: TableId) -> Option<&Rows>
         ensures kind { IfSome result (λ rows. is_of_kind table rows.now ≡ true) }
         ensures held { is_of_kind table (rows_in table self.now.vault.tables) ≡ true }
@@ -125,7 +126,7 @@ impl Office {
     {
         let place = self.vault.place_of(table)?;
         let begun = self.begun.as_ref()?;
-        batch_at(&begun.addition.batches.items()[..begun.there], place)
+        opened_at(&begun.parts, place)
     }
 
     /// Whether the keeper may have more than the office knows: a call of it failed, and the office was not refreshed since.

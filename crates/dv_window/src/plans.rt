@@ -16,7 +16,7 @@ use crate::stops::Stop;
 use dv_catalog::{Rule, WindowIn};
 use dv_contents::content;
 use dv_text::{KeyDigest, List, Memory, Staged, Stamp, Window, WindowHead};
-use dv_vault::{Addition, Vault};
+use dv_vault::{Begun, Vault};
 use dv_window_rules::{differs, full, given_rule, late, open_other, stage_window, too_long};
 use std::alloc::Global;
 
@@ -24,7 +24,7 @@ use std::alloc::Global;
 /// completed.
 #[derive(Drop)]
 pub(crate) enum Planned {
-    New(Addition),
+    New(Begun),
     Open,
 }
 
@@ -134,7 +134,7 @@ impl Office {
         given: &WindowIn,
         window: Window,
         digest: &H,
-    ) -> Result<Addition, Stop>
+    ) -> Result<Begun, Stop>
         requires passes { spec.IsNewWindow self.now.vault (staged self.now) given.now }
         requires none_open { staged self.now ≡ None }
         requires window { window ≡ window_of self.now.vault.mapping given.now }
@@ -142,11 +142,11 @@ impl Office {
         ensures plan { IfOk result (IsPlan (hashes_of H.function) self.now.vault (staged self.now) given.now) }
         ensures stops { IfErr result (Stops (hashes_of H.function) self.now.vault (staged self.now) given.now) }
     {
-        let addition = addition(&self.vault, window, digest)?;
+        let begun = addition(&self.vault, window, digest)?;
         let windows = count_windows(self.heads().items())?;
-        match too_full(addition.weight, windows) {
+        match too_full(begun.weight, windows) {
             Some(rule) => Err(Stop::Refused(rule)),
-            None => Ok(addition),
+            None => Ok(begun),
         }
     }
 
@@ -160,11 +160,11 @@ impl Office {
         if let Some(head) = self.head_at(given.load) {
             return Err(again(self.allocator(), &self.vault, head, &window)?);
         }
-        let Some(begun) = self.staged() else {
-            let addition = self.plan_new(given, window, digest)?;
-            return Ok(Planned::New(addition));
+        let Some(open) = self.staged() else {
+            let begun = self.plan_new(given, window, digest)?;
+            return Ok(Planned::New(begun));
         };
-        match differs(Some(begun), &window) {
+        match differs(Some(open), &window) {
             Some(rule) => Err(Stop::Refused(rule)),
             None => Ok(Planned::Open),
         }

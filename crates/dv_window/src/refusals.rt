@@ -10,7 +10,7 @@ ghost use Rattle.dv_window.specs.Plans as spec;
 use crate::stops::Stop;
 use dv_catalog::{Catalog, Rule};
 use dv_text::{KeyDigest, Memory, Window};
-use dv_vault::{Addition, AdditionFault, Vault};
+use dv_vault::{AdditionFault, Begun, Vault};
 
 // What a fault of an addition is answered as.
 fn refusal(catalog: &Catalog, fault: AdditionFault) -> Result<Stop, Memory>
@@ -38,7 +38,7 @@ pub(crate) fn addition<H: KeyDigest>(
     vault: &Vault,
     window: Window,
     digest: &H,
-) -> Result<Addition, Stop>
+) -> Result<Begun, Stop>
     requires later { late_after (last_head vault.now.heads) window.load ≡ None }
     requires window { IsTrue (is_window vault.now.mapping window) }
     ensures adds { IfOk result (IsAddition (hashes_of H.function) vault.now window) }
@@ -46,7 +46,7 @@ pub(crate) fn addition<H: KeyDigest>(
     ensures stops { IfErr result (spec.StopsRows (hashes_of H.function) vault.now window) }
 {
     match vault.addition(window, digest) {
-        Ok(addition) => Ok(addition),
+        Ok(begun) => Ok(begun),
         Err(fault) => Err(refusal(vault.catalog(), fault)?),
     }
 }

@@ -9,7 +9,7 @@ ghost use Rattle.dv_records.specs.declared.stores.Store.{Store};
 ghost use Rattle.dv_records.specs.Standing.{Stands};
 ghost use Rattle.dv_records.specs.States.{State, beginning};
 ghost use Rattle.dv_store_rules.specs.SnapshotHeads.{KeepLimits};
-ghost use Rattle.dv_restore.specs.Completions.{MayBeTaken};
+ghost use Rattle.dv_vault.specs.Additions.{Fits};
 ghost use Rattle.dv_restore.specs.Damages.{IsFirstDamage, IsInForm, IsNamedBySome};
 ghost use Rattle.dv_restore.specs.declared.faults.StoreFault.TheVariants as unread;
 ghost use Rattle.dv_window.specs.Offices.{Agrees, StandsFor};
@@ -43,7 +43,7 @@ impl Office {
 
     /// The office of what is read of a store.
     pub(crate) fn of_restored(restored: Restored, width: u8) -> Office
-        requires taken { IfSome restored.begun (MayBeTaken restored.vault) }
+        requires taken { IfSome restored.begun (Fits restored.vault) }
         requires limits { KeepLimits restored.snapshots }
         ensures { result ≡ record { vault = restored.vault; begun = restored.begun; snapshots = restored.snapshots; stale = false; width = width } }
     {

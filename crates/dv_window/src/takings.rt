@@ -1,9 +1,9 @@
-// An addition is given to the keeper and to the vault, or broken off.
-ghost use Rattle.std.specs.Prelude.{◌≡◌, ◌≤◌, IfNone, IfSome, IsSome, IsTrue, None, false, length, option_map};
+// A window is given to the keeper and to the vault, or broken off.
+ghost use Rattle.std.specs.Prelude.{◌≡◌, ◌≤◌, IfNone, IfSome, IsSome, IsTrue, None, false};
 ghost use Rattle.dv_text.specs.Told.{Told};
 ghost use Rattle.dv_records.specs.Changes.{KeeperCause};
 ghost use Rattle.dv_vault.specs.Additions.{Fits};
-ghost use Rattle.dv_vault.specs.Keeping.{IsBegun};
+ghost use Rattle.dv_vault.specs.Keeping.{IsBegunIn};
 ghost use Rattle.dv_catalog.specs.Mappings.{is_valid};
 ghost use Rattle.dv_window.specs.Offices.{AgreesUnlessStale};
 ghost use Rattle.dv_window.specs.Stopping as spec;
@@ -11,8 +11,7 @@ ghost use Rattle.dv_window.specs.Takings.{CompletesAs, TookOrBroke};
 
 use crate::offices::Office;
 use dv_records::{Keeper, KeeperError};
-use dv_restore::Begun;
-use dv_vault::Addition;
+use dv_vault::Begun;
 
 /// Whether a keeper failed.
 pub(crate) fn is_failed(error: KeeperError) -> bool
@@ -21,42 +20,32 @@ pub(crate) fn is_failed(error: KeeperError) -> bool
     error == KeeperError::Failed
 }
 
-// A window that is begun, as far as it got; none where it was not opened.
-fn begun_as(addition: Addition, reached: Option<usize>) -> Option<Begun>
-    ensures { result ≡ option_map (λ there. record { addition = addition; there = there }) reached }
-{
-    let there = reached?;
-    Some(Begun { addition, there })
-}
-
 impl Office {
-    /// Gives an addition to the keeper and to the vault, and answers the number of its rows. `begun` is none where its
-    /// window is not open, and else says how many first tables have their rows of it. With an error the office has the
-    /// window as far as it got; where the keeper failed it is stale.
+    /// Gives a window to the keeper and to the vault, and answers the number of its rows. `is_open` says whether it is
+    /// open. With an error the office has what is left of the window; where the keeper failed it is stale.
     pub(crate) fn carry_out<K: Keeper>(
         &mut self,
         keeper: &mut K,
-        begun: Option<usize>,
-        addition: Addition,
+        is_open: bool,
+        begun: Begun,
     ) -> Result<u64, KeeperError>
         requires none { self.old.begun ≡ None }
-        requires fits { Fits self.old.vault addition }
-        requires within { IfSome begun (λ from. from ≤ length self.old.vault.tables) }
-        requires told { Told (K.store keeper.old) (IsBegun addition.window self.old.vault.tables addition.batches begun) }
-        ensures came { TookOrBroke begun addition self.old self.new (K.store keeper.old) (K.store keeper.new) result }
+        requires fits { Fits self.old.vault begun }
+        requires told { Told (K.store keeper.old) (IsBegunIn is_open self.old.vault.tables begun) }
+        ensures came { TookOrBroke is_open begun self.old self.new (K.store keeper.old) (K.store keeper.new) result }
         ensures stays { IsSome (K.store keeper.old) → IsSome (K.store keeper.new) }
         ensures cause { KeeperCause (K.faults keeper.old) (K.faults keeper.new) result }
     {
-        let rows = addition.rows;
-        let Err(untaken) = self.vault.take(keeper, begun, addition) else {
+        let rows = begun.rows;
+        let Err(untaken) = self.vault.take(keeper, is_open, begun) else {
             return Ok(rows);
         };
         self.stale = is_failed(untaken.error);
-        self.begun = begun_as(untaken.addition, untaken.reached);
+        self.begun = untaken.begun;
         Err(untaken.error)
     }
 
-    /// Completes the open window: the number of rows that it adds to all tables; none where no window is open.
+    /// Completes the open window: the number of its rows in all tables; none where no window is open.
     pub(crate) fn complete<K: Keeper>(&mut self, keeper: &mut K) -> Option<Result<u64, KeeperError>>
         requires fresh { self.old.stale ≡ false }
         requires agrees { AgreesUnlessStale self.old (K.store keeper.old) }
@@ -69,6 +58,6 @@ impl Office {
     {
         self.note_valid();
         let begun = self.begun.take()?;
-        Some(self.carry_out(keeper, Some(begun.there), begun.addition))
+        Some(self.carry_out(keeper, true, begun))
     }
 }

@@ -1,17 +1,24 @@
-use Rattle.dv_vault.proofs.Vocabulary.{List, None, Some, append-nil, ap, entry_of, hashes_of, map, subst, sym, true, ◌∙◌, ◌≡◌}
+use Rattle.dv_vault.proofs.Vocabulary.{List, None, Some, [], append-nil, ap, entry_of, hashes_of, head_of, map, subst, sym, true, ◌++◌, ◌∙◌, ◌≡◌}
+use Rattle.dv_text.proofs.Vocabulary.{option_to_list}
 use Rattle.dv_text.specs.declared.rows.WindowHead.{WindowHead}
 use Rattle.dv_restore.specs.Parts.{are_loaded}
 use Rattle.dv_restore.specs.Sealed.{sealed_entry}
 use Rattle.dv_restore.proofs.Completing.{kinds_of}
 use Rattle.dv_restore.proofs.HeadsHeld.{ends_last, heads_fed}
 use Rattle.dv_restore.proofs.KeptTables.{rows_kept}
-use Rattle.dv_restore.proofs.RowLoads.{loaded_by}
+use Rattle.dv_restore.proofs.RowLoads.{loaded_by, no_zero_links}
 use Rattle.dv_restore.proofs.Reopening.{all_sealed}
 use Rattle.dv_restore.proofs.completions.restored.Goals as goal
 
 pub reopened-requires-clause-loaded : goal.reopened-requires-clause-loaded
 reopened-requires-clause-loaded g c = λ κs b.
     loaded_by c.args.catalog (hashes_of g.H.KeyDigest.function) g.H.KeyDigest.function.width c.args.heads c.args.stage (Some c.in-Some.window) (map entry_of c.args.tables.items) c.requires.clear (kinds_of c.args.tables.items) c.in-Some.is
+
+pub reopened-requires-clause-links : goal.reopened-requires-clause-links
+reopened-requires-clause-links g c κs within =
+    no_zero_links
+    (record { mapping = c.args.catalog; hashes = hashes_of g.H.KeyDigest.function; width = g.H.KeyDigest.function.width; heads = c.args.heads ++ map head_of (option_to_list c.args.stage); tables = [] })
+    (map entry_of c.args.tables.items) c.requires.clear
 
 pub from_tables-vault-requires-clause-rows : goal.from_tables-vault-requires-clause-rows
 from_tables-vault-requires-clause-rows g c =

@@ -97,8 +97,13 @@ returns-clause-stands g c = λ state store at stands.
     let reopened = c.in_ok-reopened.reopened in
     of_state c.args.catalog hashes state store stands reopened.vault
     (c.in_ok-reopened.ensures.vault ∙ sealed_is c.args.catalog hashes g.H.KeyDigest.function.width store c.in_ok-heads.heads c.in_ok-stage.stage windows staged (map entry_of c.in_ok-read.read.tables.items) read)
-    reopened.begun (subst (λ (stage : Option Window). IsBegunAs hashes reopened.vault stage reopened.begun) staged c.in_ok-reopened.ensures.begun)
+    reopened.begun (subst (λ (stage : Option Window). IsBegunAs hashes reopened.vault stage reopened.begun) staged c.in_ok-reopened.ensures.begun) c.in_ok-reopened.ensures.taken (sym read ∙ c.in_ok-reopened.ensures.entries)
     c.in_ok-snapshots.snapshots (c.in_ok-snapshots.ensures.told store (c.read_tables.ensures.store ∙ at_rows))
 
 pub returns-clause-limits : goal.returns-clause-limits
 returns-clause-limits g c = keep_limits c.items-3.result.now c.in_ok-snapshots.snapshots c.in_ok-snapshots.ensures.clear
+
+pub returns-clause-begun : goal.returns-clause-begun
+returns-clause-begun g c = λ store at.
+    let staged = c.in_ok-stage.ensures.told store (c.stored_heads.ensures.store ∙ at) in
+    subst (λ (stage : Option Window). IsBegunAs (hashes_of g.H.KeyDigest.function) c.in_ok-reopened.reopened.vault stage c.in_ok-reopened.reopened.begun) staged c.in_ok-reopened.ensures.begun

@@ -1,11 +1,13 @@
 use Rattle.std.specs.Prelude.{IsSome}
-use Rattle.dv_vault.proofs.Vocabulary.{◌≤◌, map, take, TakesRows, entry_of}
+use Rattle.dv_vault.proofs.Vocabulary.{◌≡◌, ◌≤◌, entry_of, map, taken_first}
+use Rattle.dv_vault.proofs.StoreSteps.{TakesParts}
 use Rattle.dv_vault.proofs.keeping.append_all.Given as goal
 
--- the keeper has the batches so far
+-- the tables so far have got what they lacked
 abbrev pub invariant-loop-i : goal.invariant-loop-i
 invariant-loop-i g l = record {
-  told : TakesRows (map entry_of l.tables) (take l.i l.batches) (g.K.Keeper.store l.initial.keeper) (g.K.Keeper.store l.keeper);
+  taken : l.parts ≡ taken_first l.i l.initial.parts;
+  told : TakesParts (map entry_of l.tables) l.initial.parts l.i (g.K.Keeper.store l.initial.keeper) (g.K.Keeper.store l.keeper);
   stays : IsSome (g.K.Keeper.store l.initial.keeper) → IsSome (g.K.Keeper.store l.keeper);
   later : g.K.Keeper.faults l.initial.keeper ≤ g.K.Keeper.faults l.keeper;
 }

@@ -1,4 +1,4 @@
-use Rattle.dv_vault.proofs.Vocabulary.{◌≡◌, ◌<◌, ◌≤◌, ◌∙◌, arith, length, subst, sym, map-set_same, row_count, Table, entry_of, spare_of}
+use Rattle.dv_vault.proofs.Vocabulary.{◌<◌, ◌≤◌, ◌∙◌, ap, arith, get_or-map, length, length-map, sym, map-set_same, row_count, Table, entry_of, spare_of, whole_in, whole_part}
 use Rattle.dv_vault.proofs.BatchSteps.{pairs_more}
 use Rattle.dv_vault.proofs.keeping.reserve_all.Goals as goal
 
@@ -9,12 +9,15 @@ returns-in_err-reserve-clause-rows c =
 
 pub loop-i-preserved : goal.loop-i-preserved
 loop-i-preserved c =
+    let part = c.index-parts-i.result in
     let under : c.loop-i.i < length c.loop-i.tables = omega arith in
-    let too : c.loop-i.i < length c.args.batches.now = omega arith in
-    let counted : c.count.result ≡ row_count c.index-batches-i.result = cc in
-    let room : row_count c.index-batches-i.result ≤ spare_of c.reserve.new.self = subst (λ n. n ≤ spare_of c.reserve.new.self) counted c.in_ok-reserve.ensures.room in
+    let too : c.loop-i.i < length (whole_in c.args.parts.now) = omega (arith, length-map c.args.parts.now whole_part) in
+    let most : row_count (whole_part part) ≤ c.in_ok-more.more = c.in_ok-more.ensures {u = tt} in
+    let spare : c.in_ok-more.more ≤ spare_of c.reserve.new.self = (c.in_ok-reserve.ensures {u = tt}).room in
+    let room : row_count (whole_part part) ≤ spare_of c.reserve.new.self = omega (arith, most, spare) in
     record {
       rows = map-set_same entry_of c.loop-i.tables c.loop-i.i c.reserve.new.self c.index-tables-i.result c.reserve.ensures.rows
           ∙ c.loop-i.invariant.rows;
-      room = pairs_more (λ (table : Table) rows. row_count rows ≤ spare_of table) c.loop-i.tables c.args.batches.now c.loop-i.i c.reserve.new.self c.index-batches-i.result under too (sym c.index-batches-i.is) room c.loop-i.invariant.room;
+      room = pairs_more (λ (table : Table) rows. row_count rows ≤ spare_of table) c.loop-i.tables (whole_in c.args.parts.now) c.loop-i.i c.reserve.new.self (whole_part part) under too
+          (get_or-map whole_part c.args.parts.now c.loop-i.i part ∙ ap whole_part (sym c.index-parts-i.is)) room c.loop-i.invariant.room;
     }

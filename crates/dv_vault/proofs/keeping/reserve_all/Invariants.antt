@@ -1,9 +1,9 @@
-use Rattle.dv_vault.proofs.Vocabulary.{◌≡◌, ◌≤◌, map, take, AllZip, row_count, entry_of, spare_of}
+use Rattle.dv_vault.proofs.Vocabulary.{◌≡◌, ◌≤◌, map, take, AllZip, row_count, entry_of, spare_of, whole_in}
 use Rattle.dv_vault.proofs.keeping.reserve_all.Given as goal
 
 -- the tables so far have room, and no table's rows have changed
 abbrev pub invariant-loop-i : goal.invariant-loop-i
 invariant-loop-i l = record {
   rows : map entry_of l.tables ≡ map entry_of l.initial.tables;
-  room : AllZip (λ table rows. row_count rows ≤ spare_of table) (take l.i l.tables) (take l.i l.batches);
+  room : AllZip (λ table rows. row_count rows ≤ spare_of table) (take l.i l.tables) (take l.i (whole_in l.parts));
 }

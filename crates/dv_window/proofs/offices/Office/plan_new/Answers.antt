@@ -12,12 +12,12 @@ pub returns-in-Some-clause-stops : goal.returns-in-Some-clause-stops
 returns-in-Some-clause-stops g c =
     let raw = c.args.self.now.vault in
     let hashes = hashes_of g.H.KeyDigest.function in
-    let adds : IsAddition hashes raw c.args.window c.in_ok-addition.addition = subst (λ (held : Held). IsAddition hashes held.vault c.args.window c.in_ok-addition.addition) c.self.view_is (c.in_ok-addition.ensures {u = tt}).adds in
-    let here = subst (λ (window : Window). IsAddition hashes raw window c.in_ok-addition.addition) c.requires.window adds in
+    let adds : IsAddition hashes raw c.args.window c.in_ok-begun.begun = subst (λ (held : Held). IsAddition hashes held.vault c.args.window c.in_ok-begun.begun) c.self.view_is (c.in_ok-begun.ensures {u = tt}).adds in
+    let here = subst (λ (window : Window). IsAddition hashes raw window c.in_ok-begun.begun) c.requires.window adds in
     let count = c.in_ok-windows.ensures {u = tt} ∙ ap length (c.items.ensures ∙ c.heads.ensures.value) in
     inr (inr (inr (inr (record {
       passes = c.requires.passes;
       none_open = c.requires.none_open;
       apart = here.apart;
-      rule_is = ap (λ weight. full_at weight (length raw.heads)) (sym here.weight_is) ∙ ap (full_at c.in_ok-addition.addition.weight) (sym count) ∙ sym c.too_full.ensures ∙ c.in-Some.is;
+      rule_is = ap (λ weight. full_at weight (length raw.heads)) (sym here.weight_is) ∙ ap (full_at c.in_ok-begun.begun.weight) (sym count) ∙ sym c.too_full.ensures ∙ c.in-Some.is;
     }))))

@@ -1,4 +1,4 @@
-use Rattle.dv_window.proofs.Vocabulary.{AgreesUnlessStale, CompletesTo, Held, None, Some, refl, subst, sym}
+use Rattle.dv_window.proofs.Vocabulary.{AgreesUnlessStale, CompletesTo, Held, None, refl, true, subst, sym}
 use Rattle.dv_records.specs.declared.answers.ResumeAnswer.TheVariants.{NothingOpen}
 use Rattle.dv_window.proofs.Agreed.{agrees_then}
 use Rattle.dv_window.proofs.BrokenOff.{untold_in, untold_open}
@@ -14,7 +14,7 @@ returns-in-Some-clause-step g c hashes state is_in =
 pub returns-in-Some-clause-agrees : goal.returns-in-Some-clause-agrees
 returns-in-Some-clause-agrees g c =
     let came = (c.in-Some.ensures {u = tt}).some in
-    agrees_then c.args.self.now came.begun.addition (Some came.begun.there) c.complete.new.self (g.K.Keeper.store c.args.keeper.now) (g.K.Keeper.store c.complete.new.keeper) (c.requires.agrees c.requires.fresh)
+    agrees_then c.args.self.now true came.begun c.complete.new.self (g.K.Keeper.store c.args.keeper.now) (g.K.Keeper.store c.complete.new.keeper) (c.requires.agrees c.requires.fresh)
     (λ no. cc) c.in-Some.completed came.came
 
 pub returns-in-None-clause-step : goal.returns-in-None-clause-step

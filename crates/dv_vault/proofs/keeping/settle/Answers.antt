@@ -1,0 +1,11 @@
+use Rattle.dv_vault.proofs.Vocabulary.{Rows, subst, sym, ◌∙◌, ◌≡◌}
+use Rattle.dv_vault.proofs.Parts.{none_is}
+use Rattle.dv_vault.specs.Additions.{none_like, whole_part}
+use Rattle.std.specs.Prelude.{IfSome}
+use Rattle.dv_vault.proofs.keeping.settle.Goals as goal
+
+pub returns : goal.returns
+returns c =
+    let whole : c.in-Some.rows ≡ whole_part c.args.part.now = subst (λ joined. IfSome joined (λ (rows : Rows). rows ≡ whole_part c.args.part.now)) c.in-Some.is c.requires.some in
+    let none : c.none_of.result ≡ none_like c.args.part.now.rest = c.none_of.ensures ∙ sym (none_is c.args.table c.args.part.now.rest c.requires.rest) in
+    λ i. record { opened = whole i; rest = none i }
