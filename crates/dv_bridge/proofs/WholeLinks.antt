@@ -1,7 +1,7 @@
 -- A row that is looked up by its hash key and misses no reference.
-use Rattle.dv_bridge.proofs.Vocabulary.{◌≡◌, ◌∙◌, ◌++◌, ◌+◌, ◌<◌, ◌∷◌, ℕ, Bool, Bor, false, List, [], Option, Some, LinkRow, ap, bytes_eq, bytes_eq-Decides, filter, filter-append, filter_map, filter_map_more, found_member, get_or, length, link_row_by, list_any, made_of, map, map-append, option_map, option_to_list, refl, sym, take}
+use Rattle.dv_bridge.proofs.Vocabulary.{◌≡◌, ◌∙◌, ◌++◌, ◌+◌, ◌<◌, ◌∷◌, ℕ, Bool, false, List, [], Option, LinkRow, ap, filter, filter-append, filter_map, filter_map_more, get_or, length, list_any, map, map-append, option_to_list, refl, sym, take}
 use Rattle.dv_bridge.specs.BridgeRows.{first_row, is_whole}
-use Rattle.dv_bridge.specs.Joins.{row_of}
+use Rattle.std.specs.List.{cons_option}
 use Rattle.dv_bridge.specs.ZeroKeys.{is_zero}
 
 -- a loop's step
@@ -12,12 +12,18 @@ links_more h p f xs i x under is =
     ap (λ all. map f (filter p all)) (filter_map_more h xs i x under ∙ ap (λ y. filter_map h (take i xs) ++ option_to_list (h y)) (sym is))
     ∙ ap (map f) (filter-append p (filter_map h (take i xs)) (option_to_list (h x))) ∙ map-append f (filter p (filter_map h (take i xs))) (filter p (option_to_list (h x))))
 
--- the row that is found has the hash key, and the references that were found
-pub whole_row : (rows : List LinkRow) (digest : List ℕ) (found : Option (Bor (List (List ℕ)))) → option_map (λ (hubs : Bor (List (List ℕ))). hubs.now) found ≡ option_map (λ (row : LinkRow). row.hubs) (link_row_by rows digest)
-    → (hubs : Bor (List (List ℕ))) → found ≡ Some hubs → (read : List (List ℕ)) → read ≡ hubs.now → false ≡ list_any is_zero read
-    → map row_of (record { digest = digest; hubs = hubs } ∷ []) ≡ map first_row (filter is_whole (option_to_list (link_row_by rows digest)))
-whole_row rows digest found is hubs some read same none =
-    let (row, there, references) = made_of (λ (row : LinkRow). row.hubs) (link_row_by rows digest) hubs.now (sym is ∙ ap (option_map (λ (hubs : Bor (List (List ℕ))). hubs.now)) some) in
-    let keyed : row.digest ≡ digest = (bytes_eq-Decides row.digest digest).0 (found_member (λ (row : LinkRow). bytes_eq row.digest digest) rows row there).1 in
-    let whole : list_any is_zero hubs.now ≡ false = sym (none ∙ ap (list_any is_zero) same) in
-    rw (there, references, whole, keyed, references) refl
+-- a row that misses no reference is one of them
+pub whole_row : (row : LinkRow) (read : List (List ℕ)) → read ≡ row.hubs → false ≡ list_any is_zero read → first_row row ∷ [] ≡ map first_row (filter is_whole (row ∷ []))
+whole_row row read same none =
+    let whole : list_any is_zero row.hubs ≡ false = sym (none ∙ ap (list_any is_zero) same) in
+    rw whole refl
+
+-- what is told of things that are found in turn
+pub told_in_turn : {A P Y : Type 0} (f : A → Option Y) (F : P → Option Y) (found : List A) (asked : List P) → map f found ≡ map F asked → filter_map f found ≡ filter_map F asked
+told_in_turn f F [] [] e = refl
+told_in_turn f F [] (p ∷ asked) e = cc
+told_in_turn f F (a ∷ found) [] e = cc
+told_in_turn f F (a ∷ found) (p ∷ asked) e =
+    let here : f a ≡ F p = cc in
+    let there : map f found ≡ map F asked = cc in
+    λ i. cons_option (here i) (told_in_turn f F found asked there i)

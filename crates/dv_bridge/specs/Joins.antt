@@ -2,11 +2,17 @@
 use Rattle.std.specs.Prelude.{ℕ, List, [], ◌∷◌, ◌++◌, Option, Some, filter, map, slice_get}
 use Rattle.std.specs.List.{flat_map}
 use Rattle.std.specs.Option.{option_map}
+use Rattle.std.specs.Borrow.{Bor}
 use Rattle.std.specs.Str.{bytes_eq}
+use Rattle.dv_records.specs.declared.raw_rows.LinkRow.{LinkRow}
 use Rattle.dv_records.specs.declared.snapshots.BridgeRow.{BridgeRow}
 use Rattle.dv_bridge.specs.declared.keyed_links.KeyedLink.{KeyedLink}
 use Rattle.dv_bridge.specs.declared.whole_links.WholeLink.{WholeLink}
 use Rattle.dv_bridge.specs.BridgeRows.{is_same_key}
+
+-- the row of a link that is lent, if there is one
+abbrev pub told_row : Option (Bor LinkRow) → Option LinkRow
+told_row row = option_map (λ row. row.now) row
 
 -- the bridge row of a lent link alone
 abbrev pub row_of : WholeLink → BridgeRow

@@ -3,11 +3,11 @@ ghost use Rattle.std.specs.Prelude.{◌≡◌, ◌++◌, ◌∷◌, [], IfOk, On
 ghost use Rattle.std.specs.List.{filter_map, list_any};
 ghost use Rattle.std.specs.Option.{option_to_list};
 ghost use Rattle.dv_bridge.specs.BridgeRows.{first_row, is_whole, links_at};
-ghost use Rattle.dv_bridge.specs.Joins.{row_of};
+ghost use Rattle.dv_bridge.specs.Joins.{row_of, told_row};
 ghost use Rattle.dv_bridge.specs.ZeroKeys as spec;
-ghost use Rattle.dv_records.specs.ReadBack.{link_row_by};
 
 use dv_hub_link::LinkTable;
+use dv_records::LinkRow;
 use dv_text::{Digest, List, Memory, Stamp};
 use dv_track::StatusTable;
 use std::alloc::Global;
@@ -41,36 +41,29 @@ pub(crate) fn put<T: Drop>(items: &mut Vec<T>, item: T) -> Result<(), Memory>
     Ok(())
 }
 
-// Puts the row with a hash key at the end, if there is one and it misses no reference.
-fn put_link<'a>(
-    found: &mut Vec<WholeLink<'a>>,
-    links: &'a LinkTable,
-    digest: &Digest,
-) -> Result<(), Memory>
-    ensures { OnOk result (map row_of found.new.items ≡ map row_of found.old.items ++ map first_row (filter is_whole (option_to_list (link_row_by links.now.rows digest.now)))) }
+// Puts a row at the end, if there is one and it misses no reference.
+fn put_link<'a>(found: &mut Vec<WholeLink<'a>>, row: Option<&'a LinkRow>) -> Result<(), Memory>
+    ensures { OnOk result (map row_of found.new.items ≡ map row_of found.old.items ++ map first_row (filter is_whole (option_to_list (told_row row.entry)))) }
 {
-    let Some(hubs) = links.hubs(digest) else {
+    let Some(row) = row else {
         return Ok(());
     };
+    let hubs = &row.hubs;
     if has_zero(hubs.items()) {
         return Ok(());
     }
-    let digest = *digest;
+    let digest = row.digest;
     put(found, WholeLink { digest, hubs })?;
     Ok(())
 }
 
-// The rows with these hash keys that miss no reference.
-fn links_of<'a>(
-    alloc: Global,
-    links: &'a LinkTable,
-    digests: &[Digest],
-) -> Result<Vec<WholeLink<'a>>, Memory>
-    ensures { IfOk result (λ found. map row_of found.items ≡ map first_row (filter is_whole (filter_map (link_row_by links.now.rows) digests.now))) }
+// Those of some rows that miss no reference.
+fn links_of<'a>(alloc: Global, rows: &[Option<&'a LinkRow>]) -> Result<Vec<WholeLink<'a>>, Memory>
+    ensures { IfOk result (λ found. map row_of found.items ≡ map first_row (filter is_whole (filter_map told_row rows.now))) }
 {
-    let mut found = Vec::with_capacity(alloc, digests.len())?;
-    for digest in digests {
-        put_link(&mut found, links, digest)?;
+    let mut found = Vec::with_capacity(alloc, rows.len())?;
+    for row in rows {
+        put_link(&mut found, *row)?;
     }
     Ok(found)
 }
@@ -85,6 +78,7 @@ pub(crate) fn whole_links<'a>(
     ensures { IfOk result (λ found. map row_of found.items ≡ map first_row (links_at links.now.rows status.now.rows date)) }
 {
     let present = status.parents(date)?;
-    let found = links_of(alloc, links, present.items())?;
+    let rows = links.rows_of(present.items())?;
+    let found = links_of(alloc, &rows)?;
     Ok(found)
 }

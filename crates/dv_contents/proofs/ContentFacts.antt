@@ -5,11 +5,14 @@ use Rattle.dv_contents.proofs.Vocabulary.{HubRow, LinkRow, SatRow, StatusRow, Ta
 use Rattle.dv_contents.proofs.Vocabulary.{refs_read, row_read, sat_rows, sat_rows_in, status_rows_in, valid_at, HasSealed, RawVault, has_table, is_parent}
 use Rattle.dv_contents.proofs.Vocabulary.{flat_map, flat_map_more, is_valid, map, take_more}
 use Rattle.dv_text.specs.Orders.{row_cmp}
+use Rattle.dv_contents.proofs.Vocabulary.{replicate}
+use Rattle.std.proofs.lemmas.Simd.{map-map}
+use Rattle.std.specs.List.{cons_option, zip}
 use Rattle.dv_contents.proofs.Vocabulary.{get_or-map-range_with_len, length-map-range_with_len, map-range_with_len_more, range_with_len}
 use Rattle.dv_records.specs.ReadBack.{any_content_read, any_content_read_by, missing_key, multi_content_read, multi_content_read_by, rows_read}
 use Rattle.dv_records.specs.Reconstruction.{described_row}
 use Rattle.dv_records.proofs.MultiReadBack.{vault_tells}
-use Rattle.dv_contents.specs.Contents.{missing_keys, parents_read}
+use Rattle.dv_contents.specs.Contents.{key_refs, key_row, list_refs, list_row, missing_keys, parents_read, plain_row, valid_attrs}
 use Rattle.dv_catalog.specs.declared.tables.TableId.TheVariants as ids
 use Rattle.dv_vault.proofs.VaultFacts.{absent_rows, seen-twice}
 
@@ -75,6 +78,70 @@ refs_of_link mapping tables parent link digest rows found digests hubs pointed r
     ∙ sym (made_through (keys_read mapping tables (parent_hubs mapping (Link link))) (λ (row : LinkRow). row.hubs) (λ (digests : Bor (List (List ℕ))). digests.now) (link_row_by rows digest) found found_is)
     ∙ ap (λ (rows : List LinkRow). option_map (λ (row : LinkRow). keys_read mapping tables (parent_hubs mapping (Link link)) row.hubs) (link_row_by rows digest)) rows_are
     ∙ ap (λ p. refs_read mapping tables p digest) (sym parent_is)
+
+-- what is made of what is told of each parent
+pub each_told : {P A X Y : Type 0} (g : X → Y) (h : A → X) (F : P → Option X) (found : List (Option A)) (parents : List P) → map (option_map h) found ≡ map F parents
+    → map (option_map (λ a. g (h a))) found ≡ map (λ p. option_map g (F p)) parents
+each_told g h F found parents e =
+    (λ i. map (λ o. seen-twice h g o i) found) ∙ sym (map-map (option_map g) (option_map h) found) ∙ ap (map (option_map g)) e ∙ map-map (option_map g) F parents
+
+pub each_told_or : {P A X Y : Type 0} (g : X → Y) (h : A → X) (d : Y) (F : P → Option X) (found : List (Option A)) (parents : List P) → map (option_map h) found ≡ map F parents
+    → map (λ o. option_map_or (λ a. g (h a)) o d) found ≡ map (λ p. option_map_or g (F p) d) parents
+each_told_or g h d F found parents e =
+    (λ i. map (λ o. or_twice g h o d i) found) ∙ sym (map-map (λ o. option_map_or g o d) (option_map h) found) ∙ ap (map (λ o. option_map_or g o d)) e ∙ map-map (λ o. option_map_or g o d) F parents
+
+-- of each parent is told what is told of nothing
+pub none_told : {P A X : Type 0} (f : A → X) (none : A) (G : P → X) (parents : List P) → ((p : P) → G p ≡ f none) → map f (replicate (length parents) none) ≡ map G parents
+none_told f none G [] same = refl
+none_told f none G (p ∷ parents) same = λ i. sym (same p) i ∷ none_told f none G parents same i
+
+-- what is made of two things that are told of each parent
+pub told_beside : {P A B X Y Z : Type 0} (make : Y → X → Z) (f : A → Option X) (g : B → Y) (F : P → Option X) (G : P → Y) (parents : List P) (found : List A) (valid : List B)
+    → map f found ≡ map F parents → map g valid ≡ map G parents
+    → filter_map (λ (row, one). option_map (make (g one)) (f row)) (zip found valid) ≡ filter_map (λ p. option_map (make (G p)) (F p)) parents
+told_beside make f g F G [] [] valid e h = refl
+told_beside make f g F G [] (a ∷ found) valid e h = cc
+told_beside make f g F G (p ∷ parents) [] valid e h = cc
+told_beside make f g F G (p ∷ parents) (a ∷ found) [] e h = cc
+told_beside make f g F G (p ∷ parents) (a ∷ found) (b ∷ valid) e h =
+    let here : f a ≡ F p = cc in
+    let there : g b ≡ G p = cc in
+    let found_rest : map f found ≡ map F parents = cc in
+    let valid_rest : map g valid ≡ map G parents = cc in
+    λ i. cons_option (option_map (make (there i)) (here i)) (told_beside make f g F G parents found valid found_rest valid_rest i)
+
+-- the attributes of a parent, where the feed has none
+pub no_attrs : (tables : List TableRows) (definition : FeedDef) (feed date : ℕ) (digest : List ℕ) → (length definition.attrs == 0) ≡ true → attrs_read tables definition feed digest date ≡ []
+no_attrs tables definition feed date digest none = rw none refl
+
+-- and where it has some
+pub some_attrs : (tables : List TableRows) (definition : FeedDef) (feed date : ℕ) (rows : List SatRow) (digest : List ℕ) → (length definition.attrs == 0) ≡ false → rows ≡ sat_rows_in feed tables
+    → option_map_or (λ (row : SatRow). row.attrs) (valid_at rows digest date) [] ≡ attrs_read tables definition feed digest date
+some_attrs tables definition feed date rows digest some rows_are = rw some (ap (λ (rows : List SatRow). option_map_or (λ (row : SatRow). row.attrs) (valid_at rows digest date) []) rows_are)
+
+-- the rows of parents by the rows of a hub or a link and of a satellite that were found
+module _ (mapping : Mapping) (tables : List TableRows) (definition : FeedDef) (feed date : ℕ) (parents : List (List ℕ)) (valid : List (Option (Bor SatRow)))
+    (valid_are : map valid_attrs valid ≡ map (λ parent. attrs_read tables definition feed parent date) parents) where
+  pub key_rows_read : (hub : ℕ) (rows : List HubRow) (found : List (Option (Bor HubRow))) → definition.parent ≡ Hub hub → rows ≡ hub_rows_in hub tables
+      → map (option_map (λ row. row.now)) found ≡ map (λ digest. hub_row_by rows digest) parents
+      → filter_map (λ (row, valid). key_row row valid) (zip found valid) ≡ filter_map (row_read mapping tables definition feed date) parents
+  key_rows_read hub rows found parent_is rows_are found_is =
+      told_beside plain_row key_refs valid_attrs (refs_read mapping tables definition.parent) (λ parent. attrs_read tables definition feed parent date) parents found valid
+      (each_told (λ (row : HubRow). row.key ∷ []) (λ (row : Bor HubRow). row.now) (hub_row_by rows) found parents found_is
+      ∙ ap (λ (rows : List HubRow). map (λ parent. option_map (λ (row : HubRow). row.key ∷ []) (hub_row_by rows parent)) parents) rows_are
+      ∙ ap (λ p. map (refs_read mapping tables p) parents) (sym parent_is))
+      valid_are
+
+  pub list_rows_read : (link : ℕ) (hubs : List ℕ) (rows : List LinkRow) (found : List (Option (Bor LinkRow))) → definition.parent ≡ Link link → rows ≡ link_rows_in link tables
+      → hubs ≡ parent_hubs mapping (Link link) → map (option_map (λ row. row.now)) found ≡ map (λ digest. link_row_by rows digest) parents
+      → filter_map (λ (row, valid). list_row mapping tables hubs row valid) (zip found valid) ≡ filter_map (row_read mapping tables definition feed date) parents
+  list_rows_read link hubs rows found parent_is rows_are hubs_are found_is =
+      told_beside plain_row (list_refs mapping tables hubs) valid_attrs (refs_read mapping tables definition.parent) (λ parent. attrs_read tables definition feed parent date) parents found valid
+      (each_told (λ (row : LinkRow). keys_read mapping tables hubs row.hubs) (λ (row : Bor LinkRow). row.now) (link_row_by rows) found parents found_is
+      ∙ ap (λ (rows : List LinkRow). map (λ parent. option_map (λ (row : LinkRow). keys_read mapping tables hubs row.hubs) (link_row_by rows parent)) parents) rows_are
+      ∙ ap (λ hubs. map (λ parent. option_map (λ (row : LinkRow). keys_read mapping tables hubs row.hubs) (link_row_by (link_rows_in link tables) parent)) parents) hubs_are
+      ∙ ap (λ p. map (refs_read mapping tables p) parents) (sym parent_is))
+      valid_are
 
 -- the rows of one parent more
 pub rows_more : {X Y : Type 0} (h : X → Option Y) (xs : List X) (i : ℕ) (x : X) (made more : List Y) (row : Option Y) → i < length xs → x ≡ get_or xs i x

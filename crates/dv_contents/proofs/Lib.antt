@@ -1,5 +1,6 @@
 pub mod ContentFacts
 pub mod ContentRows
+pub mod FirstNumbers
 pub mod PeriodFacts
 pub mod SealedContents
 pub mod Vocabulary

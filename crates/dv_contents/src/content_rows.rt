@@ -3,9 +3,10 @@ ghost use Rattle.std.specs.Prelude.{◌≡◌, IfOk, map};
 ghost use Rattle.std.specs.Cmp.Lexicographic.{slice_cmp};
 ghost use Rattle.std.specs.Ordering.{ordering_then};
 ghost use Rattle.dv_text.specs.Orders.{refs_cmp, text_cmp};
+ghost use Rattle.dv_text.specs.Prefixes.{row_prefix};
 
 use dv_records::Ranked;
-use dv_text::{Duplicate, Key, List, Memory, NRow, Text};
+use dv_text::{Duplicate, Key, List, Memory, NRow, Prefixed, Text};
 use std::alloc::Global;
 use std::cmp::Ordering;
 use std::marker::Model;
@@ -25,6 +26,17 @@ impl<'a> Model for ContentRow<'a> {
     ghost Value = { NRow };
 
     ghost view = { λ row. record { refs = map (λ key. key.now) row.refs; sub = row.sub.now; attrs = row.attrs.now } };
+}
+
+/// The same keys, lent once more.
+pub(crate) fn lent_again<'a>(keys: &List<&'a Key>) -> Result<List<&'a Key>, Memory>
+    ensures { IfOk result (λ made. made ≡ keys.now) }
+{
+    let mut made = List::with_room(keys.allocator(), keys.items().len())?;
+    for key in keys.items() {
+        made.push(*key)?;
+    }
+    Ok(made)
 }
 
 /// Copies of keys.
@@ -69,6 +81,29 @@ impl<'a> ContentRow<'a> {
         ensures { result.now ≡ self.now.attrs }
     {
         self.attrs
+    }
+
+    /// The number of the first sixteen bytes of the first key: where those of two rows differ, the rows compare as
+    /// they do. Takes no memory.
+    pub(crate) fn prefix(&self) -> u128
+        ensures { result ≡ row_prefix self.now }
+    {
+        match self.refs.items().first() {
+            Some(key) => key.prefix(),
+            None => 0,
+        }
+    }
+
+    /// The same row, lent once more.
+    pub(crate) fn lent(&self) -> Result<ContentRow<'a>, Memory>
+        ensures { IfOk result (λ row. row ≡ self.now) }
+    {
+        let refs = lent_again(&self.refs)?;
+        Ok(ContentRow {
+            refs,
+            sub: self.sub,
+            attrs: self.attrs,
+        })
     }
 
     // The order by references.

@@ -78,8 +78,8 @@ impl<'a> Lender<'a> {
         vault.catalog().feed(feed)
     }
 
-    // The hubs of a link, which are in the mapping.
-    fn link_hubs(&self, link: u32) -> &'a [u32]
+    /// The hubs of a link, which are in the mapping. Takes no memory.
+    pub(crate) fn link_hubs(&self, link: u32) -> &'a [u32]
         requires { link < length self.now.vault.now.mapping.links }
         ensures value { result.now ≡ parent_hubs self.now.vault.now.mapping (Parent.Link link) }
         ensures declared { IsTrue (list_all (λ hub. nat_lt hub (length self.now.vault.now.mapping.hubs)) result.now) }
@@ -109,8 +109,8 @@ impl<'a> Lender<'a> {
         }
     }
 
-    // The keys of a link's hubs with the hash keys of a link row.
-    fn keys(&self, hubs: &[u32], digests: &[Digest]) -> Result<List<&'a Key>, Memory>
+    /// The keys of a link's hubs with the hash keys of a link row.
+    pub(crate) fn keys(&self, hubs: &[u32], digests: &[Digest]) -> Result<List<&'a Key>, Memory>
         requires { IsTrue (list_all (λ hub. nat_lt hub (length self.now.vault.now.mapping.hubs)) hubs.now) }
         ensures { IfOk result (λ keys. map (λ key. key.now) keys ≡ spec.keys_read self.now.vault.now.mapping self.now.vault.now.tables hubs.now digests.now) }
     {

@@ -4,6 +4,7 @@
 mod content_rows;
 mod contents;
 mod feed_periods;
+mod fronts;
 mod lenders;
 mod multi_contents;
 

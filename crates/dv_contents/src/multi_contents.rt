@@ -6,21 +6,10 @@ ghost use Rattle.dv_catalog.specs.declared.entries.FeedDef.{FeedDef};
 ghost use Rattle.dv_records.specs.ReadBack as spec;
 ghost use Rattle.dv_records.specs.Reconstruction.{described_row};
 
-use crate::content_rows::ContentRow;
+use crate::content_rows::{ContentRow, lent_again};
 use crate::lenders::Lender;
 use dv_records::MultiRow;
 use dv_text::{Digest, Key, List, Memory, Stamp};
-
-// The same keys, lent once more.
-fn lent_again<'a>(keys: &List<&'a Key>) -> Result<List<&'a Key>, Memory>
-    ensures { IfOk result (λ made. made ≡ keys.now) }
-{
-    let mut made = List::with_room(keys.allocator(), keys.items().len())?;
-    for key in keys.items() {
-        made.push(*key)?;
-    }
-    Ok(made)
-}
 
 // The row of a reference list with a satellite row's sub and attributes.
 fn described<'a>(refs: &List<&'a Key>, row: &'a MultiRow) -> Result<ContentRow<'a>, Memory>

@@ -16,14 +16,9 @@ use Rattle.dv_records.specs.ReadBack.{any_content_read, any_content_read_by, con
 use Rattle.std.specs.List.{filter_map, flat_map}
 use Rattle.dv_mart.specs.declared.hub_contents.FeedRows.{FeedRows}
 use Rattle.dv_print.specs.declared.hub_feeds.HubFeed.{HubFeed}
-use Rattle.std.specs.Option.{is_some}
-use Rattle.std.specs.Prelude.{filter, find, option_map}
 use Rattle.dv_text.specs.declared.rows.Key.{Key}
-use Rattle.dv_text.specs.Keys.{refs_eq}
-use Rattle.dv_text.proofs.Passing.{find-filter}
-use Rattle.dv_hub_link.proofs.Placed.{some_found}
-use Rattle.dv_records.specs.Marts.{attrs_or_blanks, hub_cell, hub_feeds, hub_rows}
-use Rattle.dv_mart.specs.HubContents.{cell_of, keys_of, row_of, told_rows}
+use Rattle.dv_records.specs.Marts.{hub_cell, hub_feeds, hub_rows}
+use Rattle.dv_mart.specs.HubContents.{cell_of, keys_of, row_of, rows_of, told_rows}
 use Rattle.dv_print.specs.HubFeeds.{told}
 use Rattle.std.proofs.lemmas.Simd.{map-map}
 
@@ -63,27 +58,6 @@ contents_grow read feeds i item contents one at is so_far feed_is rows_are =
     more : take (i + 1) feeds ≡ take i feeds ++ item ∷ []
     more = take_more feeds i item at ∙ ap (λ x. take i feeds ++ x ∷ []) (sym is)
 
--- whether there is an item, whatever is told of it
-pub some_told : {A B : Type 0} (f : A → B) (item : Option A) → is_some item ≡ is_some (option_map f item)
-some_told f None = refl
-some_told f (Some x) = refl
-
--- the cell of a key: its row is the first of those that have it, if there is one
-pub cell_is : (one : FeedRows) (key : Key) (run : List NRow) (row : Option NRow) (present : Bool) (attrs : List (List ℕ)) → run ≡ filter (λ (row : NRow). refs_eq row.refs (key ∷ [])) one.rows
-    → row ≡ slice_get run 0 → present ≡ is_some row → attrs ≡ (if length one.feed.definition.now.sub == 0 then attrs_or_blanks (length one.feed.definition.now.attrs) row else [])
-    → record { present = present; attrs = attrs } ≡ cell_of key one
-cell_is one key run row present attrs run_is row_is present_is attrs_is =
-    λ i. record {
-      present = (present_is ∙ ap is_some found ∙ some_found has one.rows) i;
-      attrs = (attrs_is ∙ ap (λ row. if length one.feed.definition.now.sub == 0 then attrs_or_blanks (length one.feed.definition.now.attrs) row else []) found) i;
-    }
-  where
-    has : NRow → Bool
-    has row = refs_eq row.refs (key ∷ [])
-
-    found : row ≡ find has one.rows
-    found = row_is ∙ ap (λ (rows : List NRow). slice_get rows 0) run_is ∙ sym (find-filter has one.rows)
-
 -- ---- the mart by the contents
 
 module _ (mapping : Mapping) (read : ℕ → List NRow) (hub : ℕ) (feeds : List HubFeed) (contents : List FeedRows) (feeds_are : map told feeds ≡ hub_feeds mapping hub)
@@ -111,7 +85,7 @@ module _ (mapping : Mapping) (read : ℕ → List NRow) (hub : ℕ) (feeds : Lis
       let rest = rows_are keys in
       λ i. record { key = key; cells = cells i } ∷ rest i
 
-  pub mart_is : (keys sorted : List Key) → keys ≡ keys_of contents → sorted ≡ sorted_by key_cmp keys → map (row_of contents) sorted ≡ hub_rows mapping read hub
-  mart_is keys sorted keys_same sorted_is =
-      rows_are sorted
-      ∙ ap (map (λ key. record { key = key; cells = map (hub_cell read key) (hub_feeds mapping hub) })) (sorted_is ∙ ap (sorted_by key_cmp) (keys_same ∙ keys_are))
+  pub mart_is : rows_of contents ≡ hub_rows mapping read hub
+  mart_is =
+      rows_are (sorted_by key_cmp (keys_of contents))
+      ∙ ap (λ keys. map (λ key. record { key = key; cells = map (hub_cell read key) (hub_feeds mapping hub) }) (sorted_by key_cmp keys)) keys_are

@@ -1,5 +1,8 @@
 pub mod DrivenFeeds
+pub mod HubColumns
 pub mod HubContents
+pub mod HubRows
+pub mod KeyFronts
 pub mod NoNames
 pub mod OfferedMarts
 pub mod OfferedTables

@@ -1,4 +1,5 @@
 pub mod HubContents
+pub mod KeyOrder
 pub mod MartTexts
 pub mod OfferedMarts
 pub mod PathTables

@@ -1,37 +1,47 @@
 //! Hub marts over the sealed windows of a vault.
 
-ghost use Rattle.std.specs.Prelude.{◌≡◌, ◌<◌, List as list_of, length, map, IfOk};
+ghost use Rattle.std.specs.Prelude.{◌≡◌, ◌<◌, ◌∷◌, List as list_of, length, map, IfOk};
 ghost use Rattle.dv_text.specs.declared.rows.Window.{Window};
 ghost use Rattle.dv_text.specs.Keys.{Hashes};
 ghost use Rattle.dv_records.specs.Marts as marts;
 ghost use Rattle.dv_records.specs.ReadBack.{any_content_read};
 ghost use Rattle.dv_vault.specs.Vaults.{HasSealed};
 ghost use Rattle.dv_mart.specs.HubContents as spec;
+ghost use Rattle.dv_print.specs.Texts as texts;
+ghost use Rattle.dv_print.specs.Texts.{csv_text, hub_record};
 
-use crate::hub_contents::{FeedRows, cells_of, contents_of, keys_of};
+use crate::hub_columns::columns_of;
+use crate::hub_contents::{FeedRows, contents_of, keys_of};
+use crate::hub_rows::{copied_rows, lent_rows, lent_text};
 use dv_contents::missing_keys;
-use dv_print::feeds_of;
+use dv_print::{Fields, feeds_of, hub_header};
 use dv_records::HubMartRow;
-use dv_text::{Duplicate, Key, List, Memory, Stamp, sorted_list};
+use dv_text::{List, Memory, Stamp, Text};
 use dv_vault::Vault;
 use std::alloc::Global;
 
-// A row for each key, with a cell for each feed.
-fn rows_of(
-    alloc: Global,
-    contents: &[FeedRows<'_>],
-    keys: &[Key],
-) -> Result<List<HubMartRow>, Memory>
+// The rows of contents, with copies of what these lend.
+fn rows_of(alloc: Global, contents: &[FeedRows<'_>]) -> Result<List<HubMartRow>, Memory>
     requires { spec.AreInOrder contents.now }
-    ensures { IfOk result (λ rows. rows ≡ map (spec.row_of contents.now) keys.now) }
+    ensures { IfOk result (λ rows. rows ≡ spec.rows_of contents.now) }
 {
-    let mut rows = List::with_room(alloc, keys.len())?;
-    for key in keys {
-        let cells = cells_of(alloc, contents, key)?;
-        let key = key.copy()?;
-        rows.push(HubMartRow { key, cells })?;
-    }
-    Ok(rows)
+    let keys = keys_of(alloc, contents)?;
+    let columns = columns_of(alloc, contents, keys.items())?;
+    let rows = lent_rows(alloc, keys.items(), columns.as_slice())?;
+    let made = copied_rows(alloc, rows.as_slice())?;
+    Ok(made)
+}
+
+// The text of a header and of the rows of contents, which are lent.
+fn text_of(alloc: Global, header: Fields, contents: &[FeedRows<'_>]) -> Result<Text, Memory>
+    requires { spec.AreInOrder contents.now }
+    ensures { IfOk result (λ text. text ≡ csv_text (header ∷ map hub_record (spec.rows_of contents.now))) }
+{
+    let keys = keys_of(alloc, contents)?;
+    let columns = columns_of(alloc, contents, keys.items())?;
+    let rows = lent_rows(alloc, keys.items(), columns.as_slice())?;
+    let text = lent_text(alloc, header, rows.as_slice())?;
+    Ok(text)
 }
 
 /// A row for each key in the content of at least one feed of the hub at a date, by key, with a cell for each feed
@@ -52,6 +62,24 @@ pub fn hub_mart(
     let feeds = feeds_of(alloc, catalog, hub)?;
     let missing = missing_keys(vault)?;
     let contents = contents_of(alloc, vault, missing.items(), feeds.as_slice(), date)?;
-    let keys = sorted_list(keys_of(alloc, contents.as_slice())?);
-    rows_of(alloc, contents.as_slice(), keys.items())
+    rows_of(alloc, contents.as_slice())
+}
+
+/// The text of a hub's mart at a date, written of rows that are lent. Condition: the mapping has the hub.
+pub(crate) fn hub_mart_text(
+    alloc: Global,
+    vault: &Vault,
+    hub: u32,
+    date: Stamp,
+) -> Result<Text, Memory>
+    requires { hub < length vault.now.mapping.hubs }
+    ensures { IfOk result (λ text. (hashes : Hashes) (sealed : list_of Window) → HasSealed hashes sealed vault.now → text ≡ texts.hub_text vault.now.mapping hub (marts.hub_mart vault.now.mapping sealed hub date)) }
+{
+    let catalog = vault.catalog();
+    catalog.note_valid();
+    let feeds = feeds_of(alloc, catalog, hub)?;
+    let missing = missing_keys(vault)?;
+    let contents = contents_of(alloc, vault, missing.items(), feeds.as_slice(), date)?;
+    let header = hub_header(alloc, catalog, hub)?;
+    text_of(alloc, header, contents.as_slice())
 }

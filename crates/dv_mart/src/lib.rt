@@ -3,8 +3,11 @@
 #![tactic(auto)]
 
 mod bridges;
+mod hub_columns;
 mod hub_contents;
 mod hub_marts;
+mod hub_rows;
+mod lent_keys;
 mod lent_texts;
 mod mart_faults;
 mod marts;

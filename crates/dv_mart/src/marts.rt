@@ -14,7 +14,7 @@ ghost use Rattle.dv_mart.specs.declared.query_rules.QueryRule.TheVariants as rul
 ghost use Rattle.dv_mart.specs.OfferedMarts.{IsOffered};
 
 use crate::bridges::bridge_rows;
-use crate::hub_marts::hub_mart;
+use crate::hub_marts::hub_mart_text;
 use crate::lent_texts::lent_feed_text;
 use crate::mart_faults::MartFault;
 use crate::path_marts::path_mart;
@@ -23,7 +23,7 @@ use crate::vault_tables::table_text;
 use crate::whats::What;
 use dv_catalog::TableId;
 use dv_contents::{content, lent_content, missing_keys, periods};
-use dv_print::{bridge_text, hub_text, path_text, period_text, pit_text};
+use dv_print::{bridge_text, path_text, period_text, pit_text};
 use dv_records::PeriodRow;
 use dv_text::{List, Memory, NRow, Stamp, Text};
 use dv_vault::Vault;
@@ -65,15 +65,6 @@ fn period_mart_text(alloc: Global, vault: &Vault, feed: u32, date: Stamp) -> Res
 {
     let rows = period_mart(vault, feed, date)?;
     period_text(alloc, vault.catalog().feed(feed), rows.items())
-}
-
-// The text of a hub's mart.
-fn hub_mart_text(alloc: Global, vault: &Vault, hub: u32, date: Stamp) -> Result<Text, Memory>
-    requires { hub < length vault.now.mapping.hubs }
-    ensures { IfOk result (λ text. (hashes : Hashes) (sealed : list_of Window) → HasSealed hashes sealed vault.now → text ≡ texts.hub_text vault.now.mapping hub (marts.hub_mart vault.now.mapping sealed hub date)) }
-{
-    let rows = hub_mart(alloc, vault, hub, date)?;
-    hub_text(alloc, vault.catalog(), hub, rows.items())
 }
 
 // The text of a hub's point-in-time table.

@@ -1,9 +1,12 @@
 //! Path marts over the sealed windows of a vault.
 
 ghost use Rattle.std.specs.Prelude.{◌≡◌, ◌<◌, false, IfOk, IsErrOf, IsTrue, List as list_of, length, map, nat_lt, true};
+ghost use Rattle.std.specs.Cmp.Lexicographic.{slice_cmp};
 ghost use Rattle.std.specs.List.{list_all};
 ghost use Rattle.dv_text.specs.declared.rows.Window.{Window};
 ghost use Rattle.dv_text.specs.Keys.{Hashes};
+ghost use Rattle.dv_text.specs.Orders.{refs_cmp};
+ghost use Rattle.dv_text.specs.Sorting.{sorted_by};
 ghost use Rattle.dv_records.specs.Marts as marts;
 ghost use Rattle.dv_records.specs.ReadBack.{key_read, keys_read};
 ghost use Rattle.dv_contents.specs.Contents as contents;
@@ -17,7 +20,7 @@ use crate::mart_faults::MartFault;
 use dv_contents::missing_keys;
 use dv_print::feed_hubs;
 use dv_records::{BridgeRow, PathRow};
-use dv_text::{Digest, Duplicate, Key, List, Memory, Stamp, sorted_list};
+use dv_text::{Digest, Duplicate, Key, List, Memory, Stamp, sorted_by_prefix};
 use dv_vault::Vault;
 use std::alloc::Global;
 
@@ -91,6 +94,15 @@ fn all_steps(
     Ok(all)
 }
 
+// The lists in order, each once. Most are told apart by the first bytes of their first key.
+fn sorted_steps(all: List<List<List<Key>>>) -> Result<List<List<List<Key>>>, Memory>
+    ensures { IfOk result (λ sorted. sorted ≡ sorted_by (slice_cmp refs_cmp) all) }
+{
+    let items = all.into_vec()?;
+    let sorted = sorted_by_prefix(items)?;
+    Ok(sorted)
+}
+
 // A row for each of some lists of reference lists.
 fn rows_of(alloc: Global, all: List<List<List<Key>>>) -> Result<List<PathRow>, Memory>
     ensures { IfOk result (λ made. made ≡ map path_row all) }
@@ -118,6 +130,6 @@ pub fn path_mart(
 {
     let bridge = bridge_rows(alloc, vault, path, date)?;
     let feeds = vault.catalog().path(path).feeds.items();
-    let all = sorted_list(all_steps(alloc, vault, feeds, bridge.items())?);
+    let all = sorted_steps(all_steps(alloc, vault, feeds, bridge.items())?)?;
     Ok(rows_of(alloc, all)?)
 }

@@ -1,8 +1,8 @@
-ghost use Rattle.std.specs.Prelude.{◌≡◌, [], ◌∷◌, ◌++◌, flat_map, map, OnOk};
+ghost use Rattle.std.specs.Prelude.{◌≡◌, [], ◌∷◌, ◌++◌, flat_map, map, replicate, OnOk};
 ghost use Rattle.csv.specs.Records.{fields_of};
 ghost use Rattle.hex.specs.Hex.{encode_lower};
 ghost use Rattle.dv_text.specs.Stamps.{stamp_text};
-ghost use Rattle.dv_print.specs.Texts.{all_parts};
+ghost use Rattle.dv_print.specs.Texts.{all_parts, yes_or_no};
 
 use csv::ByteRecord;
 use dv_text::{Digest, Key, List, Memory, Stamp, Text};
@@ -45,7 +45,7 @@ impl Fields {
     }
 
     /// Takes every field away, and keeps the memory.
-    pub(crate) fn clear(&mut self)
+    pub fn clear(&mut self)
         ensures { self.new ≡ [] }
     {
         self.record.clear();
@@ -71,6 +71,23 @@ impl Fields {
             self.push(text.bytes())?;
         }
         Ok(())
+    }
+
+    /// Puts so many blank fields at the end.
+    pub fn push_blanks(&mut self, count: usize) -> Result<(), Memory>
+        ensures { OnOk result (self.new ≡ self.old ++ replicate count []) }
+    {
+        for _ in 0..count {
+            self.push(b"")?;
+        }
+        Ok(())
+    }
+
+    /// Puts `Y` or `N` at the end.
+    pub fn push_yes_or_no(&mut self, yes: bool) -> Result<(), Memory>
+        ensures { OnOk result (self.new ≡ self.old ++ yes_or_no yes ∷ []) }
+    {
+        self.push(if yes { b"Y" } else { b"N" })
     }
 
     /// Puts the columns of keys at the end.

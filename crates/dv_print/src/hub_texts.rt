@@ -19,7 +19,7 @@ fn push_cells(fields: &mut Fields, cells: &[HubCell]) -> Result<(), Memory>
     ensures { OnOk result (fields.new ≡ fields.old ++ flat_map (λ cell. spec.yes_or_no cell.present ∷ cell.attrs) cells.now) }
 {
     for cell in cells {
-        fields.push(if cell.present { b"Y" } else { b"N" })?;
+        fields.push_yes_or_no(cell.present)?;
         fields.push_texts(cell.attrs.items())?;
     }
     Ok(())
@@ -65,7 +65,8 @@ fn push_feeds(alloc: Global, header: &mut Fields, feeds: &[HubFeed<'_>]) -> Resu
     Ok(())
 }
 
-fn hub_header(alloc: Global, catalog: &Catalog, hub: u32) -> Result<Fields, Memory>
+/// The header of the text of a hub's mart. Condition: the hub is in the mapping.
+pub fn hub_header(alloc: Global, catalog: &Catalog, hub: u32) -> Result<Fields, Memory>
     requires { hub < length catalog.now.hubs }
     ensures { IfOk result (λ header. header ≡ spec.hub_header catalog.now hub) }
 {

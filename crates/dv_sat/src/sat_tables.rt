@@ -120,8 +120,9 @@ impl SatTable {
         self.indexed.latest(parent, last.load)
     }
 
-    // Of each of these parents the row that is valid for it at a date, in their order.
-    fn each_at(&self, parents: &[Digest], date: Stamp) -> Result<Vec<Option<&SatRow>>, Memory>
+    /// Of each of these parents the row that is valid for it at a date, in their order; none where there is no such
+    /// row. One walk over the index.
+    pub fn each_at(&self, parents: &[Digest], date: Stamp) -> Result<Vec<Option<&SatRow>>, Memory>
         ensures { IfOk result (λ found. map (option_map (λ row. row.now)) found.items ≡ map (λ parent. valid_at self.now.rows parent date) parents.now) }
     {
         self.indexed.latest_of(parents, date)

@@ -1,4 +1,5 @@
-use Rattle.dv_contents.proofs.Vocabulary.{◌≡◌, ◌<◌, ◌∙◌, true, Some, length, subst, sym, got_from, slice_get, is_valid, FeedDef, RawVault}
+use Rattle.dv_contents.proofs.Vocabulary.{◌≡◌, ◌<◌, ◌∙◌, true, Some, ap, length, sorted_by, subst, sym, got_from, slice_get, is_valid, FeedDef, RawVault}
+use Rattle.dv_text.specs.Orders.{row_cmp}
 use Rattle.dv_contents.specs.Contents.{parents_read}
 use Rattle.dv_contents.proofs.ContentFacts.{content_by, mart_read}
 use Rattle.dv_contents.proofs.contents.lent_content.Goals as goal
@@ -13,6 +14,7 @@ returns-clause-read c =
     let rows_are = subst (λ (vault : RawVault). (definition : FeedDef) → slice_get vault.mapping.feeds c.args.feed ≡ Some definition → c.in_ok-rows.rows.items ≡ parents_read vault.mapping vault.tables definition c.args.feed c.args.date c.items.result.now)
     c.new-lender.ensures (c.in_ok-rows.ensures {u = tt}) in
     (c.in_ok-rows-2.ensures {u = tt})
+    ∙ ap (sorted_by row_cmp) c.deref.ensures.value
     ∙ content_by vault.mapping vault.tables c.args.feed c.args.date definition c.in_ok-rows.rows.items c.items.result.now c.status.result.now.rows got c.status.ensures
     (c.items.ensures ∙ c.in_ok-parents.ensures {u = tt}) (rows_are definition got)
 

@@ -1,0 +1,15 @@
+use Rattle.dv_contents.proofs.Vocabulary.{◌≡◌, inl, inr, [], ◌++◌, sym, ◌∙◌, ap, append-nil, filter_map}
+use Rattle.std.specs.List.{zip}
+use Rattle.dv_hub_link.proofs.Keys.{zip_ended}
+use Rattle.dv_contents.specs.Contents.{list_row}
+use Rattle.dv_contents.proofs.contents.list_rows.Goals as goal
+
+pub returns : goal.returns
+returns c =
+    let ended : zip c.loop-row.row-iterator.a.rest.now c.loop-row.row-iterator.b.rest.now ≡ [] = elim c.in-None.ensures.steps [
+      | inl (x, both) ↦ zip_ended _ _ (inl both.0)
+      | inr (x, both) ↦ zip_ended _ _ (inr both.0)
+    ] in
+    sym (append-nil c.loop-row.rows.items)
+    ∙ ap (λ pairs. c.loop-row.rows.items ++ filter_map (λ (row, valid). list_row c.args.lender.now.vault.now.mapping c.args.lender.now.vault.now.tables c.args.hubs.now row valid) pairs) (sym ended)
+    ∙ c.loop-row.invariant

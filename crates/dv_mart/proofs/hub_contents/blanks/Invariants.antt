@@ -1,5 +1,0 @@
-use Rattle.std.specs.Prelude.{◌≡◌, ◌≤◌, [], replicate}
-use Rattle.dv_mart.proofs.hub_contents.blanks.Given as goal
-
-abbrev pub invariant-loop : goal.invariant-loop
-invariant-loop l = (l.made ≡ replicate l.counter []) × (l.counter ≤ l.count)

@@ -1,6 +1,0 @@
-use Rattle.dv_mart.proofs.Vocabulary.{◌≡◌, take}
-use Rattle.dv_mart.specs.HubContents.{keys_of}
-use Rattle.dv_mart.proofs.hub_contents.keys_of.Given as goal
-
-abbrev pub invariant-loop-one : goal.invariant-loop-one
-invariant-loop-one l = l.keys ≡ keys_of (take l.one-index l.contents)
