@@ -46,11 +46,16 @@ module _ (err : Seen (List ℕ)) (result : Status) where
       memory e = cc
 
   -- an office that could not be started for a damage is why
-  pub unstarted_damaged : (fault : StartFault) → EndsBy (ending_of_start fault) err result → result ≡ statuses.Damaged → (damage : Damage) × (fault ≡ faults.Unread (unread.Damaged damage))
+  unstarted_damaged : (fault : StartFault) → EndsBy (ending_of_start fault) err result → result ≡ statuses.Damaged → (damage : Damage) × (fault ≡ faults.Unread (unread.Damaged damage))
   unstarted_damaged (faults.Unread (unread.Damaged damage)) ends is = (damage, refl)
   unstarted_damaged faults.NoMapping ends is = let none : statuses.Mapping ≡ statuses.Damaged = was_damaged_or statuses.Mapping _ ends is in absurd (cc)
   unstarted_damaged (faults.Unread unread.KeeperFault) ends is = let none : statuses.KeeperFault ≡ statuses.Damaged = was_damaged_or statuses.KeeperFault _ ends is in absurd (cc)
   unstarted_damaged (faults.Unread unread.Memory) ends is = let none : statuses.Memory ≡ statuses.Damaged = was_damaged_or statuses.Memory _ ends is in absurd (cc)
+
+  -- so what follows from each damage for which none could be started holds there
+  pub unstarted_sound : {P : Type 0} (fault : StartFault) → ((damage : Damage) → fault ≡ faults.Unread (unread.Damaged damage) → P) → EndsBy (ending_of_start fault) err result
+      → result ≡ statuses.Damaged → P
+  unstarted_sound fault follows ends is = let found = unstarted_damaged fault ends is in follows found.0 found.1
 
 -- ---- the status
 

@@ -1,6 +1,5 @@
 pub mod BodyTexts
 pub mod DoorEnds
-pub mod Extracts
 pub mod Floatless
 pub mod JsonRead
 pub mod Led

@@ -2,7 +2,6 @@ pub mod Answers
 pub mod Bodies
 pub mod Desks
 pub mod Doors
-pub mod Meets
 pub mod Posted
 pub mod Queries
 pub mod Reads

@@ -14,7 +14,7 @@ use dv_text::{Memory, Text};
 use std::alloc::Global;
 
 /// What a request is answered with.
-#[derive(Debug, Drop)]
+#[derive(Drop)]
 pub enum Answer {
     /// A window was loaded, of so many rows.
     Loaded { rows: u64 },

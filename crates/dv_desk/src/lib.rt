@@ -5,7 +5,6 @@ mod answers;
 mod bodies;
 mod connections;
 mod desks;
-mod misfits;
 mod opened;
 mod posted;
 mod queries;

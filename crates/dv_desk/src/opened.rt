@@ -8,6 +8,7 @@ ghost use Rattle.dv_records.specs.Standing.{Stands};
 ghost use Rattle.dv_records.specs.States.{State};
 ghost use Rattle.dv_records.specs.declared.stores.Store.{Store};
 ghost use Rattle.dv_window.specs.Offices.{AgreesUnlessStale};
+ghost use Rattle.dv_given.specs.Endings.{EndsBy, ending_of_start};
 ghost use Rattle.dv_desk.specs.Doors.{IsServeCause, ServeCompletes, ServeSays, ServesWith, tells};
 ghost use Rattle.dv_desk.specs.Turns.{moment};
 
@@ -15,6 +16,7 @@ use crate::desks::{Desk, Loading};
 use dv_given::{Ending, READ_FAULT, end_command};
 use dv_outside::{Doors, Failed, Gate, Sink, Status, end_named};
 use dv_records::Keeper;
+use dv_restore::StartFault;
 use dv_text::KeyDigest;
 use dv_window::Office;
 use std::alloc::Global;
@@ -86,7 +88,15 @@ fn serve_with<D: Doors, K: Keeper, E: Sink, H: KeyDigest, G: Gate>(
     }
 }
 
-// The same by how windows are loaded: nothing is chosen here.
+// Says why no office could be started.
+fn end_unstarted<E: Sink>(alloc: Global, err: &mut E, fault: StartFault) -> Status
+    ensures says { EndsBy (ending_of_start fault) (seen E.contents E.faults err.old err.new) result }
+    ensures later { E.faults err.old ≤ E.faults err.new }
+{
+    end_command(alloc, err, &Ending::from(fault))
+}
+
+// What `serve` does, by how windows are loaded: nothing is chosen here.
 fn serve_by<D: Doors, K: Keeper, E: Sink, H: KeyDigest, G: Gate>(
     alloc: Global,
     doors: &mut D,
@@ -105,7 +115,7 @@ fn serve_by<D: Doors, K: Keeper, E: Sink, H: KeyDigest, G: Gate>(
 {
     let mut office = match Office::start(alloc, keeper, loading.digest) {
         Ok(office) => office,
-        Err(fault) => return end_command(alloc, err, &Ending::from(fault)),
+        Err(fault) => return end_unstarted(alloc, err, fault),
     };
     let status = serve_with(alloc, doors, &mut office, keeper, err, loading);
     office.close();

@@ -2,19 +2,19 @@
 ghost use Rattle.std.specs.Prelude.{◌≡◌, IfOk, codes, option_map, string_bytes};
 ghost use Rattle.serde_json.specs.Find.{as_array, as_object, as_str, get_member};
 ghost use Rattle.serde_json.specs.View.{items_view, members_view, view};
-ghost use Rattle.dv_catalog.specs.Shapes.{place_of, placed};
-ghost use Rattle.dv_desk.specs.Meets.{Meets, MeetsAs};
+ghost use Rattle.dv_catalog.specs.Shapes.{placed as placed_by};
+ghost use Rattle.dv_mapfile.specs.Meets.{Meets, MeetsAs};
 ghost use Rattle.dv_desk.specs.Posted as spec;
 
-use crate::misfits::Misfit;
 use dv_catalog::{ExtractIn, WindowIn};
+use dv_mapfile::{ShapeFault, placed};
 use dv_text::{List, Memory, Stamp, Text};
 use serde_json::{Map, Value};
 use std::alloc::Global;
 use std::str;
 
 /// What a body is: a window, or JSON with a fault at a place, or no JSON.
-#[derive(Debug, Drop)]
+#[derive(Drop)]
 pub enum Posted {
     NotJson,
     Faulty { place: Text },
@@ -55,16 +55,6 @@ fn into_items(value: Value) -> Option<Vec<Value>>
     }
 }
 
-// The members of a value; none where it is no object.
-fn into_members(value: Value) -> Option<Map<String, Value>>
-    ensures { option_map (λ members. members_view members.entries) result ≡ as_object (view value) }
-{
-    match value {
-        Value::Object(members) => Some(members),
-        _ => None,
-    }
-}
-
 // The stamp that a value says.
 fn stamp_in(value: &Value) -> Option<Stamp>
     ensures { result ≡ spec.stamp (view value.now) }
@@ -74,59 +64,59 @@ fn stamp_in(value: &Value) -> Option<Stamp>
 }
 
 // The load date of a window.
-fn load_in(alloc: Global, members: &Map<String, Value>) -> Result<Stamp, Misfit>
+fn load_in(alloc: Global, members: &Map<String, Value>) -> Result<Stamp, ShapeFault>
     ensures { Meets result (spec.required spec.stamp (codes "load") (members_view members.now.entries)) }
 {
     let Some(value) = member(members, "load") else {
-        return Err(Misfit::at(alloc, "load"));
+        return Err(ShapeFault::at(alloc, "load"));
     };
     match stamp_in(value) {
         Some(load) => Ok(load),
-        None => Err(Misfit::at(alloc, "load")),
+        None => Err(ShapeFault::at(alloc, "load")),
     }
 }
 
 // The feed of an extract.
-fn feed_in(alloc: Global, members: &Map<String, Value>) -> Result<Text, Misfit>
+fn feed_in(alloc: Global, members: &Map<String, Value>) -> Result<Text, ShapeFault>
     ensures { Meets result (spec.required as_str (codes "feed") (members_view members.now.entries)) }
 {
     let Some(value) = member(members, "feed") else {
-        return Err(Misfit::at(alloc, "feed"));
+        return Err(ShapeFault::at(alloc, "feed"));
     };
     match value.as_str() {
         Some(feed) => Ok(Text::of(alloc, feed.as_bytes())?),
-        None => Err(Misfit::at(alloc, "feed")),
+        None => Err(ShapeFault::at(alloc, "feed")),
     }
 }
 
 // The text of an extract, which is taken out of its object and not copied.
-fn text_in(alloc: Global, members: &mut Map<String, Value>) -> Result<List<u8>, Misfit>
+fn text_in(alloc: Global, members: &mut Map<String, Value>) -> Result<List<u8>, ShapeFault>
     ensures { Meets result (spec.required as_str (codes "text") (members_view members.old.entries)) }
 {
     let Some(value) = take_member(members, "text") else {
-        return Err(Misfit::at(alloc, "text"));
+        return Err(ShapeFault::at(alloc, "text"));
     };
     match into_text(value) {
         Some(text) => Ok(List::from_vec(text.into_bytes())),
-        None => Err(Misfit::at(alloc, "text")),
+        None => Err(ShapeFault::at(alloc, "text")),
     }
 }
 
 // The items of the list of extracts, taken out of the window.
-fn items_in(alloc: Global, members: &mut Map<String, Value>) -> Result<Vec<Value>, Misfit>
+fn items_in(alloc: Global, members: &mut Map<String, Value>) -> Result<Vec<Value>, ShapeFault>
     ensures { MeetsAs (λ items. items_view items.items) result (spec.required as_array (codes "extracts") (members_view members.old.entries)) }
 {
     let Some(value) = take_member(members, "extracts") else {
-        return Err(Misfit::at(alloc, "extracts"));
+        return Err(ShapeFault::at(alloc, "extracts"));
     };
     match into_items(value) {
         Some(items) => Ok(items),
-        None => Err(Misfit::at(alloc, "extracts")),
+        None => Err(ShapeFault::at(alloc, "extracts")),
     }
 }
 
 // The extract that members are.
-fn extract_of(alloc: Global, members: &mut Map<String, Value>) -> Result<ExtractIn, Misfit>
+fn extract_of(alloc: Global, members: &mut Map<String, Value>) -> Result<ExtractIn, ShapeFault>
     ensures { Meets result (spec.extract_of (members_view members.old.entries)) }
 {
     let feed = feed_in(alloc, members)?;
@@ -134,47 +124,30 @@ fn extract_of(alloc: Global, members: &mut Map<String, Value>) -> Result<Extract
     Ok(ExtractIn { feed, bytes })
 }
 
-// The extract that an item is; one that is no object has no feed.
-fn extract_in(alloc: Global, item: Value) -> Result<ExtractIn, Misfit>
-    ensures { Meets result (spec.extract_of (spec.members_in (view item))) }
+// The extract that an item is; one that is no object has no feed. Its text is taken out of it.
+fn extract_in(alloc: Global, item: &mut Value) -> Result<ExtractIn, ShapeFault>
+    ensures { Meets result (spec.extract_of (spec.members_in (view item.old))) }
 {
-    match into_members(item) {
-        Some(mut members) => extract_of(alloc, &mut members),
-        None => Err(Misfit::at(alloc, "feed")),
+    match item.as_object_mut() {
+        Some(members) => extract_of(alloc, members),
+        None => Err(ShapeFault::at(alloc, "feed")),
     }
-}
-
-// The place of a fault in an entry of a kind.
-fn place(alloc: Global, kind: &str, number: u64, name: &[u8]) -> Result<Text, Memory>
-    ensures { IfOk result (λ place. place ≡ place_of kind.now number name.now) }
-{
-    let mut bytes = format!(in alloc; "{kind} {number} ")?.into_bytes();
-    bytes.extend_from_slice(name)?;
-    let place = Text::from_vec(bytes)?;
-    Ok(place)
 }
 
 // The extract that an item is, by its number.
-fn extract_at(alloc: Global, number: u64, item: Value) -> Result<ExtractIn, Misfit>
-    ensures { Meets result (placed (codes "extract") number (spec.extract_of (spec.members_in (view item)))) }
+fn extract_at(alloc: Global, number: u64, item: &mut Value) -> Result<ExtractIn, ShapeFault>
+    ensures { Meets result (placed_by (codes "extract") number (spec.extract_of (spec.members_in (view item.old)))) }
 {
-    match extract_in(alloc, item) {
-        Ok(extract) => Ok(extract),
-        Err(Misfit::At(name)) => {
-            let place = place(alloc, "extract", number, name.bytes())?;
-            Err(Misfit::At(place))
-        }
-        Err(Misfit::Memory) => Err(Misfit::Memory),
-    }
+    placed(alloc, "extract", number, extract_in(alloc, item))
 }
 
 // The extracts that items are.
-fn extracts_in(alloc: Global, items: Vec<Value>) -> Result<List<ExtractIn>, Misfit>
-    ensures { Meets result (spec.extracts_in 1 (items_view items.items)) }
+fn extracts_in(alloc: Global, items: &mut [Value]) -> Result<List<ExtractIn>, ShapeFault>
+    ensures { Meets result (spec.extracts_in 1 (items_view items.old)) }
 {
     let mut extracts = Vec::with_capacity(alloc, items.len())?;
     let mut number = 1;
-    for item in items {
+    for item in items.iter_mut() {
         extracts.push(extract_at(alloc, number, item)?)?;
         number += 1;
     }
@@ -182,22 +155,23 @@ fn extracts_in(alloc: Global, items: Vec<Value>) -> Result<List<ExtractIn>, Misf
 }
 
 // The window that members are.
-fn window_of(alloc: Global, members: &mut Map<String, Value>) -> Result<WindowIn, Misfit>
+fn window_of(alloc: Global, members: &mut Map<String, Value>) -> Result<WindowIn, ShapeFault>
     ensures { Meets result (spec.window_of (members_view members.old.entries)) }
 {
     let load = load_in(alloc, members)?;
-    let items = items_in(alloc, members)?;
-    let extracts = extracts_in(alloc, items)?;
+    let mut items = items_in(alloc, members)?;
+    let extracts = extracts_in(alloc, &mut items)?;
     Ok(WindowIn { load, extracts })
 }
 
 // The window that a value is.
-fn window_in(alloc: Global, value: Value) -> Result<WindowIn, Misfit>
+fn window_in(alloc: Global, value: Value) -> Result<WindowIn, ShapeFault>
     ensures { Meets result (spec.window_or_object (as_object (view value))) }
 {
-    match into_members(value) {
-        Some(mut members) => window_of(alloc, &mut members),
-        None => Err(Misfit::at(alloc, "object")),
+    let mut value = value;
+    match value.as_object_mut() {
+        Some(members) => window_of(alloc, members),
+        None => Err(ShapeFault::at(alloc, "object")),
     }
 }
 
@@ -224,7 +198,7 @@ pub(crate) fn read_body(alloc: Global, body: &[u8]) -> Result<Posted, Memory>
     };
     match window_in(alloc, value) {
         Ok(given) => Ok(Posted::Given(given)),
-        Err(Misfit::At(place)) => Ok(Posted::Faulty { place }),
-        Err(Misfit::Memory) => Err(Memory),
+        Err(ShapeFault::At(place)) => Ok(Posted::Faulty { place }),
+        Err(ShapeFault::Memory) => Err(Memory),
     }
 }

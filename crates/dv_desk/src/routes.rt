@@ -16,7 +16,7 @@ pub(crate) enum Route<'a> {
 }
 
 /// The methods that a route has.
-#[derive(Clone, Copy, Debug, PartialEq, Eq)]
+#[derive(Clone, Copy)]
 pub enum Allowed {
     Get,
     GetPost,

@@ -4,7 +4,7 @@ ghost use Rattle.std.specs.List.{list_all};
 ghost use Rattle.dv_desk.specs.ServeWords as spec;
 
 /// What the words behind `serve` say: the port, and how many workers load a window.
-#[derive(Clone, Copy, Debug, PartialEq, Eq)]
+#[derive(Clone, Copy)]
 pub struct ServeWords {
     pub port: u16,
     pub workers: u32,

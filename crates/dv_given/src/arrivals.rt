@@ -6,7 +6,7 @@ ghost use Rattle.dv_given.specs.Readings.{reading_of};
 use crate::endings::Ending;
 use crate::reads::read_named;
 use dv_catalog::{ExtractIn, Rule, WindowIn};
-use dv_mapfile::{Manifest, ManifestExtract, ManifestFault};
+use dv_mapfile::{Manifest, ManifestExtract, ShapeFault};
 use dv_outside::Folder;
 use dv_text::{Duplicate, List, Memory, Text};
 use std::alloc::Global;
@@ -21,7 +21,7 @@ const MOST_BYTES: u64 = 33_554_432;
 const MOST_WINDOW_BYTES: u64 = 67_108_864;
 
 /// What a manifest brings: a window, or the rule that it breaks before the load.
-#[derive(Debug, Drop)]
+#[derive(Drop)]
 pub enum Arrived {
     Broken(Rule),
     Brought(WindowIn),
@@ -126,8 +126,8 @@ fn bring_files<F: Folder>(alloc: Global, folder: &mut F, bytes: &[u8]) -> Result
 {
     let manifest = match Manifest::read(alloc, bytes) {
         Ok(manifest) => manifest,
-        Err(ManifestFault::Memory) => return Err(Ending::Memory),
-        Err(ManifestFault::Broken { place }) => {
+        Err(ShapeFault::Memory) => return Err(Ending::Memory),
+        Err(ShapeFault::At(place)) => {
             return Ok(Arrived::Broken(Rule::Manifest { place }));
         }
     };

@@ -16,7 +16,7 @@ use dv_text::{Memory, Text};
 use std::alloc::Global;
 
 /// How a command ends that does not come to its end.
-#[derive(Debug, Drop)]
+#[derive(Drop)]
 pub enum Ending {
     /// The mapping's file is refused.
     BadMapping(MapError),

@@ -10,7 +10,7 @@ use std::alloc::Global;
 
 /// What came of a window: so many rows were loaded, or it repeats a sealed one, or it breaks a
 /// rule.
-#[derive(Debug, Drop)]
+#[derive(Drop)]
 pub enum Taken {
     Loaded { rows: u64 },
     Repeated,

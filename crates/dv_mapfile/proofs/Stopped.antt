@@ -1,5 +1,5 @@
 -- A step that refuses, before the next one.
-use Rattle.dv_mapfile.proofs.Vocabulary.{ℕ, List, Result, Ok, Err, refl, ◌>>=◌}
+use Rattle.dv_mapfile.proofs.Vocabulary.{ℕ, List, Result, Err, refl, ◌>>=◌}
 use Rattle.dv_mapfile.specs.declared.shape_faults.ShapeFault.{ShapeFault}
 use Rattle.dv_mapfile.specs.declared.shape_faults.ShapeFault.TheVariants.{At, Memory}
 use Rattle.dv_mapfile.specs.Meets.{Meets}

@@ -1,3 +1,2 @@
-pub mod ManifestFaults
 pub mod Manifests
 pub mod Meets

@@ -1,6 +1,4 @@
-ghost use Rattle.std.specs.Prelude.{◌≡◌, Err, IfErr, IfOk, Ok};
 ghost use Rattle.toml.specs.View.{table_view};
-ghost use Rattle.dv_mapfile.specs.ManifestFaults.{Explains};
 ghost use Rattle.dv_mapfile.specs.Manifests as spec;
 ghost use Rattle.dv_mapfile.specs.Meets.{Meets};
 
@@ -28,13 +26,6 @@ pub struct Manifest {
 pub struct ManifestExtract {
     pub feed: Text,
     pub file: Text,
-}
-
-/// Why a manifest was not read: at a place it has not the form that it has to have, or memory ran out.
-#[derive(Debug, Drop)]
-pub enum ManifestFault {
-    Broken { place: Text },
-    Memory,
 }
 
 // The form of a load date.
@@ -73,36 +64,20 @@ fn declared(alloc: Global, document: &Table) -> Result<Manifest, ShapeFault>
     Ok(Manifest { load, extracts })
 }
 
-fn broken_at(alloc: Global, place: &str) -> ManifestFault
-    ensures { Explains result (Err place.now) }
-{
-    match Text::of(alloc, place.as_bytes()) {
-        Ok(place) => ManifestFault::Broken { place },
-        Err(Memory) => ManifestFault::Memory,
-    }
-}
-
 impl Manifest {
-    /// The manifest that some bytes are. `Broken` names the place of the first fault: `length` where there
-    /// are more than 65,536 bytes, `text` where they are no TOML document, `load` where there is no load
-    /// date, `extract` where the extracts are no list of tables, and `extract N feed` or `extract N file`
-    /// where the N-th extract lacks that text.
-    pub fn read(alloc: Global, bytes: &[u8]) -> Result<Manifest, ManifestFault>
-        ensures ok { IfOk result (λ manifest. spec.manifest_in bytes.now ≡ Ok manifest) }
-        ensures err { IfErr result (λ fault. Explains fault (spec.manifest_in bytes.now)) }
+    /// The manifest that some bytes are. The fault is at `length` where there are more than 65,536 bytes, at
+    /// `text` where they are no TOML document, at `load` where there is no load date, at `extract` where the
+    /// extracts are no list of tables, and at `extract N feed` or `extract N file` where the N-th extract
+    /// lacks that text.
+    pub fn read(alloc: Global, bytes: &[u8]) -> Result<Manifest, ShapeFault>
+        ensures { Meets result (spec.manifest_in bytes.now) }
     {
         if bytes.len() > MOST_BYTES {
-            return Err(broken_at(alloc, "length"));
+            return Err(ShapeFault::at(alloc, "length"));
         }
-        let document = match any_document(alloc, bytes) {
-            Ok(Some(document)) => document,
-            Ok(None) => return Err(broken_at(alloc, "text")),
-            Err(Memory) => return Err(ManifestFault::Memory),
-        };
-        match declared(alloc, &document) {
-            Ok(manifest) => Ok(manifest),
-            Err(ShapeFault::At(place)) => Err(ManifestFault::Broken { place }),
-            Err(ShapeFault::Memory) => Err(ManifestFault::Memory),
+        match any_document(alloc, bytes)? {
+            Some(document) => declared(alloc, &document),
+            None => Err(ShapeFault::at(alloc, "text")),
         }
     }
 }

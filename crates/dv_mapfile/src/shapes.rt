@@ -1,11 +1,11 @@
-ghost use Rattle.std.specs.Prelude.{◌≡◌, IfOk, map, ℕ, List as list_of_items, Result as outcome};
+ghost use Rattle.std.specs.Prelude.{map, ℕ, List as list_of_items, Result as outcome};
 ghost use Rattle.toml.specs.Data.{Members};
 ghost use Rattle.toml.specs.View.{table_view};
 ghost use Rattle.dv_mapfile.specs.Meets.{Meets};
 ghost use Rattle.dv_catalog.specs.Shapes as shape;
 
-use crate::shape_faults::ShapeFault;
-use dv_text::{List, Memory, Text};
+use crate::shape_faults::{ShapeFault, placed};
+use dv_text::List;
 use std::alloc::Global;
 use toml::Table;
 
@@ -18,16 +18,6 @@ pub(crate) trait Entry: Drop {
         ensures { Meets result (entry_of (table_view table.now)) };
 }
 
-// The place of a key in an entry: the entry's kind, its number and the key.
-fn place(alloc: Global, kind: &str, number: u64, key: &[u8]) -> Result<Text, Memory>
-    ensures { IfOk result (λ place. place ≡ shape.place_of kind.now number key.now) }
-{
-    let mut bytes = format!(in alloc; "{kind} {number} ")?.into_bytes();
-    bytes.extend_from_slice(key)?;
-    let place = Text::from_vec(bytes)?;
-    Ok(place)
-}
-
 // The entry of a kind that a table declares, by its number.
 fn read_entry<E: Entry>(
     alloc: Global,
@@ -37,11 +27,7 @@ fn read_entry<E: Entry>(
 ) -> Result<E, ShapeFault>
     ensures { Meets result (shape.placed kind.now number (E.entry_of (table_view table.now))) }
 {
-    match E::read(alloc, table) {
-        Ok(entry) => Ok(entry),
-        Err(ShapeFault::At(key)) => Err(ShapeFault::At(place(alloc, kind, number, key.bytes())?)),
-        Err(ShapeFault::Memory) => Err(ShapeFault::Memory),
-    }
+    placed(alloc, kind, number, E::read(alloc, table))
 }
 
 // The entries of a kind that tables declare.

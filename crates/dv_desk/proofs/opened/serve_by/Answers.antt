@@ -2,14 +2,13 @@ use Rattle.std.specs.Prelude.{Err}
 use Rattle.std.proofs.Common.{ap, inl, inr, refl, ◌∙◌}
 use Rattle.dv_outside.specs.Seen.{seen}
 use Rattle.dv_desk.specs.Turns.{moment}
-use Rattle.dv_desk.proofs.DoorEnds.{fault_is, served_cause, served_undamaged, unstarted_cause, unstarted_damaged}
+use Rattle.dv_desk.proofs.DoorEnds.{fault_is, served_cause, served_undamaged, unstarted_cause, unstarted_sound}
 use Rattle.dv_desk.proofs.Led.{served_doors}
 use Rattle.dv_desk.proofs.opened.serve_by.Goals as goal
 
 pub returns-in-Err-clause-sound : goal.returns-in-Err-clause-sound
-returns-in-Err-clause-sound g c = λ damaged.
-    let found = unstarted_damaged _ c.end_command.result c.in-Err.fault (rw c.from.ensures at c.end_command.ensures.says) damaged in
-    c.in-Err.ensures.undamaged found.0 (ap Err found.1)
+returns-in-Err-clause-sound g c =
+    unstarted_sound _ c.end_unstarted.result c.in-Err.fault (λ damage e. c.in-Err.ensures.undamaged damage (ap Err e)) c.end_unstarted.ensures.says
 
 pub returns-in-Err-clause-says : goal.returns-in-Err-clause-says
 returns-in-Err-clause-says g c = inl (record {
@@ -18,11 +17,11 @@ returns-in-Err-clause-says g c = inl (record {
       (λ e. c.in-Err.ensures.none (ap Err e)) (λ damage e. (c.in-Err.ensures.damaged damage (ap Err e), c.in-Err.ensures.formed damage (ap Err e))) (λ e. c.in-Err.ensures.cause (ap Err e));
   doors = refl;
   store = c.start.ensures.store;
-  ends = rw c.from.ensures at c.end_command.ensures.says;
+  ends = c.end_unstarted.ensures.says;
 })
 
 pub returns-in-Err-clause-cause : goal.returns-in-Err-clause-cause
-returns-in-Err-clause-cause g c = unstarted_cause _ _ (seen g.K.Keeper.store g.K.Keeper.faults c.args.keeper.now c.start.new.keeper) _ c.end_command.result c.in-Err.fault (λ e. c.in-Err.ensures.cause (ap Err e)) (rw c.from.ensures at c.end_command.ensures.says)
+returns-in-Err-clause-cause g c = unstarted_cause _ _ (seen g.K.Keeper.store g.K.Keeper.faults c.args.keeper.now c.start.new.keeper) _ c.end_unstarted.result c.in-Err.fault (λ e. c.in-Err.ensures.cause (ap Err e)) c.end_unstarted.ensures.says
 
 pub serve_with-status-requires-clause-agrees : goal.serve_with-status-requires-clause-agrees
 serve_with-status-requires-clause-agrees g c = λ lifetimes outlive fresh. c.in-Ok.ensures.agrees
