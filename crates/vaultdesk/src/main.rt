@@ -3,34 +3,38 @@
 #![tactic(auto)]
 
 use dv_app::Md5Keys;
-use dv_outside::{OpenGate, RealDoors, RealErr, RealFolder, RealOut, Status};
+use dv_given::MEMORY;
+use dv_outside::{OpenGate, RealDoors, RealErr, RealFolder, RealOut, Status, end};
 use dv_program::program;
 use dv_sqlite::SqliteKeeper;
-use dv_text::Text;
+use dv_text::{Memory, Text};
 use std::env;
+use std::io::ErrorKind;
 use std::process::ExitCode;
 
-// The words of the command line without the program's name; none where they can't be read.
-fn words(rt: &HostRuntime) -> Option<Vec<String>> {
-    let args = env::args(rt).ok()?;
+// The words of the command line without the program's name; none where they are no text, which is no command.
+fn words(rt: &HostRuntime) -> Result<Vec<String>, Memory> {
+    let args = match env::args(rt) {
+        Ok(args) => args,
+        Err(e) if e.kind() == ErrorKind::OutOfMemory => return Err(Memory),
+        Err(_) => return Ok(Vec::new(rt.alloc())),
+    };
     let mut words = Vec::new(rt.alloc());
     for word in args.skip(1) {
-        words.push(word).ok()?;
+        words.push(word)?;
     }
-    Some(words)
+    Ok(words)
 }
 
 fn main(rt: HostRuntime) -> ExitCode {
     let alloc = rt.alloc();
-    // Words that can't be read are no command, as no words are.
-    let words = words(&rt).unwrap_or(Vec::new(alloc));
-    // The file is opened at the first call that a command makes of the keeper.
-    let Ok(path) = Text::of(alloc, b"vault.db") else {
-        return ExitCode::from(Status::Memory as u8);
+    let mut err = RealErr::new(rt.stderr());
+    let (Ok(words), Ok(path)) = (words(&rt), Text::of(alloc, b"vault.db")) else {
+        return ExitCode::from(end(&mut err, MEMORY, Status::Memory) as u8);
     };
+    // The file is opened at the first call that a command makes of the keeper.
     let mut keeper = SqliteKeeper::new(rt, path);
     let mut out = RealOut::new(rt.stdout());
-    let mut err = RealErr::new(rt.stderr());
     let mut folder = RealFolder::new(rt);
     let mut doors = RealDoors::new(rt);
     let status = program(
