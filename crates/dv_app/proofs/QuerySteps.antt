@@ -119,16 +119,6 @@ module _ (office : Held) (word date : List ℕ) where
 
 -- ---- raw tables
 
--- a table of the mapping is among those of the vault, also with the rows of the open window behind them
-pub has_there : (table : TableId) (raw : RawVault) (begun : Option Begun) → IsVaultOf raw.mapping raw.tables → Contains (tables raw.mapping) table → has_table table (rows_there raw begun) ≡ true
-has_there table raw None is has = vault_has raw.mapping raw.tables is table has
-has_there table raw (Some begun) is has = with_has table raw.tables (opened_in begun.parts.items) ∙ vault_has raw.mapping raw.tables is table has
-
--- rows and those behind them, as both crates say it
-pub same_behind : (rows : Rows) (more : Option Rows) → behind_in_marts rows more ≡ behind_in_windows rows more
-same_behind rows None = refl
-same_behind rows (Some more) = refl
-
 module _ (office : Held) (name : List ℕ) where
   pub table_unknown : (ending : Ending) → TableEnds office.vault.mapping name ending → IsAnswered (Table name) office (Err ending)
   table_unknown ending ends = query_ends_so _ _ (λ rule broken function told is_open store e. ap refused_said broken.0 ∙ sym (ap (table_for office.vault.mapping store name) broken.1)) ending ends

@@ -50,10 +50,6 @@ one_mapping a b stored by also = same_ok a b (read_mapping by.text) by.reads (ap
     texts : {x y : List ℕ} → Some x ≡ Some y → x ≡ y
     texts e = cc
 
--- a text is no fault
-pub no_fault : (text : List ℕ) (fault : StoredFault) → IsErrOf (Ok text) fault → ⊥
-no_fault text fault e = cc
-
 -- ---- heads at a date
 
 -- a snapshot is at a date

@@ -49,6 +49,7 @@ use Rattle.dv_desk.specs.Queries.{begun_load, mart_at, mart_for, pit_at, pit_for
 use Rattle.dv_desk.specs.Reads.{Due, IsPitAt, IsQuiet, IsReadAs, IsReadBy, IsReadCause, Looked, LookedBy, answer_of_stored, bad_date, due_by, mart_due, or_memory, pit_due}
 use Rattle.dv_desk.specs.Routes.{Heads, MartAt, PitAt, Query, Read, TableOf}
 use Rattle.dv_desk.specs.Turns.{CanReply, IsDue, IsStoredFor, Moment, ReadOffice}
+use Rattle.dv_snapshots.proofs.TableReads.{no_fault}
 
 -- ---- what needs the office alone
 
@@ -115,16 +116,6 @@ pub named_there : {E : Type 0} (mapping : Mapping) (name : List ℕ) (r : Result
 named_there mapping name (Ok (Some table)) is = named_among mapping name table (sym is)
 named_there mapping name (Ok None) is = tt
 named_there mapping name (Err e) is = tt
-
--- a table of the mapping is among those of the vault, also with the rows of the open window behind them
-pub has_there : (table : TableId) (raw : RawVault) (begun : Option Begun) → IsVaultOf raw.mapping raw.tables → Contains (tables raw.mapping) table → has_table table (rows_there raw begun) ≡ true
-has_there table raw None is has = vault_has raw.mapping raw.tables is table has
-has_there table raw (Some begun) is has = with_has table raw.tables (opened_in begun.parts.items) ∙ vault_has raw.mapping raw.tables is table has
-
--- rows and those behind them, as both crates say it
-pub same_behind : (rows : TableRows) (more : Option TableRows) → behind_in_marts rows more ≡ behind_in_windows rows more
-same_behind rows None = refl
-same_behind rows (Some more) = refl
 
 pub unknown_table : (held : Held) (name : List ℕ) → table_named held.vault.mapping name ≡ None → Looked (TableOf name) held answers.NotFound
 unknown_table held name none = looked_is (due_by (TableOf name) held) held answers.NotFound tt (λ hashes state s. sym (ap (table_for held.vault.mapping s) none))
@@ -242,10 +233,6 @@ module _ (hashes : Hashes) (state : State) (held : Held) (s : Store) (is_in : Is
 
   pub pit_none : head_at at held.snapshots ≡ None → IsDue (stored_pit held.vault.mapping hashes state hub at) answers.NotFound
   pit_none none = inl (stored_by false (none_there at held.snapshots none))
-
--- a text is no fault
-no_fault : (text : List ℕ) (fault : StoredFault) → IsErrOf (Ok text) fault → ⊥
-no_fault text fault e = cc
 
 -- what is said of the text of a stored table
 pub record Stored (hub at : ℕ) (before after : Moment) (r : Result (List ℕ) StoredFault) : Type 0 where

@@ -20,6 +20,7 @@ use Rattle.dv_text.proofs.Places.{position-cons}
 use Rattle.dv_mart.specs.declared.hub_columns.HubColumn.{HubColumn}
 use Rattle.dv_mart.specs.declared.hub_contents.FeedRows.{FeedRows}
 use Rattle.dv_mart.specs.HubContents.{column_of, column_told, first_of, not_before}
+use Rattle.dv_pit.proofs.PitTells.{map_alike}
 
 -- a row is of a key
 abbrev pub has : Key → NRow → Bool
@@ -86,17 +87,13 @@ rest_ascends key (row ∷ rows) up = by (is_lt (refs_cmp row.refs (key ∷ [])))
     by true later = later
     by false later = up
 
-map_same : {X Y : Type 0} (f g : X → Y) (xs : List X) → ((x : X) → Contains xs x → f x ≡ g x) → map f xs ≡ map g xs
-map_same f g [] same = refl
-map_same f g (x ∷ xs) same = λ i. same x (Contains-cons_here x xs) i ∷ map_same f g xs (λ y has. same y (Contains-cons_there x xs y has)) i
-
 -- the walk finds of each key the first of its rows
 pub walked_finds : (rows : List NRow) (keys : List Key) → IsStrictlySortedBy row_cmp rows → IsStrictlySortedBy key_cmp keys → walked rows keys ≡ map (λ key. find (has key) rows) keys
 unfolding IsStrictlySortedBy
 walked_finds rows [] up vp = refl
 walked_finds rows (key ∷ keys) up vp =
     let rest = not_before key rows in
-    let later = walked_finds rest keys (rest_ascends key rows up) vp.1 ∙ map_same (λ k. find (has k) rest) (λ k. find (has k) rows) keys
+    let later = walked_finds rest keys (rest_ascends key rows up) vp.1 ∙ map_alike (λ k. find (has k) rest) (λ k. find (has k) rows) keys
     (λ k member. still_found key k rows (member_of_all (λ k. key_cmp key k ≡ Less) keys k vp.0 member)) in
     λ i. first_found key rows up i ∷ later i
 

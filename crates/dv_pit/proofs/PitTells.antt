@@ -34,7 +34,7 @@ use Rattle.dv_pit.specs.PitTables.{cell_read, pit_read, row_read}
 -- ---- lists
 
 -- what is made alike of each item is alike
-map_alike : {X Y : Type 0} (f g : X → Y) (xs : List X) → ((x : X) → Contains xs x → f x ≡ g x) → map f xs ≡ map g xs
+pub map_alike : {X Y : Type 0} (f g : X → Y) (xs : List X) → ((x : X) → Contains xs x → f x ≡ g x) → map f xs ≡ map g xs
 map_alike f g [] same = refl
 map_alike f g (x ∷ xs) same =
     let first = same x (Contains-cons_here x xs) in

@@ -14,19 +14,12 @@ use Rattle.dv_restore.specs.Sealed.{rows_loaded}
 use Rattle.dv_restore.proofs.RowLoads.{are_of_kinds}
 use Rattle.dv_restore.proofs.RowHalves.{drop_exactly}
 use Rattle.std.proofs.Common.{rules}
+use Rattle.dv_vault.proofs.VaultFacts.{kind_of}
 
 -- ---- kinds
 
 pub loaded_kind : (id : TableId) (test : ℕ → Bool) (rows : Rows) → is_of_kind id (rows_loaded test rows) ≡ is_of_kind id rows
 loaded_kind id test rows = search rules
-
-kind_of : (t : Table) → is_of_kind (entry_of t).table (entry_of t).rows ≡ true
-kind_of (table.Hub hub rows) = refl
-kind_of (table.Link link rows) = refl
-kind_of (table.Sat feed rows) = refl
-kind_of (table.Multi feed rows) = refl
-kind_of (table.Status feed rows) = refl
-kind_of (table.Effect feed rows) = refl
 
 pub kinds_of : (tables : List Table) → are_of_kinds (map entry_of tables) ≡ true
 kinds_of [] = refl

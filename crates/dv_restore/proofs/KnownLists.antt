@@ -13,6 +13,7 @@ use Rattle.dv_records.proofs.HubTables.{table_row as hub_row}
 use Rattle.dv_records.proofs.KnownRefs.{known_hashed, known_there}
 use Rattle.dv_records.proofs.LinkTables.{table_row as link_row}
 use Rattle.dv_records.specs.Deltas.{missing_in}
+use Rattle.dv_hub_link.proofs.Hashables.{missing_table}
 
 -- two lists that are one do not clash
 pub never_less : (refs other : List Key) → refs ≡ other → refs_cmp refs other ≡ Less → ⊥
@@ -28,10 +29,6 @@ single_clear list pair is = never_less pair.first pair.second (ap (λ (h : Hashe
           | inl same ↦ sym same
           | inr none ↦ absurd (Contains-nil entry none)
         ]
-
-pub missing_is : (mapping : Mapping) (parent : Parent) → missing_in mapping (table_of parent) ≡ missing_refs mapping parent
-missing_is mapping (Hub hub) = refl
-missing_is mapping (Link link) = refl
 
 module _ (mapping : Mapping) (hashes : Hashes) (windows : List Window) (parent : Parent) (free : collision_in mapping hashes windows parent ≡ None) where
   apart : IsApart hashes (hashed_refs mapping windows parent)
@@ -74,7 +71,7 @@ module _ (mapping : Mapping) (hashes : Hashes) (windows : List Window) (parent :
             within item has = subst (λ items. Contains items item) (sym e) has
 
             missing_first : missing_in mapping first.table ≡ missing_refs mapping parent
-            missing_first = ap (missing_in mapping) (delivery_kept mapping hashes parent window first (within first (Contains-cons_here first rest))).0 ∙ missing_is mapping parent
+            missing_first = ap (missing_in mapping) (delivery_kept mapping hashes parent window first (within first (Contains-cons_here first rest))).0 ∙ missing_table mapping parent
 
             among : (refs : List Key) → Contains (missing_in mapping first.table ∷ first.refs ∷ map (λ (other : Delivery). other.refs) rest) refs → Contains (hashed_refs mapping windows parent) refs
             among refs member =

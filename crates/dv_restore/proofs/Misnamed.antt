@@ -25,28 +25,21 @@ use Rattle.dv_text.proofs.Vocabulary.{key_eq, not-false}
 use Rattle.dv_hub_link.specs.HubRows.{key_with}
 use Rattle.dv_vault.specs.declared.tables.Table.{Table}
 use Rattle.dv_vault.specs.declared.tables.Table.TheVariants as held_as
-use Rattle.dv_restore.proofs.KnownLists.{missing_is, never_less, single_clear}
+use Rattle.dv_restore.proofs.KnownLists.{never_less, single_clear}
 use Rattle.std.specs.declared.cmp.Ordering.{Ordering}
 use Rattle.std.specs.declared.cmp.Ordering.TheVariants as ordering
+use Rattle.dv_hub_link.proofs.Brought.{one_list}
+use Rattle.dv_hub_link.proofs.Hashables.{missing_table}
 
 -- the hash key of what is missing is the zero key
 pub missing_zero : (mapping : Mapping) (function : DigestFunction) (parent : Parent) → (hashes_of function).hash (missing_refs mapping parent) ≡ zero_key function.width
 missing_zero mapping function parent = let e = all_missing mapping (parent_hubs mapping parent) in rw e refl
 
--- where none clash, lists under one hash key are one
-pub same_under : (all : List Hashed) → HasNoClash all → (digest : List ℕ) (a b : List Key) → Contains all (record { digest = digest; refs = a }) → Contains all (record { digest = digest; refs = b }) → a ≡ b
-same_under all none digest a b has also = by (refs_cmp a b) refl
-  where
-    by : (o : Ordering) → refs_cmp a b ≡ o → a ≡ b
-    by ordering.Less e = absurd (none (record { first = a; second = b }) (record { digest = digest; has_first = has; has_second = also; ordered = e }))
-    by ordering.Equal e = refs_exact a b e
-    by ordering.Greater e = absurd (none (record { first = b; second = a }) (record { digest = digest; has_first = also; has_second = has; ordered = turned refs_total a b e }))
-
 module _ (hashes : Hashes) (missing : List Key) (all : List Hashed) where
   -- a list under the hash key of what is missing, which is another one
   pub other_clashes : (refs : List Key) → Contains all (record { digest = hashes.hash missing; refs = refs }) → (refs ≡ missing → ⊥) → HasNoClash (hashed_by hashes missing ∷ all) → ⊥
   other_clashes refs has other none =
-      other (same_under (hashed_by hashes missing ∷ all) none (hashes.hash missing) refs missing (Contains-cons_there (hashed_by hashes missing) all (record { digest = hashes.hash missing; refs = refs }) has)
+      other (one_list (hashed_by hashes missing ∷ all) none (hashes.hash missing) refs missing (Contains-cons_there (hashed_by hashes missing) all (record { digest = hashes.hash missing; refs = refs }) has)
       (Contains-cons_here (hashed_by hashes missing) all))
 
   -- where no other list stands under it
@@ -65,7 +58,7 @@ module _ (hashes : Hashes) (missing : List Key) (all : List Hashed) where
       by (inl (digest, a)) (inl (again, b)) = a ∙ sym b
       by (inl (digest, a)) (inr b) = a ∙ sym (alone pair.second (subst (λ d. Contains all (record { digest = d; refs = pair.second })) digest b))
       by (inr a) (inl (digest, b)) = alone pair.first (subst (λ d. Contains all (record { digest = d; refs = pair.first })) digest a) ∙ sym b
-      by (inr a) (inr b) = same_under all none is.digest pair.first pair.second a b
+      by (inr a) (inr b) = one_list all none is.digest pair.first pair.second a b
 
 -- what is brought has what is missing with it
 brought_missing : (mapping : Mapping) (hashes : Hashes) (parent : Parent) (window : Window) (entry : Hashed) → Contains (brought mapping hashes (deliveries mapping parent window)) entry
@@ -76,7 +69,7 @@ brought_missing mapping hashes parent window entry = by (deliveries mapping pare
     by [] e has = absurd (Contains-nil entry has)
     by (first ∷ rest) e has =
         let member : Contains (deliveries mapping parent window) first = subst (λ items. Contains items first) (sym e) (Contains-cons_here first rest) in
-        let is : missing_in mapping first.table ≡ missing_refs mapping parent = ap (missing_in mapping) (delivery_kept mapping hashes parent window first member).0 ∙ missing_is mapping parent in
+        let is : missing_in mapping first.table ≡ missing_refs mapping parent = ap (missing_in mapping) (delivery_kept mapping hashes parent window first member).0 ∙ missing_table mapping parent in
         subst (λ list. Contains (brought mapping hashes (first ∷ rest)) (hashed_by hashes list)) is
         (Contains-cons_here (hashed_by hashes (missing_in mapping first.table)) (map (hashed_by hashes) (first.refs ∷ map (λ (other : Delivery). other.refs) rest)))
 
@@ -92,7 +85,7 @@ module _ (mapping : Mapping) (hashes : Hashes) (parent : Parent) (window : Windo
   held_alone none alone = missing_clear hashes missing all none (λ refs has.
       elim (Contains-append_cases (brought mapping hashes (deliveries mapping parent window)) held (record { digest = hashes.hash missing; refs = refs }) has) [
         | inl now ↦
-            same_under all none (hashes.hash missing) refs missing has
+            one_list all none (hashes.hash missing) refs missing has
             (Contains-append_left (brought mapping hashes (deliveries mapping parent window)) held (hashed_by hashes missing) (brought_missing mapping hashes parent window (record { digest = hashes.hash missing; refs = refs }) now))
         | inr before ↦ alone refs before
       ])
@@ -149,7 +142,7 @@ module _ (mapping : Mapping) (hashes : Hashes) (zero : List ℕ) (hub : ℕ) (ze
           by None f g = cc
           by (Some other) f g =
               let key : other.key ≡ missing_key mapping hub = named other.key (ap (option_map (λ (row : HubRow). row.key)) f) in
-              same_under (brought mapping hashes (deliveries mapping (Hub hub) window) ++ stored_keys rows) none (hashes.hash missing_list) refs (other.key ∷ []) (among _ has) (among _ (found_there other.key (ap (option_map (λ (row : HubRow). row.key)) f)))
+              one_list (brought mapping hashes (deliveries mapping (Hub hub) window) ++ stored_keys rows) none (hashes.hash missing_list) refs (other.key ∷ []) (among _ has) (among _ (found_there other.key (ap (option_map (λ (row : HubRow). row.key)) f)))
               ∙ ap (λ k. k ∷ []) key
 
 -- ---- tables

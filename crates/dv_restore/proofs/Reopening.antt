@@ -10,6 +10,7 @@ use Rattle.dv_sat.specs.SatRows.{sat_order}
 use Rattle.dv_sat.specs.MultiRows.{multi_order}
 use Rattle.dv_track.specs.Tracks.{status_order}
 use Rattle.dv_track.specs.EffectRows.{effect_order}
+use Rattle.dv_vault.proofs.NewWindows.{first_one}
 use Rattle.dv_vault.proofs.Parts.{there_whole}
 use Rattle.dv_vault.proofs.Taken.{weight_grows}
 use Rattle.dv_restore.specs.Begins.{HasPlace}
@@ -67,9 +68,6 @@ stamped_with date (ids.Multi n) (of.Multis a) (of.Multis b) k l is = both_dated 
 stamped_with date (ids.Status n) (of.Statuses a) (of.Statuses b) k l is = both_dated (λ row. row.load) date (filter (λ row. row.load == date) a) b (at_date (λ row. row.load) date a) is
 stamped_with date (ids.Effect n) (of.Effects a) (of.Effects b) k l is = both_dated (λ row. row.load) date (filter (λ row. row.load == date) a) b (at_date (λ row. row.load) date a) is
 stamped_with date id rows more k l is = cc
-
-first_one : (a b : Rows) (xs ys : List Rows) → a ∷ xs ≡ b ∷ ys → (a ≡ b) × (xs ≡ ys)
-first_one a b xs ys e = (cc, cc)
 
 -- ---- tables in two, and the parts of the open window
 

@@ -35,6 +35,7 @@ use Rattle.dv_restore.specs.Damages.{BreaksRule, IsFirstDamage, IsInForm, IsNotR
 use Rattle.dv_restore.specs.Restored.{IsOfState, heads_of_state}
 use Rattle.dv_restore.specs.Sealed.{sealed_entry, sealed_of, stored_vault}
 use Rattle.dv_vault.specs.declared.begun.Begun.{Begun}
+use Rattle.dv_restore.proofs.Reopening.{all_sealed}
 
 -- ---- the vault of the sealed windows
 
@@ -68,15 +69,11 @@ module _ (mapping : Mapping) (hashes : Hashes) (sealed : List Window) (window : 
       ∙ sym (map-append (table_entry mapping hashes (backwards sealed)) (take k (tables mapping)) (drop k (tables mapping)))
       ∙ ap (map (table_entry mapping hashes (backwards sealed))) (take-append-drop k (tables mapping))
 
-none_left_out : (entries : List TableRows) → map (sealed_entry None) entries ≡ entries
-none_left_out [] = refl
-none_left_out (entry ∷ entries) = ap (λ rest. entry ∷ rest) (none_left_out entries)
-
 module _ (mapping : Mapping) (hashes : Hashes) (store : Store) (sealed : List Window) (windows : store.windows ≡ map head_of sealed) where
   sealed_there : (begun : Option Window) → store.stage ≡ begun → are_windows_valid mapping hashes (sealed ++ option_to_list begun) ≡ true → TablesStand mapping hashes sealed begun store → HasSealed hashes sealed (sealed_of mapping store)
   sealed_there None stage valid stand = record {
     valid = rw append-nil at valid;
-    tables_are = (λ i. map (sealed_entry (stage i)) (read_vault mapping hashes store sealed stand i)) ∙ none_left_out (vault mapping hashes sealed);
+    tables_are = (λ i. map (sealed_entry (stage i)) (read_vault mapping hashes store sealed stand i)) ∙ all_sealed (vault mapping hashes sealed);
     heads_are = windows;
   }
   sealed_there (Some window) stage valid (k, within, stand) = record {

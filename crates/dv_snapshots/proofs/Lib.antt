@@ -7,4 +7,5 @@ pub mod SoundTables
 pub mod StandingRows
 pub mod StateTexts
 pub mod StoredPages
+pub mod TableReads
 pub mod Vocabulary

@@ -71,9 +71,6 @@ page_kind table from most rows = search rules
 
 -- ---- rows behind others of their kind
 
-pub kind_then : (table : TableId) (a b : Rows) → is_of_kind table a ≡ true → is_of_kind table (rows_then a b) ≡ true
-kind_then table a b is = search rules
-
 pub count_then : (table : TableId) (a b : Rows) → is_of_kind table a ≡ true → is_of_kind table b ≡ true → row_count (rows_then a b) ≡ row_count a + row_count b
 count_then (Hub n) (Hubs a) (Hubs b) k l = length-append a b
 count_then (Link n) (Links a) (Links b) k l = length-append a b

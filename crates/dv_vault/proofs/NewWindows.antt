@@ -6,7 +6,8 @@ use Rattle.dv_records.specs.declared.stores.Rows.TheVariants as of
 use Rattle.dv_vault.specs.declared.tables.Table.TheVariants as table
 use Rattle.dv_vault.proofs.BatchSteps.{then_nothing}
 
-first_one : (a b : Rows) (xs ys : List Rows) → a ∷ xs ≡ b ∷ ys → (a ≡ b) × (xs ≡ ys)
+-- lists that are one have one head and one rest
+pub first_one : (a b : Rows) (xs ys : List Rows) → a ∷ xs ≡ b ∷ ys → (a ≡ b) × (xs ≡ ys)
 first_one a b xs ys e = (cc, cc)
 
 of_kind : (t : Table) (rows : Rows) → Follow (entry_of t).rows rows → (is_of_kind (entry_of t).table (entry_of t).rows ≡ true) × (is_of_kind (entry_of t).table (no_rows (entry_of t).table) ≡ true) × (is_of_kind (entry_of t).table rows ≡ true)

@@ -49,7 +49,7 @@ position-seen f test xs =
 
 -- ---- the rows of a table are of its kind
 
-kind_of : (t : Table) → is_of_kind (entry_of t).table (entry_of t).rows ≡ true
+pub kind_of : (t : Table) → is_of_kind (entry_of t).table (entry_of t).rows ≡ true
 kind_of (variants.Hub hub rows) = refl
 kind_of (variants.Link link rows) = refl
 kind_of (variants.Sat feed rows) = refl

@@ -7,7 +7,8 @@ use Rattle.dv_print.specs.TableTexts.{table_text}
 use Rattle.dv_mart.specs.Whats.{table_named}
 use Rattle.dv_records.specs.Stores.{rows_in}
 use Rattle.dv_app.specs.Queries.{TableEnds}
-use Rattle.dv_app.proofs.QuerySteps.{has_there, same_behind, table_answered, table_unknown}
+use Rattle.dv_snapshots.proofs.TableReads.{has_there, same_behind}
+use Rattle.dv_app.proofs.QuerySteps.{table_answered, table_unknown}
 use Rattle.dv_app.proofs.queries.table_of.Goals as goal
 
 pub returns-in_err-table : goal.returns-in_err-table

@@ -7,7 +7,8 @@ use Rattle.dv_mart.specs.Whats.{table_named}
 use Rattle.dv_records.specs.Stores.{rows_in}
 use Rattle.dv_print.specs.TableTexts.{table_text}
 use Rattle.dv_vault.specs.Vaults.{RawVault}
-use Rattle.dv_desk.proofs.Read.{has_there, none_of, same_behind, table_looked, unknown_table}
+use Rattle.dv_snapshots.proofs.TableReads.{has_there, same_behind}
+use Rattle.dv_desk.proofs.Read.{none_of, table_looked, unknown_table}
 use Rattle.dv_desk.proofs.queries.table.Goals as goal
 
 pub returns-in_default : goal.returns-in_default

@@ -3,7 +3,8 @@ use Rattle.dv_snapshots.specs.declared.stored.StoredFault.TheVariants as stored
 use Rattle.dv_app.specs.Kept.{stored_id}
 use Rattle.dv_app.specs.Queries.{StoredEnds}
 use Rattle.dv_app.specs.Words.{stored_of}
-use Rattle.dv_app.proofs.StoredSteps.{faulted_works, no_fault, stored_works, undated_works, unknown_works}
+use Rattle.dv_snapshots.proofs.TableReads.{no_fault}
+use Rattle.dv_app.proofs.StoredSteps.{faulted_works, stored_works, undated_works, unknown_works}
 use Rattle.dv_app.proofs.works.Work.stored.Goals as goal
 
 pub returns-in_err-id-clause-works : goal.returns-in_err-id-clause-works
