@@ -22,7 +22,7 @@ mod statuses;
 
 pub use doors::Doors;
 pub use folders::{Failed, Folder, FolderError, NamedFile};
-pub use gates::{Gate, OpenGate};
+pub use gates::{Gate, HoldGate, OfferGate, OpenGate};
 pub use lines::{end, end_named, write_all, write_line};
 pub use links::Link;
 pub use memory_doors::MemoryDoors;
