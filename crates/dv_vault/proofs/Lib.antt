@@ -5,6 +5,7 @@ pub mod BatchesSoFar
 pub mod BatchSteps
 pub mod BegunParts
 pub mod Broken
+pub mod Crossing
 pub mod DeliverySets
 pub mod EmptyTables
 pub mod FeedLists
@@ -22,6 +23,7 @@ pub mod TableFacts
 pub mod TableItems
 pub mod TablesApart
 pub mod Taken
+pub mod TaskFacts
 pub mod VaultCollisions
 pub mod VaultFacts
 pub mod Vocabulary

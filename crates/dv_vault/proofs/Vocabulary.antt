@@ -93,11 +93,13 @@ pub use Rattle.dv_vault.specs.declared.breaks.Untaken.{Untaken}
 pub use Rattle.dv_vault.specs.declared.additions.AdditionFault.{AdditionFault}
 pub use Rattle.dv_vault.specs.declared.offers.Offer.{Offer}
 pub use Rattle.dv_vault.specs.declared.tables.Table.{Table}
-pub use Rattle.std.proofs.Common.{add-one, drop-cons}
+pub use Rattle.std.proofs.Common.{add-one, drop-cons, position, ◌*◌}
 pub use Rattle.std.proofs.Math.ListN.{get_or-map}
 pub use Rattle.std.proofs.Math.Seq.{map-set_same}
 pub use Rattle.std.proofs.lemmas.List.{drop-set-lt, flat_map_more, reverse-reverse, take_more_set, with_items_is}
-pub use Rattle.std.proofs.lemmas.List.Elements.{All-append, All-push, Contains-get_or, filter-append}
+pub use Rattle.std.proofs.lemmas.List.Elements.{All-append, All-push, All-weaker, Contains-get_or, filter-append}
+pub use Rattle.std.proofs.lemmas.List.Quantifiers.{position-Some}
+pub use Rattle.dv_text.proofs.Places.{found_at, none_placed, placed_within}
 pub use Rattle.std.proofs.lemmas.List.Folds.{fold-map, list_any-append}
 pub use Rattle.std.proofs.lemmas.Option.{slice_get_past}
 pub use Rattle.std.proofs.lemmas.Slice.Zip.{AllZip-long}
@@ -122,3 +124,6 @@ pub use Rattle.dv_hub_link.proofs.KeyDeltas.{map_filter}
 pub use Rattle.std.proofs.lemmas.List.FromFn.{get_or-map-range_with_len}
 pub use Rattle.std.specs.declared.cmp.Ordering.{Ordering}
 pub use Rattle.std.specs.declared.cmp.Ordering.TheVariants.{Less}
+pub use Rattle.std.proofs.lemmas.List.{ext_get_or}
+pub use Rattle.std.proofs.lemmas.List.FromFn.{length-map-range_with_len}
+pub use Rattle.dv_text.proofs.Vocabulary.{get_or_from_slice_get}

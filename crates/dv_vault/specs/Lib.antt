@@ -4,4 +4,5 @@ pub mod HashedWindows
 pub mod Keeping
 pub mod NamesApart
 pub mod Offered
+pub mod Tasks
 pub mod Vaults

@@ -1,9 +1,10 @@
 // What a window adds to all tables.
-ghost use Rattle.std.specs.Prelude.{◌≡◌, ◌+◌, All, IfErr, IfOk, IsTrue, map, sum_by};
+ghost use Rattle.std.specs.Prelude.{◌≡◌, ◌+◌, ◌<◌, All, IfErr, IfOk, IsTrue, Some, length, map, slice_get, sum_by};
 ghost use Rattle.std.specs.List.{list_all};
 ghost use Rattle.dv_text.specs.Keys.{hashes_of};
 ghost use Rattle.dv_catalog.specs.Mappings.{is_valid};
 ghost use Rattle.dv_catalog.specs.TableLookups.{is_table_of};
+ghost use Rattle.dv_records.specs.declared.stores.TableRows.{TableRows};
 ghost use Rattle.dv_records.specs.Deltas.{HasNoClash};
 ghost use Rattle.dv_records.specs.RowViews.{are_up_to};
 ghost use Rattle.dv_records.specs.States.{is_window};
@@ -11,14 +12,17 @@ ghost use Rattle.dv_records.specs.Stores.{no_rows as spec_no_rows, row_count};
 ghost use Rattle.dv_records.specs.Weights.{rows_weight};
 ghost use Rattle.dv_vault.specs.Additions as spec;
 ghost use Rattle.dv_vault.specs.HashedWindows.{IsHashedWindow};
+ghost use Rattle.dv_vault.specs.Tasks.{IsBrought, IsDelta, IsFound};
 ghost use Rattle.dv_vault.specs.Vaults.{added_to, entry_of, hashed_in, names_of_hubs};
 
 use crate::additions::{AdditionFault, fault_of};
+use crate::brought::Brought;
 use crate::hashed_windows::HashedWindow;
 use crate::hub_keys::HubKeys;
+use crate::results::{Found, take_batch};
 use crate::tables::Table;
 use dv_catalog::Catalog;
-use dv_records::{Rows, weight};
+use dv_records::{DeltaFault, Rows, weight};
 use dv_text::{KeyDigest, List, Memory};
 use std::alloc::Global;
 
@@ -56,7 +60,102 @@ pub fn weight_with(weight_before: u64, batches: &[Rows]) -> Result<u64, Memory>
     Ok(sum)
 }
 
-// The rows that a window adds to each of these tables, or the first collision that it makes.
+/// The rows that a window adds to the table at a place, or the least collision that it makes there. What feeds bring
+/// to hubs and links that is gathered already is not gathered again.
+pub(crate) fn delta_of<'b, H: KeyDigest>(
+    alloc: Global,
+    tables: &[Table],
+    place: usize,
+    names: &HubKeys<'_>,
+    window: &'b HashedWindow<'_>,
+    brought: &[Brought<'b>],
+    catalog: &Catalog,
+    digest: &H,
+) -> Result<Rows, DeltaFault>
+    requires place { place < length tables.now }
+    requires tables { IsTrue (list_all (λ entry. is_table_of catalog.now entry.table) (map entry_of tables.now)) }
+    requires dated { IsTrue (are_up_to window.now.window.now.load (map entry_of tables.now)) }
+    requires valid { IsTrue (is_valid catalog.now) }
+    requires window { IsTrue (is_window catalog.now window.now.window.now) }
+    requires gathered { IsHashedWindow (hashes_of H.function) window.now }
+    requires brought { All (IsBrought catalog.now (hashes_of H.function) window.now.window.now) brought.now }
+    ensures { (entry : TableRows) → slice_get (map entry_of tables.now) place ≡ Some entry → IsDelta catalog.now (hashes_of H.function) (names_of_hubs names.now) window.now.window.now entry result }
+{
+    tables[place].delta(alloc, names, window, brought, catalog, digest)
+}
+
+// The rows that a window adds to the table at a place, or the least collision that it makes there: as they are found
+// already, else worked out.
+fn delta_at<'b, H: KeyDigest>(
+    alloc: Global,
+    tables: &[Table],
+    place: usize,
+    names: &HubKeys<'_>,
+    window: &'b HashedWindow<'_>,
+    catalog: &Catalog,
+    digest: &H,
+    found: &mut Found<'b>,
+) -> Result<Rows, DeltaFault>
+    requires place { place < length tables.now }
+    requires tables { IsTrue (list_all (λ entry. is_table_of catalog.now entry.table) (map entry_of tables.now)) }
+    requires dated { IsTrue (are_up_to window.now.window.now.load (map entry_of tables.now)) }
+    requires valid { IsTrue (is_valid catalog.now) }
+    requires window { IsTrue (is_window catalog.now window.now.window.now) }
+    requires gathered { IsHashedWindow (hashes_of H.function) window.now }
+    requires found { IsFound catalog.now (hashes_of H.function) (names_of_hubs names.now) window.now.window.now (map entry_of tables.now) found.old }
+    ensures delta { (entry : TableRows) → slice_get (map entry_of tables.now) place ≡ Some entry → IsDelta catalog.now (hashes_of H.function) (names_of_hubs names.now) window.now.window.now entry result }
+    ensures found { IsFound catalog.now (hashes_of H.function) (names_of_hubs names.now) window.now.window.now (map entry_of tables.now) found.new }
+{
+    match take_batch(&mut found.batches, place) {
+        Some(rows) => rows,
+        None => delta_of(
+            alloc,
+            tables,
+            place,
+            names,
+            window,
+            &found.brought,
+            catalog,
+            digest,
+        ),
+    }
+}
+
+/// The rows that a window adds to each of these tables, or the first collision that it makes. What is found already
+/// is not worked out again.
+pub(crate) fn deltas_beside<'b, H: KeyDigest>(
+    alloc: Global,
+    tables: &[Table],
+    names: &HubKeys<'_>,
+    window: &'b HashedWindow<'_>,
+    catalog: &Catalog,
+    digest: &H,
+    mut found: Found<'b>,
+) -> Result<List<Rows>, AdditionFault>
+    requires tables { IsTrue (list_all (λ entry. is_table_of catalog.now entry.table) (map entry_of tables.now)) }
+    requires dated { IsTrue (are_up_to window.now.window.now.load (map entry_of tables.now)) }
+    requires valid { IsTrue (is_valid catalog.now) }
+    requires window { IsTrue (is_window catalog.now window.now.window.now) }
+    requires gathered { IsHashedWindow (hashes_of H.function) window.now }
+    requires found { IsFound catalog.now (hashes_of H.function) (names_of_hubs names.now) window.now.window.now (map entry_of tables.now) found }
+    ensures rows { IfOk result (λ batches. batches ≡ map (added_to catalog.now (hashes_of H.function) window.now.window.now) (map entry_of tables.now)) }
+    ensures apart { IfOk result (λ batches. All (λ entry. HasNoClash (hashed_in catalog.now (hashes_of H.function) (names_of_hubs names.now) window.now.window.now entry)) (map entry_of tables.now)) }
+    ensures follow { IfOk result (spec.FollowAll window.now.window.now.load (map entry_of tables.now)) }
+    ensures clashes { IfErr result (spec.ClashesAt catalog.now (hashes_of H.function) (names_of_hubs names.now) window.now.window.now (map entry_of tables.now)) }
+{
+    let mut batches = List::new(alloc);
+    for (place, table) in tables.iter().enumerate() {
+        match delta_at(
+            alloc, tables, place, names, window, catalog, digest, &mut found,
+        ) {
+            Ok(rows) => batches.push(rows)?,
+            Err(fault) => return Err(fault_of(table.id(), fault)),
+        }
+    }
+    Ok(batches)
+}
+
+/// The rows that a window adds to each of these tables, or the first collision that it makes.
 pub(crate) fn all_deltas<H: KeyDigest>(
     alloc: Global,
     tables: &[Table],
@@ -75,12 +174,6 @@ pub(crate) fn all_deltas<H: KeyDigest>(
     ensures follow { IfOk result (spec.FollowAll window.now.window.now.load (map entry_of tables.now)) }
     ensures clashes { IfErr result (spec.ClashesAt catalog.now (hashes_of H.function) (names_of_hubs names.now) window.now.window.now (map entry_of tables.now)) }
 {
-    let mut batches = List::new(alloc);
-    for table in tables {
-        match table.delta(alloc, names, window, catalog, digest) {
-            Ok(rows) => batches.push(rows)?,
-            Err(fault) => return Err(fault_of(table.id(), fault)),
-        }
-    }
-    Ok(batches)
+    let found = Found::none(alloc);
+    deltas_beside(alloc, tables, names, window, catalog, digest, found)
 }

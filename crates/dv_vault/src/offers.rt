@@ -1,36 +1,26 @@
-// What a window delivers to a hub or a link. The reference lists that its rows bring are lent as they stand in
+// What the rows of a window's extracts bring to hubs and links. The reference lists are lent as they stand in
 // the rows, and none is copied.
-ghost use Rattle.std.specs.Prelude.{◌≡◌, ℕ, ◌==◌, ◌∷◌, ◌++◌, [], IfOk, IsTrue, OnOk, Some, if◌then◌else◌, map, slice_get};
-ghost use Rattle.std.specs.List.{flat_map, list_all, list_any};
+ghost use Rattle.std.specs.Prelude.{◌≡◌, ℕ, ◌==◌, ◌∷◌, ◌++◌, [], OnOk, Some, if◌then◌else◌, map, slice_get};
+ghost use Rattle.std.specs.List.{flat_map, list_any};
 ghost use Rattle.dv_text.specs.declared.rows.Key.{Key};
 ghost use Rattle.dv_text.specs.Keys.{hashes_of};
-ghost use Rattle.dv_text.specs.Sorting.{sorted_by};
 ghost use Rattle.dv_catalog.specs.declared.entries.Parent.TheVariants as parents;
 ghost use Rattle.dv_catalog.specs.Feeds as feeds;
-ghost use Rattle.dv_catalog.specs.Mappings.{is_valid};
-ghost use Rattle.dv_digest.specs.Fits as fits;
 ghost use Rattle.dv_digest.specs.HashedExtracts.{HasKeys};
 ghost use Rattle.dv_records.specs.Deliveries as spec;
-ghost use Rattle.dv_records.specs.Deltas.{AreHashed, delivered};
-ghost use Rattle.dv_records.specs.States.{is_window};
-ghost use Rattle.dv_vault.specs.DeliverySets.{AreDeliveriesOf};
-ghost use Rattle.dv_vault.specs.HashedWindows.{IsHashedWindow};
 ghost use Rattle.dv_vault.specs.Offered as offered;
 
-use crate::hashed_windows::HashedWindow;
-use dv_catalog::{Catalog, Parent, TableId};
-use dv_digest::{HashedExtract, Room, hash_key, refs_fit};
-use dv_records::HashedDelivery;
-use dv_text::{Digest, Key, KeyDigest, List, Memory, are_missing};
-use std::alloc::Global;
+use dv_catalog::{Catalog, Parent};
+use dv_digest::HashedExtract;
+use dv_text::{Digest, Key, KeyDigest, Memory, are_missing};
 use std::slice::from_ref;
 
 // A reference list as a row has it, the feed of the row, and the list's hash key, where the row's own is told.
-#[derive(Drop)]
-struct Offer<'a> {
-    refs: &'a [Key],
-    feed: u32,
-    told: Option<&'a Digest>,
+#[derive(Clone, Copy)]
+pub(crate) struct Offer<'a> {
+    pub(crate) refs: &'a [Key],
+    pub(crate) feed: u32,
+    pub(crate) told: Option<&'a Digest>,
 }
 
 // Puts a reference list at the end, unless all its keys are missing.
@@ -139,7 +129,7 @@ fn add_link_offers<'a, H: KeyDigest>(
 }
 
 // The hubs of a feed's references; none where the feed isn't in the mapping.
-fn feed_hubs(catalog: &Catalog, feed: u32) -> &[u32]
+pub(crate) fn feed_hubs(catalog: &Catalog, feed: u32) -> &[u32]
     ensures { result.now ≡ feeds.feed_hubs catalog.now feed }
 {
     if feed >= catalog.feed_count() {
@@ -172,7 +162,7 @@ fn is_fed_by(catalog: &Catalog, link: u32, feed: u32) -> bool
 }
 
 // Puts what a feed's rows bring to a hub or a link at the end.
-fn add_offers<'a, H: KeyDigest>(
+pub(crate) fn add_offers<'a, H: KeyDigest>(
     offers: &mut Vec<Offer<'a>>,
     catalog: &Catalog,
     extract: &'a HashedExtract<'a>,
@@ -197,113 +187,4 @@ fn add_offers<'a, H: KeyDigest>(
             add_link_offers::<H>(offers, extract)
         }
     }
-}
-
-// What the rows of a window bring to a hub or a link, feed by feed.
-fn all_offers<'b, 'a, H: KeyDigest>(
-    alloc: Global,
-    catalog: &Catalog,
-    window: &'b HashedWindow<'a>,
-    parent: Parent,
-) -> Result<Vec<Offer<'b>>, Memory>
-    requires { IsHashedWindow (hashes_of H.function) window.now }
-    ensures { IfOk result (λ offers. map (offered.offered_by (hashes_of H.function)) offers.items ≡ offered.all_offered (hashes_of H.function) catalog.now parent window.now.window.now.extracts) }
-{
-    let mut offers = Vec::new(alloc);
-    for extract in window.extracts.items() {
-        add_offers::<H>(&mut offers, catalog, extract, parent)?;
-    }
-    Ok(offers)
-}
-
-// The offers in the order of their references; of those with equal ones, the first.
-fn first_offers(offers: Vec<Offer>) -> Result<Vec<Offer>, Memory>
-    ensures { IfOk result (λ firsts. firsts.items ≡ sorted_by offered.offer_cmp offers.entry.items) }
-{
-    let mut offers = offers;
-    offers.sort_by_key(|offer| offer.refs)?;
-    offers.dedup_by_key(|offer| offer.refs);
-    Ok(offers)
-}
-
-// The hash key of a reference list: the one that is told, else it is worked out.
-fn key_of<H: KeyDigest>(digest: &H, told: Option<&Digest>, refs: &[Key], room: &mut Room) -> Digest
-    requires { IsTrue (fits.refs_fit refs.now) }
-    ensures { result ≡ offered.key_told (hashes_of H.function) (offered.told_by told.entry) refs.now }
-{
-    if let Some(key) = told {
-        return *key;
-    }
-    let fit = refs_fit(refs);
-    prove!(fit);
-    hash_key(digest, refs, room)
-}
-
-// Puts an offer at the end, as a delivery to a table.
-fn add_delivery<'a, H: KeyDigest>(
-    items: &mut List<HashedDelivery<'a>>,
-    table: TableId,
-    offer: &Offer<'a>,
-    digest: &H,
-    room: &mut Room,
-) -> Result<(), Memory>
-    requires { IsTrue (fits.refs_fit offer.now.refs.now) }
-    ensures { OnOk result (map offered.keyed items.new ≡ map offered.keyed items.old ++ offered.delivery_to table (offered.offered_by (hashes_of H.function) offer.now) ∷ []) }
-{
-    let key = key_of(digest, offer.told, offer.refs, room);
-    let item = HashedDelivery {
-        table,
-        refs: offer.refs,
-        feed: offer.feed,
-        digest: key,
-    };
-    items.push(item)
-}
-
-// Offers as deliveries to a table.
-fn to_deliveries<'a, H: KeyDigest>(
-    alloc: Global,
-    table: TableId,
-    offers: &[Offer<'a>],
-    digest: &H,
-) -> Result<List<HashedDelivery<'a>>, Memory>
-    requires { IsTrue (list_all (λ offer. fits.refs_fit offer.refs.now) offers.now) }
-    ensures { IfOk result (λ items. map offered.keyed items ≡ map (λ offer. offered.delivery_to table (offered.offered_by (hashes_of H.function) offer)) offers.now) }
-{
-    let mut room = Room::new(alloc)?;
-    let mut items = List::with_room(alloc, offers.len())?;
-    for offer in offers {
-        add_delivery(&mut items, table, offer, digest, &mut room)?;
-    }
-    Ok(items)
-}
-
-fn table_of(parent: Parent) -> TableId
-    ensures { result ≡ spec.table_of parent }
-{
-    match parent {
-        Parent::Hub(hub) => TableId::Hub(hub),
-        Parent::Link(link) => TableId::Link(link),
-    }
-}
-
-/// What a window delivers to a hub or a link: each reference list that its rows bring once, by the first feed
-/// that brings it, with its hash key, in any order; a list whose keys are all missing is left out. A link's feed
-/// brings to each of its hubs the hub's key. The lists are lent from the window. Conditions: it is a window of
-/// the mapping, and has its hash keys.
-pub fn deliveries<'b, 'a, H: KeyDigest>(
-    alloc: Global,
-    catalog: &Catalog,
-    window: &'b HashedWindow<'a>,
-    parent: Parent,
-    digest: &H,
-) -> Result<List<HashedDelivery<'b>>, Memory>
-    requires valid { IsTrue (is_valid catalog.now) }
-    requires window { IsTrue (is_window catalog.now window.now.window.now) }
-    requires gathered { IsHashedWindow (hashes_of H.function) window.now }
-    ensures items { IfOk result (λ items. AreDeliveriesOf catalog.now parent window.now.window.now (delivered items)) }
-    ensures hashed { IfOk result (AreHashed (hashes_of H.function)) }
-{
-    let offers = first_offers(all_offers::<H>(alloc, catalog, window, parent)?)?;
-    to_deliveries(alloc, table_of(parent), &offers, digest)
 }

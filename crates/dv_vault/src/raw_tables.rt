@@ -1,4 +1,4 @@
-ghost use Rattle.std.specs.Prelude.{◌≡◌, false, IfErr, IfNone, IfOk, IfSome, IsTrue, find, map, option_map, position, true};
+ghost use Rattle.std.specs.Prelude.{◌≡◌, false, IfErr, IfNone, IfOk, IfSome, IsTrue, ◌≤◌, find, map, option_map, position, true};
 ghost use Rattle.dv_text.specs.Keys.{hashes_of};
 ghost use Rattle.dv_catalog.specs.Tables.{tables};
 ghost use Rattle.dv_records.specs.ReadBack.{effect_rows_in, hub_rows_in, link_rows_in, multi_rows_in, sat_rows_in, status_rows_in};
@@ -11,16 +11,20 @@ ghost use Rattle.dv_vault.specs.Vaults as spec;
 
 use crate::additions::AdditionFault;
 use crate::batches::all_deltas;
-use crate::hashed_windows::gathered;
+use crate::hashed_windows::{gathered, gathered_by};
 use crate::hub_keys::hub_keys;
+use crate::jobs::deltas_by;
 use crate::tables::Table;
 use dv_catalog::{Catalog, TableId};
+use dv_crew::Order;
 use dv_hub_link::{HubTable, LinkTable};
+use dv_outside::Gate;
 use dv_records::Rows;
 use dv_sat::{MultiTable, SatTable};
 use dv_text::{KeyDigest, List, Memory, Window};
 use dv_track::{EffectTable, StatusTable};
 use std::alloc::Global;
+use std::thread::Threads;
 
 /// The raw tables of a mapping, in table order (Linstedt and Olschimke 2015, chapter 4).
 #[derive(Drop)]
@@ -54,7 +58,7 @@ fn find_table(tables: &[Table], id: TableId) -> Option<&Table>
 }
 
 // The place of the first table with an id.
-fn find_place(tables: &[Table], id: TableId) -> Option<usize>
+pub(crate) fn find_place(tables: &[Table], id: TableId) -> Option<usize>
     ensures { result ≡ position (λ table. table_eq (entry_of table).table id) tables.now }
 {
     tables.iter().position(|table| is_table(table, id))
@@ -189,5 +193,43 @@ impl RawTables {
         let names = hub_keys(alloc, catalog, self)?;
         let hashed = gathered(alloc, catalog, window, digest)?;
         all_deltas(alloc, &self.tables, &names, &hashed, catalog, digest)
+    }
+
+    /// As `added`, worked out by so many workers, which begin the tasks of the window in the given order and pass the gate.
+    pub(crate) fn added_by<R: Threads + Sync, H: KeyDigest, G: Gate>(
+        &self,
+        rt: &R,
+        alloc: Global,
+        catalog: &Catalog,
+        window: &Window,
+        workers: u32,
+        order: Order,
+        digest: &H,
+        gate: &G,
+    ) -> Result<List<Rows>, AdditionFault>
+        requires tables { spec.IsVaultOf catalog.now (entries_of self.now) }
+        requires dated { IsTrue (are_up_to window.now.load (entries_of self.now)) }
+        requires window { IsTrue (is_window catalog.now window.now) }
+        requires workers { (1 ≤ workers) × (workers ≤ 64) }
+        ensures rows { IfOk result (λ batches. batches ≡ map (spec.added_to catalog.now (hashes_of H.function) window.now) (entries_of self.now)) }
+        ensures apart { IfOk result (λ batches. AreApartBy catalog.now (hashes_of H.function) (spec.hub_names catalog.now (entries_of self.now)) window.now (entries_of self.now)) }
+        ensures follow { IfOk result (FollowAll window.now.load (entries_of self.now)) }
+        ensures clashes { IfErr result (ClashesAt catalog.now (hashes_of H.function) (spec.hub_names catalog.now (entries_of self.now)) window.now (entries_of self.now)) }
+    {
+        catalog.note_valid();
+        let names = hub_keys(alloc, catalog, self)?;
+        let hashed = gathered_by(rt, alloc, catalog, window, workers, digest)?;
+        deltas_by(
+            rt,
+            alloc,
+            &self.tables,
+            &names,
+            &hashed,
+            catalog,
+            digest,
+            workers,
+            order,
+            gate,
+        )
     }
 }

@@ -1,5 +1,5 @@
 // A raw table of the vault, of any kind, and what a window adds to it.
-ghost use Rattle.std.specs.Prelude.{◌≡◌, ◌≤◌, ◌<◌, ◌==◌, [], false, find, IfNone, IfOk, IfSome, IsTrue, OnOk, length, option_map};
+ghost use Rattle.std.specs.Prelude.{◌≡◌, All, ◌≤◌, ◌<◌, ◌==◌, [], false, find, IfNone, IfOk, IfSome, IsTrue, OnOk, length, option_map};
 ghost use Rattle.std.specs.List.{list_all};
 ghost use Rattle.std.specs.List.Sorted.{IsStrictlySortedBy};
 ghost use Rattle.dv_text.specs.Keys.{hashes_of};
@@ -13,11 +13,13 @@ ghost use Rattle.dv_records.specs.RowViews.{AreOfLoad, is_up_to};
 ghost use Rattle.dv_records.specs.States.{is_window};
 ghost use Rattle.dv_records.specs.Stores.{no_rows, row_count, rows_then};
 ghost use Rattle.dv_vault.specs.HashedWindows.{IsHashedWindow};
+ghost use Rattle.dv_vault.specs.Tasks.{IsBrought};
 ghost use Rattle.dv_vault.specs.Vaults as spec;
 ghost use Rattle.dv_vault.specs.Vaults.{Follow, added_to, entry_of, hashed_in, spare_of};
 
+use crate::brought::Brought;
+use crate::deliveries::deliveries;
 use crate::hashed_windows::HashedWindow;
-use crate::offers::deliveries;
 use dv_catalog::{Catalog, Parent, TableId};
 use dv_digest::HashedExtract;
 use dv_hub_link::{HubTable, LinkTable};
@@ -45,8 +47,8 @@ fn extract_in<'b, 'a>(extracts: &'b [HashedExtract<'a>], feed: u32) -> Option<&'
     extracts.iter().find(|extract| extract.staged.feed == feed)
 }
 
-// The extract of a feed in a window, which has its hash keys, and whose rows ascend and fit what they are hashed in.
-fn extract_of<'b, 'a, H: KeyDigest>(
+/// The extract of a feed in a window, which has its hash keys, and whose rows ascend and fit what they are hashed in.
+pub(crate) fn extract_of<'b, 'a, H: KeyDigest>(
     catalog: &Catalog,
     window: &'b HashedWindow<'a>,
     feed: u32,
@@ -64,11 +66,12 @@ fn extract_of<'b, 'a, H: KeyDigest>(
 }
 
 // The rows that a window adds to a hub.
-fn hub_rows<H: KeyDigest>(
+fn hub_rows<'b, H: KeyDigest>(
     alloc: Global,
     hub: u32,
     table: &HubTable,
-    window: &HashedWindow<'_>,
+    window: &'b HashedWindow<'_>,
+    brought: &[Brought<'b>],
     catalog: &Catalog,
     digest: &H,
 ) -> Result<Rows, DeltaFault>
@@ -77,24 +80,26 @@ fn hub_rows<H: KeyDigest>(
     requires window { IsTrue (is_window catalog.now window.now.window.now) }
     requires gathered { IsHashedWindow (hashes_of H.function) window.now }
     requires dated { IsTrue (is_up_to window.now.window.now.load (Rows.Hubs table.now.rows)) }
+    requires brought { All (IsBrought catalog.now (hashes_of H.function) window.now.window.now) brought.now }
     ensures rows { IfOk result (λ rows. rows ≡ spec.added catalog.now (hashes_of H.function) window.now.window.now (TableId.Hub hub) (Rows.Hubs table.now.rows)) }
     ensures apart { IfOk result (λ rows. HasNoClash (spec.hashed catalog.now (hashes_of H.function) [] window.now.window.now (TableId.Hub hub) (Rows.Hubs table.now.rows))) }
     ensures collision { IfCollides result (IsLeastClash (spec.hashed catalog.now (hashes_of H.function) [] window.now.window.now (TableId.Hub hub) (Rows.Hubs table.now.rows))) }
     ensures follow { IfOk result (λ rows. Follow (Rows.Hubs table.now.rows) rows) }
     ensures stamped { IfOk result (λ rows. AreOfLoad window.now.window.now.load rows) }
 {
-    let items = deliveries(alloc, catalog, window, Parent::Hub(hub), digest)?;
+    let items = deliveries(alloc, catalog, window, Parent::Hub(hub), brought, digest)?;
     let rows = table.delta(window.window.load, &items, catalog, digest)?;
     Ok(Rows::Hubs(rows))
 }
 
 // The rows that a window adds to a link.
-fn link_rows<H: KeyDigest, N: HubNames>(
+fn link_rows<'b, H: KeyDigest, N: HubNames>(
     alloc: Global,
     link: u32,
     table: &LinkTable,
     names: &N,
-    window: &HashedWindow<'_>,
+    window: &'b HashedWindow<'_>,
+    brought: &[Brought<'b>],
     catalog: &Catalog,
     digest: &H,
 ) -> Result<Rows, DeltaFault>
@@ -103,13 +108,14 @@ fn link_rows<H: KeyDigest, N: HubNames>(
     requires window { IsTrue (is_window catalog.now window.now.window.now) }
     requires gathered { IsHashedWindow (hashes_of H.function) window.now }
     requires dated { IsTrue (is_up_to window.now.window.now.load (Rows.Links table.now.rows)) }
+    requires brought { All (IsBrought catalog.now (hashes_of H.function) window.now.window.now) brought.now }
     ensures rows { IfOk result (λ rows. rows ≡ spec.added catalog.now (hashes_of H.function) window.now.window.now (TableId.Link link) (Rows.Links table.now.rows)) }
     ensures apart { IfOk result (λ rows. HasNoClash (spec.hashed catalog.now (hashes_of H.function) (N.names names.now) window.now.window.now (TableId.Link link) (Rows.Links table.now.rows))) }
     ensures collision { IfCollides result (IsLeastClash (spec.hashed catalog.now (hashes_of H.function) (N.names names.now) window.now.window.now (TableId.Link link) (Rows.Links table.now.rows))) }
     ensures follow { IfOk result (λ rows. Follow (Rows.Links table.now.rows) rows) }
     ensures stamped { IfOk result (λ rows. AreOfLoad window.now.window.now.load rows) }
 {
-    let items = deliveries(alloc, catalog, window, Parent::Link(link), digest)?;
+    let items = deliveries(alloc, catalog, window, Parent::Link(link), brought, digest)?;
     let rows = table.delta(window.window.load, &items, names, catalog, digest)?;
     Ok(Rows::Links(rows))
 }
@@ -228,12 +234,14 @@ impl Table {
     }
 
     /// The rows that a window adds. Where two different keys of a hub, or reference lists of a link, have one
-    /// hash key, the error is the least such pair.
-    pub(crate) fn delta<H: KeyDigest, N: HubNames>(
+    /// hash key, the error is the least such pair. What feeds bring to hubs and links that is gathered already is
+    /// not gathered again.
+    pub(crate) fn delta<'b, H: KeyDigest, N: HubNames>(
         &self,
         alloc: Global,
         names: &N,
-        window: &HashedWindow<'_>,
+        window: &'b HashedWindow<'_>,
+        brought: &[Brought<'b>],
         catalog: &Catalog,
         digest: &H,
     ) -> Result<Rows, DeltaFault>
@@ -242,6 +250,7 @@ impl Table {
         requires window { IsTrue (is_window catalog.now window.now.window.now) }
         requires gathered { IsHashedWindow (hashes_of H.function) window.now }
         requires dated { IsTrue (is_up_to window.now.window.now.load (entry_of self.now).rows) }
+        requires brought { All (IsBrought catalog.now (hashes_of H.function) window.now.window.now) brought.now }
         ensures rows { IfOk result (λ rows. rows ≡ added_to catalog.now (hashes_of H.function) window.now.window.now (entry_of self.now)) }
         ensures apart { IfOk result (λ rows. HasNoClash (hashed_in catalog.now (hashes_of H.function) (N.names names.now) window.now.window.now (entry_of self.now))) }
         ensures collision { IfCollides result (IsLeastClash (hashed_in catalog.now (hashes_of H.function) (N.names names.now) window.now.window.now (entry_of self.now))) }
@@ -249,9 +258,11 @@ impl Table {
         ensures stamped { IfOk result (λ rows. AreOfLoad window.now.window.now.load rows) }
     {
         match self {
-            Table::Hub { hub, rows } => hub_rows(alloc, *hub, rows, window, catalog, digest),
+            Table::Hub { hub, rows } => {
+                hub_rows(alloc, *hub, rows, window, brought, catalog, digest)
+            }
             Table::Link { link, rows } => {
-                link_rows(alloc, *link, rows, names, window, catalog, digest)
+                link_rows(alloc, *link, rows, names, window, brought, catalog, digest)
             }
             Table::Sat { feed, rows } => {
                 let extract = extract_of::<H>(catalog, window, *feed);

@@ -1,4 +1,4 @@
-ghost use Rattle.std.specs.Prelude.{◌≡◌, ◌<◌, [], Contains, IfErr, IfNone, IfOk, IfSome, IsTrue, length, map, position, true};
+ghost use Rattle.std.specs.Prelude.{◌≡◌, ◌<◌, ◌≤◌, [], Contains, IfErr, IfNone, IfOk, IfSome, IsTrue, length, map, position, true};
 ghost use Rattle.dv_text.specs.Keys.{hashes_of};
 ghost use Rattle.dv_catalog.specs.Mappings.{is_valid};
 ghost use Rattle.dv_catalog.specs.Tables.{tables};
@@ -17,13 +17,16 @@ use crate::begun::Begun;
 use crate::raw_tables::RawTables;
 use crate::tables::Table;
 use dv_catalog::{Catalog, TableId};
+use dv_crew::Order;
 use dv_hub_link::{HubTable, LinkTable};
+use dv_outside::Gate;
 use dv_records::Rows;
 use dv_sat::{MultiTable, SatTable};
 use dv_text::{KeyDigest, List, Memory, Stamp, Window, WindowHead};
 use dv_track::{EffectTable, StatusTable};
 use std::alloc::Global;
 use std::marker::Model;
+use std::thread::Threads;
 
 /// What is kept of the sealed windows: the raw tables of the mapping, and the windows' heads. Contracts see these.
 #[derive(Drop)]
@@ -197,6 +200,55 @@ impl Vault {
             .added(self.heads.allocator(), &self.catalog, window, digest)
     }
 
+    // As `batches`, worked out by so many workers.
+    fn batches_by<R: Threads + Sync, H: KeyDigest, G: Gate>(
+        &self,
+        rt: &R,
+        window: &Window,
+        workers: u32,
+        order: Order,
+        digest: &H,
+        gate: &G,
+    ) -> Result<List<Rows>, AdditionFault>
+        requires later { late_after (last_head self.now.heads) window.now.load ≡ None }
+        requires window { IsTrue (is_window self.now.mapping window.now) }
+        requires workers { (1 ≤ workers) × (workers ≤ 64) }
+        ensures rows { IfOk result (λ batches. batches ≡ spec.all_added (hashes_of H.function) self.now window.now) }
+        ensures apart { IfOk result (λ batches. spec.AreApart (hashes_of H.function) self.now window.now) }
+        ensures follow { IfOk result (spec.FollowAll window.now.load self.now.tables) }
+        ensures clashes { IfErr result (spec.Clashes (hashes_of H.function) self.now window.now) }
+    {
+        let alloc = self.heads.allocator();
+        self.raw.added_by(
+            rt,
+            alloc,
+            &self.catalog,
+            window,
+            workers,
+            order,
+            digest,
+            gate,
+        )
+    }
+
+    // A window that adds these rows to the tables, none of which has a row of it.
+    fn begun<H: KeyDigest>(&self, window: Window, rest: List<Rows>) -> Result<Begun, Memory>
+        requires later { late_after (last_head self.now.heads) window.load ≡ None }
+        requires window { IsTrue (is_window self.now.mapping window) }
+        requires rows { rest ≡ spec.all_added (hashes_of H.function) self.now window }
+        requires apart { spec.AreApart (hashes_of H.function) self.now window }
+        requires follow { spec.FollowAll window.load self.now.tables rest }
+        ensures adds { IfOk result (IsAddition (hashes_of H.function) self.now window) }
+        ensures fits { IfOk result (Fits self.now) }
+    {
+        let alloc = self.heads.allocator();
+        let weight_before = self.weight;
+        let weight = weight_with(weight_before, rest.items())?;
+        let opened = none_of_all(alloc, &self.raw.tables)?;
+        let begun = Begun::of(alloc, window, opened, rest, weight)?;
+        Ok(begun)
+    }
+
     /// What a window adds to the vault, of which no table has a row. Where it makes a collision, the fault names the first
     /// table that has one, and the least pair there. Condition: it is a window of the mapping, later than the last sealed
     /// one.
@@ -207,12 +259,32 @@ impl Vault {
         ensures fits { IfOk result (Fits self.now) }
         ensures clashes { IfErr result (spec.Clashes (hashes_of H.function) self.now window) }
     {
-        let alloc = self.heads.allocator();
-        let weight_before = self.weight;
         let rest = self.batches(&window, digest)?;
-        let weight = weight_with(weight_before, rest.items())?;
-        let opened = none_of_all(alloc, &self.raw.tables)?;
-        let begun = Begun::of(alloc, window, opened, rest, weight)?;
+        let begun = self.begun::<H>(window, rest)?;
+        Ok(begun)
+    }
+
+    /// As `addition`, worked out by so many workers, one of them on the calling thread. They begin the tasks of the window
+    /// in the given order, and pass the gate before and after each. The number of workers, the order and the gate change
+    /// nothing of what is added.
+    pub fn addition_by<R: Threads + Sync, H: KeyDigest, G: Gate>(
+        &self,
+        rt: &R,
+        window: Window,
+        workers: u32,
+        order: Order,
+        digest: &H,
+        gate: &G,
+    ) -> Result<Begun, AdditionFault>
+        requires later { late_after (last_head self.now.heads) window.load ≡ None }
+        requires window { IsTrue (is_window self.now.mapping window) }
+        requires workers { (1 ≤ workers) × (workers ≤ 64) }
+        ensures adds { IfOk result (IsAddition (hashes_of H.function) self.now window) }
+        ensures fits { IfOk result (Fits self.now) }
+        ensures clashes { IfErr result (spec.Clashes (hashes_of H.function) self.now window) }
+    {
+        let rest = self.batches_by(rt, &window, workers, order, digest, gate)?;
+        let begun = self.begun::<H>(window, rest)?;
         Ok(begun)
     }
 }

@@ -1,38 +1,36 @@
 use Rattle.dv_vault.proofs.Vocabulary.{◌≡◌, ◌∙◌, ◌+◌, List, Rows, TableRows, ArePartsOf, FollowAll, RawVault, Window, ap, arith, entries_with, entry_of, is_window, last_head, late_after, map, no_rows, opened_in, rest_in, row_count, rows_weight, subst, sum_by, sym, tables_weight, whole_in}
 use Rattle.dv_vault.proofs.NewWindows.{new_kinds, new_whole, none_counted}
 use Rattle.dv_vault.proofs.Taken.{weight_grows}
-use Rattle.dv_vault.proofs.vaults.Vault.addition.Goals as goal
+use Rattle.dv_vault.proofs.vaults.Vault.begun.Goals as goal
 
 pub returns-clause-adds : goal.returns-clause-adds
 returns-clause-adds g c =
     let made = c.in_ok-begun.ensures {u = tt} in
-    let batches = c.in_ok-rest.ensures {u = tt} in
     let raw = c.args.self.now in
     let none : opened_in c.in_ok-begun.begun.parts.items ≡ map (λ (entry : TableRows). no_rows entry.table) raw.tables =
     made.opened ∙ c.in_ok-opened.ensures {u = tt} ∙ ap (λ tables. map (λ (entry : TableRows). no_rows entry.table) (map entry_of tables)) c.deref.ensures.value ∙ ap (λ (raw : RawVault). map (λ (entry : TableRows). no_rows entry.table) raw.tables) c.self.view_is in
     let nothing : sum_by row_count c.in_ok-opened.opened ≡ 0 = ap (sum_by row_count) (sym made.opened ∙ none) ∙ none_counted raw.tables in
-    let counted : sum_by row_count c.in_ok-rest.rest ≡ sum_by row_count (rest_in c.in_ok-begun.begun.parts.items) = ap (sum_by row_count) (sym made.rest) in
+    let counted : sum_by row_count c.args.rest ≡ sum_by row_count (rest_in c.in_ok-begun.begun.parts.items) = ap (sum_by row_count) (sym made.rest) in
     let rows = made.rows in
     record {
       window_is = made.window;
       none_there = none;
-      rest_is = made.rest ∙ batches.rows;
-      apart = batches.apart;
+      rest_is = made.rest ∙ c.requires.rows;
+      apart = c.requires.apart;
       rows_are = omega (arith, rows, nothing, counted);
       weight_is = made.weight ∙ c.in_ok-weight.ensures {u = tt}
           ∙ ap (λ n. n + sum_by rows_weight c.items.result.now) (c.self.invariant.3 ∙ ap (λ (raw : RawVault). tables_weight raw.tables) c.self.view_is)
-          ∙ ap (λ items. tables_weight raw.tables + sum_by rows_weight items) (c.items.ensures ∙ batches.rows);
+          ∙ ap (λ items. tables_weight raw.tables + sum_by rows_weight items) (c.items.ensures ∙ c.requires.rows);
     }
 
 pub returns-clause-fits : goal.returns-clause-fits
 returns-clause-fits g c =
     let made = c.in_ok-begun.ensures {u = tt} in
-    let batches = c.in_ok-rest.ensures {u = tt} in
     let raw = c.args.self.now in
     let adds = returns-clause-adds g c in
     let parts = c.in_ok-begun.begun.parts.items in
     let tables : map entry_of c.self.inside.raw.tables.items ≡ raw.tables = ap (λ (raw : RawVault). raw.tables) c.self.view_is in
-    let follow : FollowAll c.args.window.load raw.tables (rest_in parts) = subst (FollowAll c.args.window.load raw.tables) (sym made.rest) batches.follow in
+    let follow : FollowAll c.args.window.load raw.tables (rest_in parts) = subst (FollowAll c.args.window.load raw.tables) (sym made.rest) c.requires.follow in
     let kinds : ArePartsOf raw.tables parts =
     subst (λ (entries : List TableRows). ArePartsOf entries parts) tables
     (new_kinds c.self.inside.raw.tables.items parts (adds.none_there ∙ ap (map (λ (entry : TableRows). no_rows entry.table)) (sym tables))

@@ -1,5 +1,5 @@
 use Rattle.dv_vault.proofs.Vocabulary.{◌≡◌, map, take, all_offered, hashes_of, offered_by}
-use Rattle.dv_vault.proofs.offers.all_offers.Given as goal
+use Rattle.dv_vault.proofs.deliveries.all_offers.Given as goal
 
 abbrev pub invariant-loop-extract : goal.invariant-loop-extract
 invariant-loop-extract g l =

@@ -1,6 +1,6 @@
 use Rattle.dv_vault.proofs.Vocabulary.{rules, ◌∙◌, always_returns_same, dedup_same, refs_eq, Offer, refs-tie, firsts-sort_dedup}
 use Rattle.dv_vault.proofs.SortedOffers.{offers_total}
-use Rattle.dv_vault.proofs.offers.first_offers.Goals as goal
+use Rattle.dv_vault.proofs.deliveries.first_offers.Goals as goal
 
 pub returns : goal.returns
 returns c =

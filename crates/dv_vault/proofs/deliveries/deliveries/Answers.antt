@@ -3,7 +3,7 @@ use Rattle.dv_text.proofs.Vocabulary.{IfOk-weaker}
 use Rattle.dv_vault.specs.DeliverySets.{AreDeliveriesOf}
 use Rattle.dv_vault.proofs.DeliverySets.{deliveries_are}
 use Rattle.dv_vault.proofs.SortedOffers.{all_hashed, offers_fit, sorted_offers}
-use Rattle.dv_vault.proofs.offers.deliveries.Goals as goal
+use Rattle.dv_vault.proofs.deliveries.deliveries.Goals as goal
 
 pub to_deliveries-requires-after_bounds : goal.to_deliveries-requires-after_bounds
 to_deliveries-requires-after_bounds g c κs within =

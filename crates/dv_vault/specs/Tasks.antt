@@ -1,0 +1,106 @@
+-- The tasks of a window, which can be done in any order, and what each gives.
+use Rattle.std.specs.Prelude.{◌≡◌, ℕ, ◌==◌, ◌&&◌, All, Bool, List, [], ◌∷◌, ◌++◌, Result, Some, IfOk, IfSome, map, slice_get}
+use Rattle.std.specs.List.{flat_map}
+use Rattle.std.specs.Option.{option_map, option_map_or}
+use Rattle.dv_text.specs.declared.rows.Staged.{Staged}
+use Rattle.dv_text.specs.declared.rows.Window.{Window}
+use Rattle.dv_text.specs.Keys.{Hashes}
+use Rattle.dv_catalog.specs.declared.entries.FeedDef.{FeedDef}
+use Rattle.dv_catalog.specs.declared.entries.Parent.{Parent}
+use Rattle.dv_catalog.specs.declared.tables.TableId.{TableId}
+use Rattle.dv_catalog.specs.declared.tables.TableId.TheVariants as ids
+use Rattle.dv_catalog.specs.Entries.{Mapping}
+use Rattle.dv_catalog.specs.Feeds.{parent_eq}
+use Rattle.dv_catalog.specs.Tables.{effect_tables, sat_tables}
+use Rattle.dv_records.specs.declared.deliveries.DeltaFault.{DeltaFault}
+use Rattle.dv_records.specs.declared.stores.Rows.{Rows}
+use Rattle.dv_records.specs.declared.stores.TableRows.{TableRows}
+use Rattle.dv_records.specs.Deliveries.{refs_from}
+use Rattle.dv_records.specs.Deltas.{HasNoClash, IfCollides, IsLeastClash}
+use Rattle.dv_records.specs.HubNames.{HubName}
+use Rattle.dv_records.specs.RowViews.{AreOfLoad}
+use Rattle.dv_vault.specs.declared.brought.Brought.{Brought}
+use Rattle.dv_vault.specs.declared.tasks.Task.{Task}
+use Rattle.dv_vault.specs.declared.tasks.Task.TheVariants.{Batch, Keys}
+use Rattle.dv_vault.specs.declared.results.Found.{Found}
+use Rattle.dv_vault.specs.declared.results.TableBatch.{TableBatch}
+use Rattle.dv_vault.specs.declared.results.TaskResult.{TaskResult}
+use Rattle.dv_vault.specs.declared.results.TaskResult.TheVariants as gives
+use Rattle.dv_vault.specs.Offered.{kept, offered_by}
+use Rattle.dv_vault.specs.Vaults.{Follow, added_to, hashed_in, staged_of}
+
+-- ---- the tasks
+
+-- the tables of a feed: its satellite, plain or multi-active, its status and its effectivity, where it has them
+abbrev pub feed_block : ℕ → FeedDef → List TableId
+feed_block n feed = sat_tables n feed.sub feed.attrs ++ ids.Status n ∷ effect_tables n feed.driver
+
+abbrev pub tables_of_feed : Mapping → ℕ → List TableId
+tables_of_feed mapping feed = option_map_or (feed_block feed) (slice_get mapping.feeds feed) []
+
+-- the tasks of a feed: its keys, then its tables
+abbrev pub feed_tasks : Mapping → ℕ → List Task
+feed_tasks mapping feed = Keys feed ∷ map (λ table. Batch table) (tables_of_feed mapping feed)
+
+-- the tasks of a window, in the order of their numbers: those of each of its feeds, which stand in declared order
+abbrev pub tasks : Mapping → Window → List Task
+tasks mapping window = flat_map (λ staged. feed_tasks mapping staged.feed) window.extracts
+
+-- ---- what a feed's rows bring
+
+-- where it is of the feed of an extract, it is what the extract's rows bring
+abbrev pub IsOfRows : Mapping → Hashes → Staged → Brought → Type 0
+IsOfRows mapping hashes staged brought =
+    brought.feed ≡ staged.feed → map (offered_by hashes) brought.offers.items ≡ kept hashes staged.feed (refs_from mapping brought.parent staged)
+
+-- what the rows of a feed of a window bring to a hub or a link
+pub record IsBrought (mapping : Mapping) (hashes : Hashes) (window : Window) (brought : Brought) : Type 0 where
+  pub staged : Staged
+  pub there : staged_of brought.feed window ≡ Some staged
+  pub offers : IsOfRows mapping hashes staged brought
+
+-- whether it is what a feed brings to a hub or a link
+abbrev pub is_by : ℕ → Parent → Brought → Bool
+is_by feed parent brought = (brought.feed == feed) && parent_eq brought.parent parent
+
+-- ---- what a window adds to a table
+
+-- the rows that a window adds to a table with its rows, or the least collision that it makes
+pub record IsDelta (mapping : Mapping) (hashes : Hashes) (names : List HubName) (window : Window) (entry : TableRows) (result : Result Rows DeltaFault) : Type 0 where
+  pub rows : IfOk result (λ rows. rows ≡ added_to mapping hashes window entry)
+  pub apart : IfOk result (λ rows. HasNoClash (hashed_in mapping hashes names window entry))
+  pub collision : IfCollides result (IsLeastClash (hashed_in mapping hashes names window entry))
+  pub follow : IfOk result (λ rows. Follow entry.rows rows)
+  pub stamped : IfOk result (λ rows. AreOfLoad window.load rows)
+
+-- what a window adds to the table at a place among tables
+pub record IsBatch (mapping : Mapping) (hashes : Hashes) (names : List HubName) (window : Window) (entries : List TableRows) (batch : TableBatch) : Type 0 where
+  pub entry : TableRows
+  pub there : slice_get entries batch.place ≡ Some entry
+  pub delta : IsDelta mapping hashes names window entry batch.rows
+
+-- ---- results
+
+-- what a task gives: of keys, what the rows of its feed bring; of a table, what the window adds to it
+abbrev pub IsResultOf : Mapping → Hashes → List HubName → Window → List TableRows → Task → TaskResult → Type 0
+IsResultOf mapping hashes names window entries (Keys feed) (gives.Keys brought) = All (λ one. (one.feed ≡ feed) × IsBrought mapping hashes window one) brought.items
+IsResultOf mapping hashes names window entries (Batch table) (gives.Batch batch) = IsBatch mapping hashes names window entries batch × (option_map (λ entry. entry.table) (slice_get entries batch.place) ≡ Some table)
+IsResultOf mapping hashes names window entries task result = ⊥
+
+-- what the task at a place among the tasks of a window gives
+abbrev pub IsResultAt : Mapping → Hashes → List HubName → Window → List TableRows → ℕ → TaskResult → Type 0
+IsResultAt mapping hashes names window entries place given = IfSome (slice_get (tasks mapping window) place) (λ task. IsResultOf mapping hashes names window entries task given)
+
+-- what the tasks of a window, or some of them, have given
+pub record IsFound (mapping : Mapping) (hashes : Hashes) (names : List HubName) (window : Window) (entries : List TableRows) (found : Found) : Type 0 where
+  pub brought : All (IsBrought mapping hashes window) found.brought.items
+  pub batches : All (IsBatch mapping hashes names window entries) found.batches.items
+
+-- what a result has of keys, and of rows
+abbrev pub brought_in : TaskResult → List Brought
+brought_in (gives.Keys brought) = brought.items
+brought_in (gives.Batch batch) = []
+
+abbrev pub batches_in : TaskResult → List TableBatch
+batches_in (gives.Keys brought) = []
+batches_in (gives.Batch batch) = batch ∷ []
