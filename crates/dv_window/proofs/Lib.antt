@@ -7,8 +7,11 @@ pub mod KeptSnapshots
 pub mod OutcomeSteps
 pub mod PlanFacts
 pub mod Refreshed
+pub mod Rooms
 pub mod SealedAgain
+pub mod Sendable
 pub mod StartFacts
 pub mod Stepped
 pub mod StoredDates
+pub mod TriedFeeds
 pub mod Vocabulary

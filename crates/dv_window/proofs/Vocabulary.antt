@@ -64,3 +64,20 @@ pub use Rattle.dv_vault.proofs.Vocabulary.{AllZip, AllZip-long, Bor, Follow, has
 pub use Rattle.dv_records.proofs.Vocabulary.{by_place, is_placed, position}
 pub use Rattle.dv_restore.specs.Completions.{rows_there}
 pub use Rattle.std.proofs.Common.{length-take}
+pub use Rattle.dv_text.proofs.Vocabulary.{nat_tests, ◌+◌}
+pub use Rattle.dv_catalog.specs.Readings.{read_by, reads, records_read, rule_or_rows, taken_count, two_drivers}
+pub use Rattle.dv_catalog.specs.Readings.Read.{Taken}
+pub use Rattle.dv_catalog.specs.Records.{record_rule, records_rule, row_of, ragged, not_utf8, field_long, empty_key, two_rows}
+pub use Rattle.dv_catalog.specs.Headers.{header_names, header_rule}
+pub use Rattle.dv_catalog.specs.declared.rules.Rule.TheVariants.{TooManyRows}
+pub use Rattle.dv_catalog.specs.Extracts.{extract_records}
+pub use Rattle.dv_catalog.specs.declared.entries.FeedDef.{FeedDef}
+pub use Rattle.dv_catalog.specs.Windows.{extract_at, room_after, PlacedExtract}
+pub use Rattle.dv_catalog.specs.declared.windows.ExtractIn.{ExtractIn}
+pub use Rattle.dv_window_rules.specs.Staging.{read_at}
+pub use Rattle.dv_window_rules.proofs.FeedSteps.{fault_told, feed_absent, feed_read, rows_taken, rows_from, rule_from}
+pub use Rattle.dv_window.specs.Stagings.{AreTried, IsTried}
+pub use Rattle.dv_stage.specs.declared.stages.Staged2.{Staged2}
+pub use Rattle.dv_crew.specs.Results.{AreResults}
+pub use Rattle.dv_text.proofs.Vocabulary.{◌*◌, ◌-◌, ◌^◌}
+pub use Rattle.std.proofs.lemmas.Result.{err_from_is_err_and}

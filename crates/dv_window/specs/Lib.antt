@@ -1,5 +1,6 @@
 pub mod Offices
 pub mod Plans
 pub mod Snapshots
+pub mod Stagings
 pub mod Stopping
 pub mod Takings

@@ -9,9 +9,13 @@ mod refreshes;
 mod refusals;
 mod resumes;
 mod snapshots;
+mod stagings;
 mod starts;
 mod stops;
 mod takings;
+mod workers;
 
+pub use dv_crew::Order;
 pub use dv_restore::{StartFault, StoreFault};
-pub use offices::{Office, Order};
+pub use offices::Office;
+pub use workers::workers_for;

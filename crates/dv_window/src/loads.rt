@@ -8,24 +8,31 @@ ghost use Rattle.dv_records.specs.States.{State};
 ghost use Rattle.dv_restore.specs.Damages.{IsNamed};
 ghost use Rattle.dv_window.specs.Offices.{AgreesUnlessStale, IsDamageFor, IsIn, LeavesOffice, LeavesStore, StaleAfter, StandsFor, StepsTo};
 
-use crate::offices::{Office, Order};
+use crate::offices::Office;
 use crate::plans::Planned;
 use crate::stops::{load_answer, unrefreshed};
 use dv_catalog::WindowIn;
+use dv_crew::Order;
 use dv_outside::Gate;
 use dv_records::{Keeper, LoadAnswer};
 use dv_text::KeyDigest;
+use std::thread::Threads;
 
 impl Office {
     // Loads a window into an office that isn't stale.
-    fn load_fresh<K: Keeper, H: KeyDigest>(
+    fn load_fresh<R: Threads + Sync, K: Keeper, H: KeyDigest, G: Gate>(
         &mut self,
+        rt: &R,
         keeper: &mut K,
         given: &WindowIn,
+        workers: u32,
+        order: Order,
         digest: &H,
+        gate: &G,
     ) -> LoadAnswer
         requires fresh { self.old.stale ≡ false }
         requires agrees { AgreesUnlessStale self.old (K.store keeper.old) }
+        requires workers { (1 ≤ workers) × (workers ≤ 64) }
         ensures step { (state : State) → IsIn (hashes_of H.function) state self.old (K.store keeper.old) → StepsTo self.old.vault.mapping (hashes_of H.function) state given.now result self.new (K.store keeper.new) }
         ensures answer { (state : State) → StandsFor (hashes_of H.function) state self.old → StepsTo self.old.vault.mapping (hashes_of H.function) state given.now result self.new None }
         ensures kept { LeavesOffice result self.old self.new }
@@ -39,7 +46,7 @@ impl Office {
         ensures cause { result ≡ LoadAnswer.KeeperFault → Rose (K.faults keeper.old) (K.faults keeper.new) }
         ensures later { K.faults keeper.old ≤ K.faults keeper.new }
     {
-        match self.plan(given, digest) {
+        match self.plan(rt, given, workers, order, digest, gate) {
             Ok(Planned::New(begun)) => load_answer(self.carry_out(keeper, false, begun)),
             Ok(Planned::Open) => match self.complete(keeper) {
                 Some(completed) => load_answer(completed),
@@ -62,16 +69,21 @@ impl Office {
     /// `Memory`, the keeper's store stands for the state before, or has this window open, or has it
     /// sealed. All memory that the window needs is taken before the store changes. Conditions: the
     /// keeper's store, where it is told, is what the office holds, unless this is stale; and 1 to 64
-    /// workers. One loader works through the tables in declared order, whatever `workers` and
-    /// `order` say.
-    pub fn load<K: Keeper, H: KeyDigest, G: Gate>(
+    /// workers.
+    ///
+    /// So many workers, one of them on this thread, stage the extracts and work out what the window
+    /// adds to the tables. `order` is that in which the tasks of the tables are begun, and `gate` is
+    /// passed before and after each of them. Neither workers nor order nor gate change what comes of
+    /// the window: no clause depends on them. `Memory` comes where any worker ran out of it.
+    pub fn load<R: Threads + Sync, K: Keeper, H: KeyDigest, G: Gate>(
         &mut self,
+        rt: &R,
         keeper: &mut K,
         given: &WindowIn,
         workers: u32,
-        _order: Order,
+        order: Order,
         digest: &H,
-        _gate: &G,
+        gate: &G,
     ) -> LoadAnswer
         requires agrees { AgreesUnlessStale self.old (K.store keeper.old) }
         requires workers { (1 ≤ workers) × (workers ≤ 64) }
@@ -93,6 +105,6 @@ impl Office {
         if let Err(fault) = self.refresh(keeper, digest) {
             return unrefreshed(fault);
         }
-        self.load_fresh(keeper, given, digest)
+        self.load_fresh(rt, keeper, given, workers, order, digest, gate)
     }
 }

@@ -41,13 +41,6 @@ impl Model for Office {
     ghost invariant = { λ o. KeepLimits o.snapshots × IfSome o.begun (Fits o.vault) };
 }
 
-/// The order in which the tasks of a window are worked through.
-#[derive(Clone, Copy, Debug, PartialEq, Eq)]
-pub enum Order {
-    Declared,
-    Reverse,
-}
-
 // The rows that are there of a window in the table at a place; none past the last one.
 fn opened_at(parts: &[Part], place: usize) -> Option<&Rows>
     ensures { option_map (λ rows. rows.now) result ≡ slice_get (opened_in parts.now) place }

@@ -1,5 +1,5 @@
 // What is decided of a window before a keeper hears of it.
-ghost use Rattle.std.specs.Prelude.{◌≡◌, IfErr, IfOk, IfSome, IsTrue, None, Some, length, nat_lt, option_map};
+ghost use Rattle.std.specs.Prelude.{◌≡◌, ◌≤◌, IfErr, IfOk, IfSome, IsTrue, None, Some, length, nat_lt, option_map};
 ghost use Rattle.std.specs.List.{list_all};
 ghost use Rattle.dv_text.specs.Keys.{hashes_of};
 ghost use Rattle.dv_catalog.specs.Windows.{window_of};
@@ -12,13 +12,17 @@ ghost use Rattle.dv_window.specs.Plans.{IsPlan, IsPlanned, Stops};
 
 use crate::offices::Office;
 use crate::refusals::addition;
+use crate::stagings::stage_extracts;
 use crate::stops::Stop;
 use dv_catalog::{Rule, WindowIn};
 use dv_contents::content;
+use dv_crew::Order;
+use dv_outside::Gate;
 use dv_text::{KeyDigest, List, Memory, Staged, Stamp, Window, WindowHead};
 use dv_vault::{Begun, Vault};
-use dv_window_rules::{differs, full, given_rule, late, open_other, stage_window, too_long};
+use dv_window_rules::{differs, full, given_rule, late, open_other, too_long};
 use std::alloc::Global;
+use std::thread::Threads;
 
 /// What is to be done for a window that breaks no rule: what it adds is taken, or the open window, which it is again, is
 /// completed.
@@ -113,7 +117,13 @@ impl Office {
     }
 
     // The window that the extracts read as, or the first rule, W1 to W18, that is broken.
-    fn window_of(&self, given: &WindowIn) -> Result<Window, Stop>
+    fn window_of<R: Threads + Sync>(
+        &self,
+        rt: &R,
+        given: &WindowIn,
+        workers: u32,
+    ) -> Result<Window, Stop>
+        requires workers { (1 ≤ workers) × (workers ≤ 64) }
         ensures early { IfOk result (λ window. spec.early_rule self.now.vault (staged self.now) given.now ≡ None) }
         ensures window { IfOk result (λ window. window ≡ window_of self.now.vault.mapping given.now) }
         ensures whole { IfOk result (λ window. IsTrue (is_window self.now.vault.mapping window)) }
@@ -124,17 +134,22 @@ impl Office {
         if let Some(rule) = self.given_rule(given)? {
             return Err(Stop::Refused(rule));
         }
-        let window = stage_window(self.allocator(), catalog, given)?;
+        let window = stage_extracts(rt, self.allocator(), catalog, given, workers)?;
         Ok(window)
     }
 
     // What a new window adds to the vault, or why it can't. No window is open.
-    fn plan_new<H: KeyDigest>(
+    fn plan_new<R: Threads + Sync, H: KeyDigest, G: Gate>(
         &self,
+        rt: &R,
         given: &WindowIn,
         window: Window,
+        workers: u32,
+        order: Order,
         digest: &H,
+        gate: &G,
     ) -> Result<Begun, Stop>
+        requires workers { (1 ≤ workers) × (workers ≤ 64) }
         requires passes { spec.IsNewWindow self.now.vault (staged self.now) given.now }
         requires none_open { staged self.now ≡ None }
         requires window { window ≡ window_of self.now.vault.mapping given.now }
@@ -142,7 +157,7 @@ impl Office {
         ensures plan { IfOk result (IsPlan (hashes_of H.function) self.now.vault (staged self.now) given.now) }
         ensures stops { IfErr result (Stops (hashes_of H.function) self.now.vault (staged self.now) given.now) }
     {
-        let begun = addition(&self.vault, window, digest)?;
+        let begun = addition(rt, &self.vault, window, workers, order, digest, gate)?;
         let windows = count_windows(self.heads().items())?;
         match too_full(begun.weight, windows) {
             Some(rule) => Err(Stop::Refused(rule)),
@@ -151,17 +166,26 @@ impl Office {
     }
 
     /// What is decided of a window: what is to be done for it, or why it is not loaded.
-    pub(crate) fn plan<H: KeyDigest>(&self, given: &WindowIn, digest: &H) -> Result<Planned, Stop>
+    pub(crate) fn plan<R: Threads + Sync, H: KeyDigest, G: Gate>(
+        &self,
+        rt: &R,
+        given: &WindowIn,
+        workers: u32,
+        order: Order,
+        digest: &H,
+        gate: &G,
+    ) -> Result<Planned, Stop>
+        requires workers { (1 ≤ workers) × (workers ≤ 64) }
         ensures plan { IfOk result (IsPlanned (hashes_of H.function) self.now given.now) }
         ensures stops { IfErr result (Stops (hashes_of H.function) self.now.vault (staged self.now) given.now) }
         ensures valid_mapping { IsTrue (is_valid self.now.vault.mapping) }
     {
-        let window = self.window_of(given)?;
+        let window = self.window_of(rt, given, workers)?;
         if let Some(head) = self.head_at(given.load) {
             return Err(again(self.allocator(), &self.vault, head, &window)?);
         }
         let Some(open) = self.staged() else {
-            let begun = self.plan_new(given, window, digest)?;
+            let begun = self.plan_new(rt, given, window, workers, order, digest, gate)?;
             return Ok(Planned::New(begun));
         };
         match differs(Some(open), &window) {

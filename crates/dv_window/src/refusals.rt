@@ -1,5 +1,5 @@
 // What a window adds, or the rule of the collision that it makes.
-ghost use Rattle.std.specs.Prelude.{◌≡◌, IfErr, IfOk, IsTrue, None};
+ghost use Rattle.std.specs.Prelude.{◌≡◌, ◌≤◌, IfErr, IfOk, IsTrue, None};
 ghost use Rattle.dv_text.specs.Keys.{hashes_of};
 ghost use Rattle.dv_records.specs.Outcomes.{late_after};
 ghost use Rattle.dv_records.specs.States.{is_window};
@@ -9,8 +9,11 @@ ghost use Rattle.dv_window.specs.Plans as spec;
 
 use crate::stops::Stop;
 use dv_catalog::{Catalog, Rule};
+use dv_crew::Order;
+use dv_outside::Gate;
 use dv_text::{KeyDigest, Memory, Window};
 use dv_vault::{AdditionFault, Begun, Vault};
+use std::thread::Threads;
 
 // What a fault of an addition is answered as.
 fn refusal(catalog: &Catalog, fault: AdditionFault) -> Result<Stop, Memory>
@@ -34,18 +37,23 @@ fn refusal(catalog: &Catalog, fault: AdditionFault) -> Result<Stop, Memory>
 }
 
 /// What a window adds to a vault, or the rule of the collision that it makes.
-pub(crate) fn addition<H: KeyDigest>(
+pub(crate) fn addition<R: Threads + Sync, H: KeyDigest, G: Gate>(
+    rt: &R,
     vault: &Vault,
     window: Window,
+    workers: u32,
+    order: Order,
     digest: &H,
+    gate: &G,
 ) -> Result<Begun, Stop>
     requires later { late_after (last_head vault.now.heads) window.load ≡ None }
     requires window { IsTrue (is_window vault.now.mapping window) }
+    requires workers { (1 ≤ workers) × (workers ≤ 64) }
     ensures adds { IfOk result (IsAddition (hashes_of H.function) vault.now window) }
     ensures fits { IfOk result (Fits vault.now) }
     ensures stops { IfErr result (spec.StopsRows (hashes_of H.function) vault.now window) }
 {
-    match vault.addition(window, digest) {
+    match vault.addition_by(rt, window, workers, order, digest, gate) {
         Ok(begun) => Ok(begun),
         Err(fault) => Err(refusal(vault.catalog(), fault)?),
     }

@@ -3,7 +3,7 @@ use Rattle.dv_window.proofs.PlanFacts.{early_none, read_whole}
 use Rattle.dv_window.proofs.offices.Office.window_of.Goals as goal
 
 pub returns-clause-whole : goal.returns-clause-whole
-returns-clause-whole c =
+returns-clause-whole g c =
     let raw = c.args.self.now.vault in
     let read : (window_rule raw.mapping c.args.given.now ≡ None) × (c.in_ok-window.window ≡ window_of raw.mapping c.args.given.now) =
     subst (λ (mapping : Mapping). (window_rule mapping c.args.given.now ≡ None) × (c.in_ok-window.window ≡ window_of mapping c.args.given.now)) c.catalog-catalog.ensures.value (c.in_ok-window.ensures {u = tt}).ok in
