@@ -1,9 +1,12 @@
 pub mod EndSteps
+pub mod ExerciseSteps
+pub mod GeneratedSteps
 pub mod InitSteps
 pub mod LineSteps
 pub mod LoadSteps
 pub mod ManifestSteps
 pub mod OpenSteps
+pub mod OptionSteps
 pub mod QuerySteps
 pub mod RunSteps
 pub mod SnapshotSteps

@@ -59,7 +59,7 @@ Opens _ = Unit {0}
 
 -- so does each over the office
 pub office_opens : (command : OfficeCommand) → Opens (office_command command)
-office_opens (office_commands.Load manifest) = tt
+office_opens (office_commands.Load manifest options) = tt
 office_opens office_commands.Resume = tt
 office_opens (office_commands.Mart what date) = tt
 office_opens (office_commands.Table name) = tt

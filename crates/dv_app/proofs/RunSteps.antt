@@ -20,10 +20,11 @@ use Rattle.dv_app.specs.Causes.{IsCaused}
 use Rattle.dv_app.specs.Says.{Trial, TrialSays, TrySays, Wanted, trial_of, tried_of}
 use Rattle.dv_app.specs.Changes.{IsRefusal, IsText, Leaves, LeavesStore, MayChange}
 use Rattle.dv_app.specs.Kept.{IsBroken, memory_said}
+use Rattle.dv_app.specs.Exercised.{ExerciseSays}
 use Rattle.dv_app.specs.Places.{places_of}
 use Rattle.dv_app.specs.Replies.{EndsAs, IsCauseOf}
 use Rattle.dv_app.specs.Run.{ChangesAsSaid, CommandCompletes, CommandSays, DamageIsNamed, Ends, EndsAside, HadAll, IsCause, NoneFell, Ran, usage_said}
-use Rattle.dv_app.specs.Words.{Command, Init, KeptCommand, Load, Mart, NoCommand, OnKeeper, Resume, Snapshot, Stored, Table, Tries, Windows, asked_of}
+use Rattle.dv_app.specs.Words.{Command, Exercises, Init, KeptCommand, Load, Mart, NoCommand, OnKeeper, Resume, Snapshot, Stored, Table, Tries, Windows, asked_of}
 use Rattle.dv_app.specs.Works.{Does}
 
 -- ---- what is written
@@ -120,20 +121,23 @@ module _ (function : DigestFunction) (w : World Store) (result : Status) where
       }
 
     module _ (same : w.keeper.new ≡ w.keeper.old) where
-      -- ---- `try`
+      -- ---- a command that keeps nothing
+
+      caused : (asked : Command) (status : Status) → IsCaused (sight_of w) status → IsCause asked w status
+      caused asked statuses.Done cause = tt
+      caused asked statuses.Refused cause = cause
+      caused asked statuses.Usage cause = absurd cause
+      caused asked statuses.Mapping cause = (cause.0, inl cause.1, cause.2)
+      caused asked statuses.ReadFault cause = cause
+      caused asked statuses.KeeperFault cause = absurd cause
+      caused asked statuses.WriteFault cause = cause
+      caused asked statuses.Memory cause = cause
+      caused asked statuses.Damaged cause = absurd cause
+
+      never_damaged : IsCaused (sight_of w) result → result ≡ statuses.Damaged → ⊥
+      never_damaged cause damaged = subst (IsCaused (sight_of w)) damaged cause
 
       module _ (asked : Wanted) (is : asked_of words ≡ Tries asked) (cause : IsCaused (sight_of w) result) (says : TrySays function asked (sight_of w) result) where
-        try_cause : (status : Status) → IsCaused (sight_of w) status → IsCause (Tries asked) w status
-        try_cause statuses.Done cause = tt
-        try_cause statuses.Refused cause = cause
-        try_cause statuses.Usage cause = absurd cause
-        try_cause statuses.Mapping cause = (cause.0, inl cause.1, cause.2)
-        try_cause statuses.ReadFault cause = cause
-        try_cause statuses.KeeperFault cause = absurd cause
-        try_cause statuses.WriteFault cause = cause
-        try_cause statuses.Memory cause = cause
-        try_cause statuses.Damaged cause = absurd cause
-
         gives_by : HadAll w result → (t : Trial) (status : Status) → result ≡ status → IsCaused (sight_of w) status → TrialSays t (sight_of w) status → Gives (tried_of t) w.out w.err status
         gives_by had t statuses.Done e cause gives = gives
         gives_by had t statuses.Refused e cause gives = gives
@@ -144,18 +148,36 @@ module _ (function : DigestFunction) (w : World Store) (result : Status) where
         gives_by had t statuses.WriteFault e cause cut = absurd (⊎_elim had.text had.lines cause)
         gives_by had t status e cause none = absurd none
 
-        never_damaged : result ≡ statuses.Damaged → ⊥
-        never_damaged damaged = subst (IsCaused (sight_of w)) damaged cause
-
         pub tries_ran : Ran words function w result
         tries_ran = record {
           says = inl (subst (λ c. CommandSays c function w result) (sym is) says);
           complete = λ had. subst (λ c. CommandCompletes c function w result) (sym is) (λ files e. gives_by had (trial_of function asked files) result refl cause (says files e));
-          causes = subst (λ c. IsCause c w result) (sym is) (try_cause result cause);
+          causes = subst (λ c. IsCause c w result) (sym is) (caused (Tries asked) result cause);
           leaves = λ leaves. same;
           changes = subst (λ c. ChangesAsSaid c w result) (sym is) same;
-          damaged = λ damaged. absurd (never_damaged damaged);
-          sound = λ damaged standing. never_damaged damaged;
+          damaged = λ damaged. absurd (never_damaged cause damaged);
+          sound = λ damaged standing. never_damaged cause damaged;
+          kept = kept;
+          later = fell;
+        }
+
+      module _ (count : ℕ) (is : asked_of words ≡ Exercises count) (cause : IsCaused (sight_of w) result) (says : ExerciseSays function count w.out w.err result) where
+        exercised_whole : HadAll w result → (status : Status) → result ≡ status → IsCaused (sight_of w) status → ExerciseSays function count w.out w.err status
+            → (result ≡ statuses.Done) × ExerciseSays function count w.out w.err statuses.Done
+        exercised_whole had statuses.Done e cause said = (e, said)
+        exercised_whole had statuses.Memory e cause said = absurd (had.memory e)
+        exercised_whole had statuses.WriteFault e cause said = absurd (⊎_elim had.text had.lines cause)
+        exercised_whole had status e cause said = absurd said
+
+        pub exercises_ran : Ran words function w result
+        exercises_ran = record {
+          says = inl (subst (λ c. CommandSays c function w result) (sym is) says);
+          complete = λ had. subst (λ c. CommandCompletes c function w result) (sym is) (exercised_whole had result refl cause says);
+          causes = subst (λ c. IsCause c w result) (sym is) (caused (Exercises count) result cause);
+          leaves = λ leaves. same;
+          changes = subst (λ c. ChangesAsSaid c w result) (sym is) same;
+          damaged = λ damaged. absurd (never_damaged cause damaged);
+          sound = λ damaged standing. never_damaged cause damaged;
           kept = kept;
           later = fell;
         }
@@ -185,6 +207,7 @@ module _ (function : DigestFunction) (w : World Store) (result : Status) where
       never_changes (OnKeeper command) ends = (memory_said, ends, inl same)
       never_changes NoCommand ends = same
       never_changes (Tries asked) ends = same
+      never_changes (Exercises count) ends = same
 
       pub memory_ran : EndsAside memory_said w result → Ran words function w result
       memory_ran (ends, quiet, unasked) = record {

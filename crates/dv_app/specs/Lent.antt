@@ -7,13 +7,13 @@ use Rattle.dv_app.specs.Places.{Places}
 use Rattle.dv_app.specs.declared.works.Work.{Work}
 
 -- what the folder and the keeper show that are lent
-abbrev pub places : {F K H G : Type 0} → OfFolder F → OfKeeper K → Work F K H G → Work F K H G → Places
+abbrev pub places : {R F K H G : Type 0} → OfFolder F → OfKeeper K → Work R F K H G → Work R F K H G → Places
 places f k old new = record {
   folder = seen f.files f.faults old.folder.now new.folder.now;
   keeper = seen k.store k.faults old.keeper.now new.keeper.now;
 }
 
 -- they are the same folder and the same keeper
-pub record Same {F K H G : Type 0} (old new : Work F K H G) : Type 0 where
+pub record Same {R F K H G : Type 0} (old new : Work R F K H G) : Type 0 where
   pub folder : new.folder.ghost_name ≡ old.folder.ghost_name
   pub keeper : new.keeper.ghost_name ≡ old.keeper.ghost_name

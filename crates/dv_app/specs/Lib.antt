@@ -1,13 +1,17 @@
 pub mod Causes
 pub mod Changes
 pub mod Damaged
+pub mod Exercised
+pub mod Generated
 pub mod Inits
 pub mod Kept
 pub mod Lent
 pub mod Lines
+pub mod LoadOptions
 pub mod Loadings
 pub mod NullKeepers
 pub mod Openings
+pub mod Options
 pub mod Places
 pub mod Queries
 pub mod Replies

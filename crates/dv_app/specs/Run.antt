@@ -21,7 +21,8 @@ use Rattle.dv_app.specs.Damaged.{Finds}
 use Rattle.dv_app.specs.Kept.{IsStanding, memory_said}
 use Rattle.dv_app.specs.Places.{places_of}
 use Rattle.dv_app.specs.Replies.{EndsAs, IsDamagedText, IsMappingText}
-use Rattle.dv_app.specs.Words.{Command, NoCommand, OnKeeper, Tries, asked_of}
+use Rattle.dv_app.specs.Exercised.{ExerciseSays}
+use Rattle.dv_app.specs.Words.{Command, Exercises, NoCommand, OnKeeper, Tries, asked_of}
 use Rattle.dv_app.specs.Works.{Does}
 
 -- ---- what is said and done
@@ -41,6 +42,7 @@ usage_said = ended statuses.Usage usage_line
 abbrev pub CommandSays : Command → DigestFunction → World Store → Status → Type 0
 CommandSays NoCommand function w result = EndsAside usage_said w result
 CommandSays (Tries asked) function w result = TrySays function asked (sight_of w) result
+CommandSays (Exercises count) function w result = ExerciseSays function count w.out w.err result
 CommandSays (OnKeeper command) function w result = (said : Tried) × Ends said w result × Does command function (places_of w) said
 
 -- what the words ask for; or memory ran out before it began
@@ -108,6 +110,7 @@ pub record HadAll (w : World Store) (result : Status) : Type 0 where
 abbrev pub CommandCompletes : Command → DigestFunction → World Store → Status → Type 0
 CommandCompletes NoCommand function w result = result ≡ statuses.Usage
 CommandCompletes (Tries asked) function w result = TryCompletes function asked (sight_of w) result
+CommandCompletes (Exercises count) function w result = (result ≡ statuses.Done) × ExerciseSays function count w.out w.err statuses.Done
 CommandCompletes (OnKeeper command) function w result = (said : Tried) × Gives said w.out w.err result × Does command function (places_of w) said
 
 -- with no fault and memory enough, a command does all that the definitions say

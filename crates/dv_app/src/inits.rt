@@ -74,7 +74,7 @@ fn answered(alloc: Global, answer: InitAnswer) -> Result<Reply, Ending>
     }
 }
 
-impl<F: Folder, K: Keeper, H: KeyDigest, G: Gate> Work<'_, '_, '_, '_, F, K, H, G> {
+impl<R, F: Folder, K: Keeper, H: KeyDigest, G: Gate> Work<'_, '_, '_, '_, '_, R, F, K, H, G> {
     /// Stores the mapping's file, or tells whether the stored mapping is an equal one.
     pub(crate) fn init(&mut self, alloc: Global) -> Result<Reply, Ending>
         ensures works { Works words.Init H.function (places F.Folder K.Keeper self.old self.new) result }

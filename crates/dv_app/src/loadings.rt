@@ -5,18 +5,23 @@ ghost use Rattle.dv_text.specs.Keys.{Hashes, hashes_of};
 ghost use Rattle.dv_given.specs.Readings.{arrival_of};
 ghost use Rattle.dv_app.specs.Loadings.{CanTake, IsBegun, TookArrival, TookLine, TookWindow};
 
+use crate::load_options::LoadOptions;
 use crate::null_keepers::NullKeeper;
 use dv_catalog::{Catalog, WindowIn};
 use dv_given::{Arrived, Taken, is_refusal, window_line};
 use dv_outside::Gate;
 use dv_records::LoadAnswer;
 use dv_text::{KeyDigest, Memory, Text};
-use dv_window::{Office, Order};
+use dv_window::{Office, workers_for};
 use std::alloc::Global;
+use std::thread::Threads;
 
-/// What windows are loaded by: how their keys are hashed, and the gate between tasks.
+/// What windows are loaded by: the runtime of their workers, how many these are and the order of tasks, how keys
+/// are hashed, and the gate between tasks.
 #[derive(Drop)]
-pub(crate) struct Tools<'d, 'g, H: KeyDigest, G: Gate> {
+pub(crate) struct Tools<'r, 'd, 'g, R, H: KeyDigest, G: Gate> {
+    pub rt: &'r R,
+    pub options: LoadOptions,
     pub digest: &'d H,
     pub gate: &'g G,
 }
@@ -40,21 +45,23 @@ pub(crate) fn begin_loading(alloc: Global, catalog: Catalog, width: u8) -> Resul
     })
 }
 
-// Gives a window to the office, over a keeper that doesn't fail.
-fn load_window<H: KeyDigest, G: Gate>(
+/// Gives a window to the office, over a keeper that doesn't fail.
+pub(crate) fn load_window<R: Threads + Sync, H: KeyDigest, G: Gate>(
     office: &mut Office,
     given: &WindowIn,
-    tools: &Tools<'_, '_, H, G>,
+    tools: &Tools<'_, '_, '_, R, H, G>,
 ) -> Result<Taken, Memory>
-    requires { CanTake (hashes_of H.function) office.old }
+    requires ready { CanTake (hashes_of H.function) office.old }
     ensures { IfOk result (TookWindow (hashes_of H.function) given.now office.old office.new) }
 {
     let mut keeper = NullKeeper;
+    let workers = workers_for(given, tools.options.workers);
     match office.load(
+        tools.rt,
         &mut keeper,
         given,
-        1,
-        Order::Declared,
+        workers,
+        tools.options.order,
         tools.digest,
         tools.gate,
     ) {
@@ -67,10 +74,10 @@ fn load_window<H: KeyDigest, G: Gate>(
 }
 
 // Gives what a manifest brought to the office, where it is a window.
-fn load_arrived<H: KeyDigest, G: Gate>(
+fn load_arrived<R: Threads + Sync, H: KeyDigest, G: Gate>(
     office: &mut Office,
     arrived: Arrived,
-    tools: &Tools<'_, '_, H, G>,
+    tools: &Tools<'_, '_, '_, R, H, G>,
 ) -> Result<Taken, Memory>
     requires { CanTake (hashes_of H.function) office.old }
     ensures { IfOk result (TookArrival (hashes_of H.function) (arrival_of arrived) office.old office.new) }
@@ -82,12 +89,12 @@ fn load_arrived<H: KeyDigest, G: Gate>(
 }
 
 /// Takes what a manifest brought, and makes its line.
-pub(crate) fn take<H: KeyDigest, G: Gate>(
+pub(crate) fn take<R: Threads + Sync, H: KeyDigest, G: Gate>(
     alloc: Global,
     loading: &mut Loading,
     name: &Text,
     arrived: Arrived,
-    tools: &Tools<'_, '_, H, G>,
+    tools: &Tools<'_, '_, '_, R, H, G>,
 ) -> Result<Text, Memory>
     requires { CanTake (hashes_of H.function) loading.old.office }
     ensures { IfOk result (TookLine (hashes_of H.function) name.now (arrival_of arrived) loading.old loading.new) }

@@ -11,22 +11,24 @@ ghost use Rattle.dv_app.specs.Takings.{Gave, taken_said};
 ghost use Rattle.dv_app.specs.Words as words;
 ghost use Rattle.dv_app.specs.Works.{Tells, WorksBehind};
 
+use crate::load_options::LoadOptions;
+use crate::loadings::Tools;
 use crate::replies::Reply;
 use crate::works::Work;
 use dv_given::{Arrived, Ending, Taken, bring, is_refusal, status_of_windows, window_line};
 use dv_outside::{Folder, Gate};
 use dv_records::{Keeper, LoadAnswer};
 use dv_text::{KeyDigest, Text};
-use dv_window::{Office, Order};
+use dv_window::{Office, workers_for};
 use std::alloc::Global;
+use std::thread::Threads;
 
 // Gives what a manifest brought to the office, where it is a window.
-fn give<K: Keeper, H: KeyDigest, G: Gate>(
+fn give<R: Threads + Sync, K: Keeper, H: KeyDigest, G: Gate>(
     office: &mut Office,
     keeper: &mut K,
     arrived: Arrived,
-    digest: &H,
-    gate: &G,
+    tools: &Tools<'_, '_, '_, R, H, G>,
 ) -> LoadAnswer
     requires agrees { AgreesUnlessStale office.old (K.store keeper.old) }
     requires fresh { office.old.stale ≡ false }
@@ -34,7 +36,19 @@ fn give<K: Keeper, H: KeyDigest, G: Gate>(
 {
     match arrived {
         Arrived::Broken(rule) => LoadAnswer::Refused(rule),
-        Arrived::Brought(given) => office.load(keeper, &given, 1, Order::Declared, digest, gate),
+        Arrived::Brought(given) => {
+            let workers = workers_for(&given, tools.options.workers);
+            let order = tools.options.order;
+            office.load(
+                tools.rt,
+                keeper,
+                &given,
+                workers,
+                order,
+                tools.digest,
+                tools.gate,
+            )
+        }
     }
 }
 
@@ -63,20 +77,30 @@ fn answered(alloc: Global, name: &Text, answer: LoadAnswer) -> Result<Reply, End
     }
 }
 
-impl<F: Folder, K: Keeper, H: KeyDigest, G: Gate> Work<'_, '_, '_, '_, F, K, H, G> {
+impl<R, F: Folder, K: Keeper, H: KeyDigest, G: Gate> Work<'_, '_, '_, '_, '_, R, F, K, H, G>
+where
+    R: Threads + Sync,
+{
     /// Loads the window of a manifest.
     pub(crate) fn load(
         &mut self,
         alloc: Global,
         office: &mut Office,
         name: &Text,
+        options: LoadOptions,
     ) -> Result<Reply, Ending>
         requires open { IsOpen H.function (K.store self.old.keeper.now) office.old }
         ensures works { WorksBehind (words.Load name.now) H.function office.old (places F.Folder K.Keeper self.old self.new) result }
         ensures same { Same self.old self.new }
     {
         let arrived = bring(alloc, self.folder, name)?;
-        let answer = give(office, self.keeper, arrived, self.digest, self.gate);
+        let tools = Tools {
+            rt: self.rt,
+            options,
+            digest: self.digest,
+            gate: self.gate,
+        };
+        let answer = give(office, self.keeper, arrived, &tools);
         answered(alloc, name, answer)
     }
 }

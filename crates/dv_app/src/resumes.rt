@@ -29,7 +29,7 @@ fn answered(alloc: Global, answer: ResumeAnswer) -> Result<Reply, Ending>
     }
 }
 
-impl<F: Folder, K: Keeper, H: KeyDigest, G: Gate> Work<'_, '_, '_, '_, F, K, H, G> {
+impl<R, F: Folder, K: Keeper, H: KeyDigest, G: Gate> Work<'_, '_, '_, '_, '_, R, F, K, H, G> {
     /// Completes the open window.
     pub(crate) fn resume(&mut self, alloc: Global, office: &mut Office) -> Result<Reply, Ending>
         requires open { IsOpen H.function (K.store self.old.keeper.now) office.old }

@@ -35,7 +35,7 @@ fn answered(alloc: Global, catalog: &Catalog, answer: SnapAnswer) -> Result<Repl
     }
 }
 
-impl<F: Folder, K: Keeper, H: KeyDigest, G: Gate> Work<'_, '_, '_, '_, F, K, H, G> {
+impl<R, F: Folder, K: Keeper, H: KeyDigest, G: Gate> Work<'_, '_, '_, '_, '_, R, F, K, H, G> {
     /// Stores a snapshot at a date.
     pub(crate) fn snapshot(
         &mut self,

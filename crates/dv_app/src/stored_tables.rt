@@ -53,7 +53,7 @@ fn ending_of(fault: StoredFault, date: Stamp) -> Ending
     }
 }
 
-impl<F: Folder, K: Keeper, H: KeyDigest, G: Gate> Work<'_, '_, '_, '_, F, K, H, G> {
+impl<R, F: Folder, K: Keeper, H: KeyDigest, G: Gate> Work<'_, '_, '_, '_, '_, R, F, K, H, G> {
     /// The text of a table of the snapshot that is stored at a date.
     pub(crate) fn stored(
         &mut self,

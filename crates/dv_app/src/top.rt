@@ -8,6 +8,7 @@ ghost use Rattle.dv_app.specs.Lent.{Same};
 ghost use Rattle.dv_app.specs.Run.{ChangesAsSaid, DamageIsNamed, IsApart, IsRunCause, NoneFell, Ran, RunCompletes, RunSays};
 ghost use Rattle.dv_app.specs.Words.{asked_of};
 
+use crate::exercises::exercise_command;
 use crate::replies::say;
 use crate::tries::try_command;
 use crate::words::{Command, asked_command, parts_of};
@@ -17,8 +18,12 @@ use dv_outside::{Folder, Gate, Sink, Status, end};
 use dv_records::Keeper;
 use dv_text::{KeyDigest, Memory};
 use std::alloc::Global;
+use std::thread::Threads;
 
-impl<F: Folder, K: Keeper, H: KeyDigest, G: Gate> Work<'_, '_, '_, '_, F, K, H, G> {
+impl<R, F: Folder, K: Keeper, H: KeyDigest, G: Gate> Work<'_, '_, '_, '_, '_, R, F, K, H, G>
+where
+    R: Threads + Sync,
+{
     // All that the program does.
     fn run<O: Sink, E: Sink>(
         &mut self,
@@ -36,12 +41,23 @@ impl<F: Folder, K: Keeper, H: KeyDigest, G: Gate> Work<'_, '_, '_, '_, F, K, H, 
             Ok(None) => return end(err, USAGE, Status::Usage),
             Err(Memory) => return end(err, MEMORY, Status::Memory),
         };
-        match asked_command(parts.first.bytes(), parts.behind.items()) {
+        match asked_command(&parts) {
             None => end(err, USAGE, Status::Usage),
             Some(Command::Try(asked)) => try_command(
+                self.rt,
                 alloc,
                 &asked,
                 self.folder,
+                out,
+                err,
+                self.digest,
+                self.gate,
+            ),
+            Some(Command::Exercise { count, options }) => exercise_command(
+                self.rt,
+                alloc,
+                count,
+                options,
                 out,
                 err,
                 self.digest,
@@ -56,13 +72,16 @@ impl<F: Folder, K: Keeper, H: KeyDigest, G: Gate> Work<'_, '_, '_, '_, F, K, H, 
 }
 
 /// The top call: all that the program does. It takes the words of the command line without the program's
-/// name, writes texts to `out` and lines to `err`, and answers the program's exit status.
+/// name, writes texts to `out` and lines to `err`, and answers the program's exit status. Windows are loaded
+/// on threads of the runtime: how many, and in which order of their tasks, the options `--workers` and `--order`
+/// of `try`, `load` and `exercise` say; all that is said and kept is the same for each.
 ///
 /// `init` stores the mapping's file in the keeper, `load MANIFEST` gives a window to what is kept, `resume` completes one
 /// that broke off, and `mart WHAT DATE`, `table NAME` and `windows` write texts of it. `snapshot DATE` stores a snapshot of
 /// the sealed windows, and `pit HUB DATE` and `bridge PATH DATE` write a table of a stored one. `try WHAT DATE
-/// MANIFEST...` keeps nothing, and leaves the keeper.
-pub fn run<F: Folder, K: Keeper, O: Sink, E: Sink, H: KeyDigest, G: Gate>(
+/// MANIFEST...` keeps nothing, and leaves the keeper; so does `exercise N`, which makes windows of N items.
+pub fn run<R: Threads + Sync, F: Folder, K: Keeper, O: Sink, E: Sink, H: KeyDigest, G: Gate>(
+    rt: &R,
     alloc: Global,
     words: &[String],
     folder: &mut F,
@@ -97,6 +116,7 @@ pub fn run<F: Folder, K: Keeper, O: Sink, E: Sink, H: KeyDigest, G: Gate>(
     ensures later { NoneFell (world F.Folder K.Keeper O.Sink E.Sink (folder.old, keeper.old, out.old, err.old) (folder.new, keeper.new, out.new, err.new)) }
 {
     let mut work = Work {
+        rt,
         folder,
         keeper,
         digest,

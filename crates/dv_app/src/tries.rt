@@ -17,6 +17,7 @@ use dv_mart::What;
 use dv_outside::{Failed, Folder, Gate, Sink, Status, write_all};
 use dv_text::{KeyDigest, Stamp, Text};
 use std::alloc::Global;
+use std::thread::Threads;
 
 /// A mart that is asked for, and what is loaded for it.
 #[derive(Drop)]
@@ -27,13 +28,13 @@ struct Readied {
 }
 
 // A manifest is read and taken, and its line is written.
-fn load_one<F: Folder, E: Sink, H: KeyDigest, G: Gate>(
+fn load_one<R: Threads + Sync, F: Folder, E: Sink, H: KeyDigest, G: Gate>(
     alloc: Global,
     loading: &mut Loading,
     name: &Text,
     folder: &mut F,
     err: &mut E,
-    tools: &Tools<'_, '_, H, G>,
+    tools: &Tools<'_, '_, '_, R, H, G>,
 ) -> Result<(), Ending>
     requires ready { CanTake (hashes_of H.function) loading.old.office }
     ensures goes { Goes (hashes_of H.function) name.now loading.old loading.new (seen F.files F.faults folder.old folder.new) (seen E.contents E.faults err.old err.new) result }
@@ -48,13 +49,13 @@ fn load_one<F: Folder, E: Sink, H: KeyDigest, G: Gate>(
 }
 
 // The manifests are taken one after another.
-fn load_all<F: Folder, E: Sink, H: KeyDigest, G: Gate>(
+fn load_all<R: Threads + Sync, F: Folder, E: Sink, H: KeyDigest, G: Gate>(
     alloc: Global,
     loading: &mut Loading,
     names: &[Text],
     folder: &mut F,
     err: &mut E,
-    tools: &Tools<'_, '_, H, G>,
+    tools: &Tools<'_, '_, '_, R, H, G>,
 ) -> Result<(), Ending>
     requires begun { IsBegun (hashes_of H.function) loading.old }
     ensures loads { Loads (hashes_of H.function) names.now loading.old loading.new (seen F.files F.faults folder.old folder.new) (seen E.contents E.faults err.old err.new) result }
@@ -88,14 +89,14 @@ fn begin<F: Folder, H: KeyDigest>(
 }
 
 // The manifests are taken, and the mart's text is written: whether a window was refused.
-fn try_readied<F: Folder, O: Sink, E: Sink, H: KeyDigest, G: Gate>(
+fn try_readied<R: Threads + Sync, F: Folder, O: Sink, E: Sink, H: KeyDigest, G: Gate>(
     alloc: Global,
     readied: &mut Readied,
     asked: &Asked<'_>,
     folder: &mut F,
     out: &mut O,
     err: &mut E,
-    tools: &Tools<'_, '_, H, G>,
+    tools: &Tools<'_, '_, '_, R, H, G>,
 ) -> Result<bool, Ending>
     requires readied { IsReadied (hashes_of H.function) readied.old }
     ensures tries { TriesBehind H.function (wanted asked.now) readied.old (sight F.Folder O.Sink E.Sink (folder.old, out.old, err.old) (folder.new, out.new, err.new)) result }
@@ -119,13 +120,13 @@ fn try_readied<F: Folder, O: Sink, E: Sink, H: KeyDigest, G: Gate>(
 }
 
 // All but the last line and the status: whether a window was refused.
-fn try_all<F: Folder, O: Sink, E: Sink, H: KeyDigest, G: Gate>(
+fn try_all<R: Threads + Sync, F: Folder, O: Sink, E: Sink, H: KeyDigest, G: Gate>(
     alloc: Global,
     asked: &Asked<'_>,
     folder: &mut F,
     out: &mut O,
     err: &mut E,
-    tools: &Tools<'_, '_, H, G>,
+    tools: &Tools<'_, '_, '_, R, H, G>,
 ) -> Result<bool, Ending>
     ensures tries { TriesAll H.function (wanted asked.now) (sight F.Folder O.Sink E.Sink (folder.old, out.old, err.old) (folder.new, out.new, err.new)) result }
     ensures kept { F.files folder.new ≡ F.files folder.old }
@@ -138,7 +139,8 @@ fn try_all<F: Folder, O: Sink, E: Sink, H: KeyDigest, G: Gate>(
 }
 
 /// The command `try`.
-pub(crate) fn try_command<F: Folder, O: Sink, E: Sink, H: KeyDigest, G: Gate>(
+pub(crate) fn try_command<R: Threads + Sync, F: Folder, O: Sink, E: Sink, H: KeyDigest, G: Gate>(
+    rt: &R,
     alloc: Global,
     asked: &Asked<'_>,
     folder: &mut F,
@@ -152,7 +154,13 @@ pub(crate) fn try_command<F: Folder, O: Sink, E: Sink, H: KeyDigest, G: Gate>(
     ensures kept { F.files folder.new ≡ F.files folder.old }
     ensures later { (F.faults folder.old ≤ F.faults folder.new) × (O.faults out.old ≤ O.faults out.new) × (E.faults err.old ≤ E.faults err.new) }
 {
-    match try_all(alloc, asked, folder, out, err, &Tools { digest, gate }) {
+    let tools = Tools {
+        rt,
+        options: asked.options,
+        digest,
+        gate,
+    };
+    match try_all(alloc, asked, folder, out, err, &tools) {
         Ok(refused) => status_of_windows(refused),
         Err(ending) => end_command(alloc, err, &ending),
     }

@@ -1,19 +1,26 @@
-ghost use Rattle.std.specs.Prelude.{◌≡◌, ◌+◌, ◌<◌, ◌++◌, codes, drop, length, map, position, string_bytes, take, IfOk};
-ghost use Rattle.std.specs.List.{list_any};
-ghost use Rattle.std.specs.Str.{bytes_eq};
+ghost use Rattle.std.specs.Prelude.{◌≡◌, ℕ, IfOk, Some};
+ghost use Rattle.dv_crew.specs.declared.orders.Order.{Order};
+ghost use Rattle.dv_app.specs.LoadOptions.{loads_by};
 ghost use Rattle.dv_app.specs.Words as spec;
-ghost use Rattle.dv_app.specs.Words.{OnKeeper, command_of, office_command};
+ghost use Rattle.dv_app.specs.Words.{LoadsAs, OnKeeper, command_of, office_command};
 
-use dv_text::{List, Memory, Text};
+use crate::load_options::LoadOptions;
+use crate::option_values::load_options;
+use crate::options::{Found, has_option, parted};
+use dv_given::number_in;
+use dv_text::{Memory, Text};
 use std::alloc::Global;
 
+const MOST_ITEMS: u32 = 50_000;
+
 /// What `try` is asked for: a mart or a table, at a date, over the windows of manifests, of which
-/// there is one at least.
+/// there is one at least, and how these are loaded.
 #[derive(Clone, Copy)]
 pub(crate) struct Asked<'a> {
     pub(crate) what: &'a Text,
     pub(crate) date: &'a Text,
     pub(crate) manifests: &'a [Text],
+    pub(crate) options: LoadOptions,
 }
 
 /// A table of a stored snapshot, by the name of its hub or its path.
@@ -31,6 +38,7 @@ pub(crate) enum OfficeCommand<'a> {
     /// The window of a manifest is loaded.
     Load {
         manifest: &'a Text,
+        options: LoadOptions,
     },
     /// The open window is completed.
     Resume,
@@ -68,99 +76,28 @@ pub(crate) enum KeptCommand<'a> {
 /// What the words of the command line ask for.
 #[derive(Clone, Copy)]
 pub(crate) enum Command<'a> {
+    /// Windows are loaded, and nothing is kept.
     Try(Asked<'a>),
+    /// Windows of so many items are made and loaded, and nothing is kept.
+    Exercise { count: u32, options: LoadOptions },
     OnKeeper(KeptCommand<'a>),
 }
 
-// The words as texts.
-fn texts(alloc: Global, words: &[String]) -> Result<List<Text>, Memory>
-    ensures { IfOk result (λ texts. texts ≡ map string_bytes words.now) }
-{
-    let mut texts = List::new(alloc);
-    for word in words {
-        texts.push(Text::of(alloc, word.as_bytes())?)?;
-    }
-    Ok(texts)
-}
-
-// Whether a word begins with `-`.
-fn is_dashed(word: &Text) -> bool
-    ensures { result ≡ spec.is_dashed word.now }
-{
-    match word.bytes() {
-        [] => false,
-        [byte, ..] => *byte == b'-',
-    }
-}
-
-// Whether a word is `--`.
-fn is_end_of_options(word: &Text) -> bool
-    ensures { result ≡ bytes_eq word.now (codes "--") }
-{
-    word.bytes() == b"--".as_slice()
-}
-
-// The list without the item at a place.
-fn without(words: List<Text>, at: usize) -> Result<List<Text>, Memory>
-    requires { at < length words }
-    ensures { IfOk result (λ rest. rest ≡ take at words ++ drop (at + 1) words) }
-{
-    let mut words = words.into_vec()?;
-    words.remove(at);
-    Ok(List::from_vec(words))
-}
-
-// The place of the first `--`.
-fn end_of_options(words: &[Text]) -> Option<usize>
-    ensures { result ≡ position (λ word. bytes_eq word (codes "--")) words.now }
-{
-    words.iter().position(|word| is_end_of_options(word))
-}
-
-// Whether one of the words begins with `-`.
-fn is_any_dashed(words: &[Text]) -> bool
-    ensures { result ≡ list_any spec.is_dashed words.now }
-{
-    words.iter().any(|word| is_dashed(word))
-}
-
-// The words without the first `--`; none where one before it begins with `-`, since no command has an option.
-fn positionals(alloc: Global, words: &[String]) -> Result<Option<List<Text>>, Memory>
-    ensures { IfOk result (λ found. found ≡ spec.positionals (map string_bytes words.now)) }
-{
-    let words = texts(alloc, words)?;
-    let end = end_of_options(words.items());
-    match end {
-        Some(at) => {
-            if is_any_dashed(&words.items()[..at]) {
-                return Ok(None);
-            }
-            Ok(Some(without(words, at)?))
-        }
-        None => {
-            if is_any_dashed(words.items()) {
-                return Ok(None);
-            }
-            Ok(Some(words))
-        }
-    }
-}
-
-/// A first word, and the words behind it.
+/// A first word, and what the words behind it say.
 #[derive(Drop)]
 pub(crate) struct Parts {
     pub first: Text,
-    pub behind: List<Text>,
+    pub behind: Found,
 }
 
-/// The first word, and the words behind it without the first `--`; none where there is no first word, or one before
-/// the first `--` begins with `-`.
+/// The first word, and what the words behind it say; none where there is no first word, or the others break the rule
+/// of options.
 pub(crate) fn parts_of(alloc: Global, words: &[String]) -> Result<Option<Parts>, Memory>
     ensures { IfOk result (λ parts. spec.asked_of words.now ≡ spec.command_in parts) }
 {
     match words {
         [] => Ok(None),
-        [first, ..] => match positionals(alloc, &words[1..])? {
+        [first, ..] => match parted(alloc, &words[1..])? {
             Some(behind) => Ok(Some(Parts {
                 first: Text::of(alloc, first.as_bytes())?,
                 behind,
@@ -172,14 +109,16 @@ pub(crate) fn parts_of(alloc: Global, words: &[String]) -> Result<Option<Parts>,
 
 // A command over the office of what is kept.
 fn on_office(command: OfficeCommand<'_>) -> Option<Command<'_>>
-    ensures { command_of result ≡ OnKeeper (office_command command.entry) }
+    ensures asked { command_of result ≡ OnKeeper (office_command command.entry) }
+    ensures whole { result ≡ Some (Command.OnKeeper (KeptCommand.OnOffice command.entry)) }
 {
     Some(Command::OnKeeper(KeptCommand::OnOffice(command)))
 }
 
 // A command that takes no words.
 fn bare_command<'a>(word: &[u8]) -> Option<Command<'a>>
-    ensures { command_of result ≡ spec.bare word.now }
+    ensures asked { command_of result ≡ spec.bare word.now }
+    ensures loads { (by : ℕ × Order) → LoadsAs by result }
 {
     if word == b"init".as_slice() {
         Some(Command::OnKeeper(KeptCommand::Init))
@@ -192,12 +131,25 @@ fn bare_command<'a>(word: &[u8]) -> Option<Command<'a>>
     }
 }
 
+// The command `exercise`, where a word says a number of items.
+fn exercise<'a>(word: &[u8], options: LoadOptions) -> Option<Command<'a>>
+    ensures asked { command_of result ≡ spec.exercise word.now }
+    ensures loads { LoadsAs (loads_by options) result }
+{
+    let count = number_in(MOST_ITEMS, word)?;
+    Some(Command::Exercise { count, options })
+}
+
 // A command that takes one word.
-fn command_with_one<'a>(word: &[u8], name: &'a Text) -> Option<Command<'a>>
-    ensures { command_of result ≡ spec.with_one word.now name.now }
+fn command_with_one<'a>(word: &[u8], name: &'a Text, options: LoadOptions) -> Option<Command<'a>>
+    ensures asked { command_of result ≡ spec.with_one word.now name.now }
+    ensures loads { LoadsAs (loads_by options) result }
 {
     if word == b"load".as_slice() {
-        on_office(OfficeCommand::Load { manifest: name })
+        let manifest = name;
+        on_office(OfficeCommand::Load { manifest, options })
+    } else if word == b"exercise".as_slice() {
+        exercise(name.bytes(), options)
     } else if word == b"table".as_slice() {
         on_office(OfficeCommand::Table { name })
     } else if word == b"snapshot".as_slice() {
@@ -209,7 +161,8 @@ fn command_with_one<'a>(word: &[u8], name: &'a Text) -> Option<Command<'a>>
 
 // A command that takes two words.
 fn command_with_two<'a>(word: &[u8], what: &'a Text, date: &'a Text) -> Option<Command<'a>>
-    ensures { command_of result ≡ spec.with_two word.now what.now date.now }
+    ensures asked { command_of result ≡ spec.with_two word.now what.now date.now }
+    ensures loads { (by : ℕ × Order) → LoadsAs by result }
 {
     if word == b"mart".as_slice() {
         on_office(OfficeCommand::Mart { what, date })
@@ -226,7 +179,8 @@ fn command_with_two<'a>(word: &[u8], what: &'a Text, date: &'a Text) -> Option<C
 
 // A command that takes three words or more.
 fn command_with_more<'a>(word: &[u8], asked: &Asked<'a>) -> Option<Command<'a>>
-    ensures { command_of result ≡ spec.with_more word.now asked.now.what.now asked.now.date.now asked.now.manifests.now }
+    ensures asked { command_of result ≡ spec.with_more word.now asked.now.what.now asked.now.date.now asked.now.manifests.now }
+    ensures loads { LoadsAs (loads_by asked.now.options) result }
 {
     if word == b"try".as_slice() {
         Some(Command::Try(*asked))
@@ -235,21 +189,55 @@ fn command_with_more<'a>(word: &[u8], asked: &Asked<'a>) -> Option<Command<'a>>
     }
 }
 
-/// What a first word and the words behind it ask for; none where they are no command.
-pub(crate) fn asked_command<'a>(word: &[u8], behind: &'a [Text]) -> Option<Command<'a>>
-    ensures { command_of result ≡ spec.command word.now behind.now }
+// What a first word and positionals ask for; none where they are no command.
+fn command_with<'a>(
+    word: &[u8],
+    positionals: &'a [Text],
+    options: LoadOptions,
+) -> Option<Command<'a>>
+    ensures asked { command_of result ≡ spec.command word.now positionals.now }
+    ensures loads { LoadsAs (loads_by options) result }
 {
-    match behind {
+    match positionals {
         [] => bare_command(word),
-        [name] => command_with_one(word, name),
+        [name] => command_with_one(word, name, options),
         [what, date] => command_with_two(word, what, date),
         [what, date, ..] => command_with_more(
             word,
             &Asked {
                 what,
                 date,
-                manifests: &behind[2..],
+                manifests: &positionals[2..],
+                options,
             },
         ),
     }
+}
+
+// Whether a command has options.
+fn has_options(command: &Command<'_>) -> bool
+    ensures { result ≡ spec.has_options (spec.parsed_command command.now) }
+{
+    match command {
+        Command::Try(_) | Command::Exercise { .. } => true,
+        Command::OnKeeper(KeptCommand::OnOffice(OfficeCommand::Load { .. })) => true,
+        Command::OnKeeper(_) => false,
+    }
+}
+
+/// What a first word and the words behind it ask for; none where they are no command.
+pub(crate) fn asked_command(parts: &Parts) -> Option<Command<'_>>
+    ensures asked { command_of result ≡ spec.command_behind parts.now.first parts.now.behind }
+    ensures loads { spec.IsLoadedBy parts.now.behind result }
+{
+    let options = load_options(&parts.behind)?;
+    let command = command_with(
+        parts.first.bytes(),
+        parts.behind.positionals.items(),
+        options,
+    )?;
+    if has_option(&parts.behind) && !has_options(&command) {
+        return None;
+    }
+    Some(command)
 }

@@ -14,18 +14,23 @@ use dv_records::Keeper;
 use dv_text::KeyDigest;
 use dv_window::Office;
 use std::alloc::Global;
+use std::thread::Threads;
 
-/// What a command on what is kept works on and with: the folder that it reads and the keeper, and the digest and
-/// the gate.
+/// What a command on what is kept works on and with: the runtime, whose threads it may use, the folder that it
+/// reads and the keeper, and the digest and the gate.
 #[derive(Drop)]
-pub(crate) struct Work<'f, 'k, 'd, 'g, F: Folder, K: Keeper, H: KeyDigest, G: Gate> {
+pub(crate) struct Work<'r, 'f, 'k, 'd, 'g, R, F: Folder, K: Keeper, H: KeyDigest, G: Gate> {
+    pub(crate) rt: &'r R,
     pub(crate) folder: &'f mut F,
     pub(crate) keeper: &'k mut K,
     pub(crate) digest: &'d H,
     pub(crate) gate: &'g G,
 }
 
-impl<F: Folder, K: Keeper, H: KeyDigest, G: Gate> Work<'_, '_, '_, '_, F, K, H, G> {
+impl<R, F: Folder, K: Keeper, H: KeyDigest, G: Gate> Work<'_, '_, '_, '_, '_, R, F, K, H, G>
+where
+    R: Threads + Sync,
+{
     // The work of a command over the office, which was opened by what the keeper has.
     fn work_on(
         &mut self,
@@ -38,7 +43,9 @@ impl<F: Folder, K: Keeper, H: KeyDigest, G: Gate> Work<'_, '_, '_, '_, F, K, H, 
         ensures same { Same self.old self.new }
     {
         match command {
-            OfficeCommand::Load { manifest } => self.load(alloc, office, manifest),
+            OfficeCommand::Load { manifest, options } => {
+                self.load(alloc, office, manifest, *options)
+            }
             OfficeCommand::Resume => self.resume(alloc, office),
             OfficeCommand::Mart { what, date } => text_reply(mart_of(alloc, office, what, date)),
             OfficeCommand::Table { name } => text_reply(table_of(alloc, office, name)),

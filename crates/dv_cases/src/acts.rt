@@ -12,6 +12,8 @@ pub(crate) enum Act {
     FailEach { first: u64, last: u64, done: bool },
     FailRead,
     Give,
+    /// A window is loaded by so many workers, of whom one is held for at most so many turns.
+    Hold { workers: u64, turns: u64 },
     Compare { scene: usize },
 }
 
@@ -33,6 +35,8 @@ pub(crate) struct Step {
     pub(crate) status: u64,
     pub(crate) port: Option<u64>,
     pub(crate) ended: Ended,
+    pub(crate) rows: u64,
+    pub(crate) is_reached: bool,
 }
 
 /// How many bytes a stream takes, and a connection, where nothing is said.
@@ -60,6 +64,8 @@ impl Step {
             status: 0,
             port: None,
             ended: Ended::Ended(0),
+            rows: 0,
+            is_reached: false,
         }
     }
 }

@@ -83,6 +83,14 @@ fn take_end(step: &mut Step, word: &str, behind: &str) -> Result<Option<Target>,
             step.ended = ended(behind)?;
             Ok(Some(Target::None))
         }
+        Act::Hold { .. } if word == "loads" => {
+            step.rows = number(behind)?;
+            Ok(Some(Target::None))
+        }
+        Act::Hold { .. } if word == "reached" => {
+            step.is_reached = true;
+            Ok(Some(Target::None))
+        }
         _ => Ok(None),
     }
 }

@@ -5,6 +5,7 @@ use dv_text::Memory;
 use std::alloc::Global;
 use std::io::{self, BufRead, BufReader, Read, Write};
 use std::process::ExitCode;
+use std::thread::Threads;
 
 const NO_MEMORY: u8 = 2;
 
@@ -21,14 +22,15 @@ fn lines<R: Read + Drop>(alloc: Global, reader: R) -> io::Result<Lines> {
 
 /// All that a program over cases does: it plays those that come from a reader, writes what is told of them, and answers
 /// with the exit status.
-pub fn play_from<S: Stand, R: Read + Drop, W: Write>(
+pub fn play_from<R: Threads + Sync, S: Stand, I: Read + Drop, W: Write>(
+    rt: &R,
     alloc: Global,
-    reader: R,
+    reader: I,
     writer: &mut W,
     stand: &mut S,
 ) -> io::Result<ExitCode> {
     let lines = lines(alloc, reader)?;
-    match play_all(alloc, &lines, stand) {
+    match play_all(rt, alloc, &lines, stand) {
         Ok(Report { text, status }) => {
             writer.write_all(text.as_slice())?;
             Ok(ExitCode::from(status))

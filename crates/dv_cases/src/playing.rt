@@ -6,21 +6,23 @@ use crate::lines::Lines;
 use crate::outsides::{Outside, link, outside_of, words};
 use crate::reading::Refused;
 use crate::scenes::Scene;
-use crate::stands::{Digests, Stand};
+use crate::stands::{Digests, Hold, Stand};
 use dv_outside::{MemoryLink, Status};
 use dv_text::Memory;
 use std::alloc::Global;
+use std::thread::Threads;
 
-/// What is played: the lines, and the frames and cases that they say.
-#[derive(Clone, Copy)]
-pub(crate) struct Play<'a> {
+/// What is played: the lines, and the frames and cases that they say; and the runtime of those who load windows.
+#[derive(Drop)]
+pub(crate) struct Play<'a, R> {
+    pub(crate) rt: &'a R,
     pub(crate) alloc: Global,
     pub(crate) lines: &'a Lines,
     pub(crate) scenes: &'a [Scene],
 }
 
 // The line of a step, before its differences.
-fn head(play: &Play<'_>, told: &mut Told, step: &Step) -> Result<(), Memory> {
+fn head<R>(play: &Play<'_, R>, told: &mut Told, step: &Step) -> Result<(), Memory> {
     told.put("  ")?;
     told.put_place(play.lines.place(step.at))?;
     told.put(": ")?;
@@ -29,8 +31,8 @@ fn head(play: &Play<'_>, told: &mut Told, step: &Step) -> Result<(), Memory> {
 }
 
 // The replies of the connections that came back are those that are expected.
-fn compare_links(
-    play: &Play<'_>,
+fn compare_links<R>(
+    play: &Play<'_, R>,
     told: &mut Told,
     scene: &Scene,
     number: usize,
@@ -53,8 +55,8 @@ fn compare_links(
 }
 
 // What the program wrote, and its status, are what is expected of a step.
-fn compare_outside(
-    play: &Play<'_>,
+fn compare_outside<R>(
+    play: &Play<'_, R>,
     told: &mut Told,
     step: &Step,
     outside: &Outside,
@@ -71,8 +73,8 @@ fn compare_outside(
 }
 
 // Calls the program.
-fn run<S: Stand>(
-    play: &Play<'_>,
+fn run<R: Threads + Sync, S: Stand>(
+    play: &Play<'_, R>,
     told: &mut Told,
     scene: &Scene,
     number: usize,
@@ -82,14 +84,14 @@ fn run<S: Stand>(
 ) -> Result<(), Fault> {
     let words = words(play.alloc, play.lines.behind(step.at))?;
     let mut outside = outside_of(play.alloc, play.lines, scene, number, step)?;
-    let status = stand.run(words.as_slice(), &mut outside, digests);
+    let status = stand.run(play.rt, words.as_slice(), &mut outside, digests);
     compare_outside(play, told, step, &outside, status)?;
     compare_links(play, told, scene, number, outside.doors.served())
 }
 
 // Serves a connection.
-fn connect<S: Stand>(
-    play: &Play<'_>,
+fn connect<R: Threads + Sync, S: Stand>(
+    play: &Play<'_, R>,
     told: &mut Told,
     connection: &Connection,
     step: &Step,
@@ -97,12 +99,40 @@ fn connect<S: Stand>(
     stand: &mut S,
 ) -> Result<(), Fault> {
     let mut link = link(play.alloc, play.lines, connection)?;
-    let (came, came_count) = stand.connect(&mut link, digests, is_on)?.told();
+    let (came, came_count) = stand.connect(play.rt, &mut link, digests, is_on)?.told();
     let (expected, count) = step.ended.told();
     let replies = bytes(play.alloc, play.lines, connection.replies)?;
     told.compare_bytes("replies", replies.as_slice(), link.written())?;
     told.compare_bytes("how it ended", expected.as_bytes(), came.as_bytes())?;
     told.compare_numbers("requests", count, came_count)?;
+    Ok(())
+}
+
+// Loads a window of which a worker is held.
+fn hold<R: Threads + Sync, S: Stand>(
+    play: &Play<'_, R>,
+    told: &mut Told,
+    scene: &Scene,
+    number: usize,
+    step: &Step,
+    (workers, turns, digests): (u64, u64, Digests),
+    stand: &mut S,
+) -> Result<(), Fault> {
+    let words = words(play.alloc, play.lines.behind(step.at))?;
+    let Some(manifest) = words.as_slice().last() else {
+        return Ok(());
+    };
+    let mut outside = outside_of(play.alloc, play.lines, scene, number, step)?;
+    let hold = Hold {
+        manifest,
+        workers,
+        turns,
+        digests,
+    };
+    let held = stand.hold(play.rt, &mut outside, &hold)?;
+    told.compare_numbers("rows", step.rows, held.rows)?;
+    let reached = u64::from(held.is_reached);
+    told.compare_numbers("turns reached", u64::from(step.is_reached), reached)?;
     Ok(())
 }
 
@@ -112,8 +142,8 @@ fn connection_of(scene: &Scene, number: usize) -> Option<&Connection> {
 }
 
 // Takes a step, but for a comparison of what is kept.
-fn take<S: Stand>(
-    play: &Play<'_>,
+fn take<R: Threads + Sync, S: Stand>(
+    play: &Play<'_, R>,
     told: &mut Told,
     scene: &Scene,
     number: usize,
@@ -127,6 +157,17 @@ fn take<S: Stand>(
             Some(connection) => { connect(play, told, connection, step, (digests, is_on), stand) }
             None => Ok(()),
         },
+        Act::Hold { workers, turns } => {
+            hold(
+                play,
+                told,
+                scene,
+                number,
+                step,
+                (workers, turns, digests),
+                stand,
+            )
+        }
         Act::Fail { change, done } => stand.fail(change, done),
         Act::FailRead => stand.fail_read(),
         Act::Give => {
@@ -146,7 +187,11 @@ fn digests_behind(step: &Step, before: Digests) -> Digests {
 }
 
 // What is kept at the end of another frame or case.
-fn kept_behind<S: Stand>(play: &Play<'_>, scene: &Scene, stand: &mut S) -> Result<S, Fault> {
+fn kept_behind<R: Threads + Sync, S: Stand>(
+    play: &Play<'_, R>,
+    scene: &Scene,
+    stand: &mut S,
+) -> Result<S, Fault> {
     let mut other = stand.another()?;
     let mut told = Told::new(play.alloc);
     let mut digests = Digests::Md5;
@@ -158,8 +203,8 @@ fn kept_behind<S: Stand>(play: &Play<'_>, scene: &Scene, stand: &mut S) -> Resul
 }
 
 // What is kept is the same as at the end of another frame or case.
-fn compare_keepers<S: Stand>(
-    play: &Play<'_>,
+fn compare_keepers<R: Threads + Sync, S: Stand>(
+    play: &Play<'_, R>,
     told: &mut Told,
     other: usize,
     stand: &mut S,
@@ -175,8 +220,8 @@ fn compare_keepers<S: Stand>(
 }
 
 // Takes a step, and tells what differs behind its line.
-fn tell<S: Stand>(
-    play: &Play<'_>,
+fn tell<R: Threads + Sync, S: Stand>(
+    play: &Play<'_, R>,
     told: &mut Told,
     scene: &Scene,
     number: usize,
@@ -198,8 +243,8 @@ fn tell<S: Stand>(
 }
 
 /// The steps of a case one after another over a new keeper, of whose changing calls one may fail.
-pub(crate) fn play_once<S: Stand>(
-    play: &Play<'_>,
+pub(crate) fn play_once<R: Threads + Sync, S: Stand>(
+    play: &Play<'_, R>,
     told: &mut Told,
     scene: &Scene,
     failing: Option<(u64, bool)>,

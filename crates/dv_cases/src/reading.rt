@@ -76,6 +76,20 @@ fn failing(text: &str) -> Result<Act, Fault> {
     }
 }
 
+// What a line says of a window that is loaded by workers of whom one is held.
+fn held(text: &str) -> Result<Act, Fault> {
+    const NO_WINDOW: Fault = Fault::Wrong("hold WORKERS TURNS MANIFEST");
+    let (workers, text) = text.split_once(' ').ok_or(NO_WINDOW)?;
+    let (turns, manifest) = text.split_once(' ').ok_or(NO_WINDOW)?;
+    if manifest.is_empty() {
+        return Err(NO_WINDOW);
+    }
+    Ok(Act::Hold {
+        workers: number(workers)?,
+        turns: number(turns)?,
+    })
+}
+
 // The digests of a name.
 fn digests_of(name: &str) -> Result<Digests, Fault> {
     match name {
@@ -246,6 +260,7 @@ impl Reader {
             "connect" if behind == "on" => self.put_step(at, Act::Connect { is_on: true }),
             "digest" => self.put_step(at, Act::Digests(digests_of(behind)?)),
             "fails" => self.put_step(at, failing(behind)?),
+            "hold" => self.put_step(at, held(behind)?),
             "same" => self.compare(lines, at),
             "given" => self.put_step(at, Act::Give),
             "connection" => self.connect(),

@@ -7,6 +7,7 @@ use crate::scenes::Scene;
 use crate::stands::Stand;
 use dv_text::Memory;
 use std::alloc::Global;
+use std::thread::Threads;
 
 /// What is told of cases: each that doesn't hold, and how many there were; and the exit status.
 #[derive(Drop)]
@@ -16,7 +17,7 @@ pub struct Report {
 }
 
 // Tells that a case differs, before what differs.
-fn put_head(play: &Play<'_>, told: &mut Told, scene: &Scene) -> Result<(), Memory> {
+fn put_head<R>(play: &Play<'_, R>, told: &mut Told, scene: &Scene) -> Result<(), Memory> {
     told.put("FAILED: ")?;
     told.put(play.lines.behind(scene.at))?;
     told.put(" (")?;
@@ -25,8 +26,8 @@ fn put_head(play: &Play<'_>, told: &mut Told, scene: &Scene) -> Result<(), Memor
 }
 
 // Plays a case where a call fails, and tells its number where something differs.
-fn play_failing<S: Stand>(
-    play: &Play<'_>,
+fn play_failing<R: Threads + Sync, S: Stand>(
+    play: &Play<'_, R>,
     told: &mut Told,
     scene: &Scene,
     (change, done): (u64, bool),
@@ -51,8 +52,8 @@ fn put_change(told: &mut Told, change: u64) -> Result<(), Memory> {
 }
 
 // Plays a case as often as it says.
-fn play_each<S: Stand>(
-    play: &Play<'_>,
+fn play_each<R: Threads + Sync, S: Stand>(
+    play: &Play<'_, R>,
     told: &mut Told,
     scene: &Scene,
     stand: &mut S,
@@ -69,8 +70,8 @@ fn play_each<S: Stand>(
 }
 
 // Plays a case; whether it holds.
-fn holds<S: Stand>(
-    play: &Play<'_>,
+fn holds<R: Threads + Sync, S: Stand>(
+    play: &Play<'_, R>,
     told: &mut Told,
     scene: &Scene,
     stand: &mut S,
@@ -91,8 +92,8 @@ fn holds<S: Stand>(
 }
 
 // How many cases hold, and how many don't.
-fn play_cases<S: Stand>(
-    play: &Play<'_>,
+fn play_cases<R: Threads + Sync, S: Stand>(
+    play: &Play<'_, R>,
     told: &mut Told,
     stand: &mut S,
 ) -> Result<(u64, u64), Refused> {
@@ -133,7 +134,8 @@ fn put_counts(told: &mut Told, (passed, failed): (u64, u64)) -> Result<(), Memor
 }
 
 // Reads the lines and plays their cases.
-fn counts<S: Stand>(
+fn counts<R: Threads + Sync, S: Stand>(
+    rt: &R,
     alloc: Global,
     lines: &Lines,
     told: &mut Told,
@@ -141,6 +143,7 @@ fn counts<S: Stand>(
 ) -> Result<(u64, u64), Refused> {
     let scenes = read(alloc, lines)?;
     let play = Play {
+        rt,
         alloc,
         lines,
         scenes: scenes.as_slice(),
@@ -150,9 +153,14 @@ fn counts<S: Stand>(
 
 /// Plays all cases over stands like this one: 0 where each holds, 1 where one doesn't or there is none, 2 where a line is
 /// refused, before which nothing else is told.
-pub fn play_all<S: Stand>(alloc: Global, lines: &Lines, stand: &mut S) -> Result<Report, Memory> {
+pub fn play_all<R: Threads + Sync, S: Stand>(
+    rt: &R,
+    alloc: Global,
+    lines: &Lines,
+    stand: &mut S,
+) -> Result<Report, Memory> {
     let mut told = Told::new(alloc);
-    let status = match counts(alloc, lines, &mut told, stand) {
+    let status = match counts(rt, alloc, lines, &mut told, stand) {
         Ok((passed, failed)) => {
             put_counts(&mut told, (passed, failed))?;
             if passed == 0 || failed > 0 { 1 } else { 0 }

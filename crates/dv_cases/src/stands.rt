@@ -1,7 +1,10 @@
+ghost use Rattle.std.specs.Thread.{IsSync};
+
 use crate::faults::Fault;
 use crate::outsides::Outside;
 use dv_outside::{MemoryLink, Status};
 use dv_text::Memory;
+use std::thread::Threads;
 
 /// Which digests hash keys and hash differences are.
 #[derive(Clone, Copy)]
@@ -39,6 +42,22 @@ impl Ended {
     }
 }
 
+/// How a window is loaded of which a worker is held: by so many workers, and for at most so many turns.
+#[derive(Clone, Copy)]
+pub struct Hold<'a> {
+    pub manifest: &'a String,
+    pub workers: u64,
+    pub turns: u64,
+    pub digests: Digests,
+}
+
+/// What comes of that: the rows that were loaded, and whether all turns went by.
+#[derive(Clone, Copy)]
+pub struct Held {
+    pub rows: u64,
+    pub is_reached: bool,
+}
+
 const NO_STAND: Fault = Fault::Wrong("only a keeper in memory takes this");
 
 /// What cases are played over: a keeper, and the program's calls over it.
@@ -47,15 +66,38 @@ pub trait Stand: Drop {
     fn another(&mut self) -> Result<Self, Memory>;
 
     /// Calls the program with these words.
-    fn run(&mut self, words: &[String], outside: &mut Outside, digests: Digests) -> Status;
+    fn run<R: Threads + Sync>(
+        &mut self,
+        rt: &R,
+        words: &[String],
+        outside: &mut Outside,
+        digests: Digests,
+    ) -> Status
+        requires sync { IsSync R.row };
 
     /// Serves a connection by an office that is started for it, or by that of the last one.
-    fn connect(
+    fn connect<R: Threads + Sync>(
         &mut self,
+        _rt: &R,
         _link: &mut MemoryLink,
         _digests: Digests,
         _is_on: bool,
-    ) -> Result<Ended, Fault> {
+    ) -> Result<Ended, Fault>
+        requires sync { IsSync R.row }
+    {
+        Err(NO_STAND)
+    }
+
+    /// Loads the window of a manifest by an office that is started for it. Who has its first task is held until the second
+    /// one has ended.
+    fn hold<R: Threads + Sync>(
+        &mut self,
+        _rt: &R,
+        _outside: &mut Outside,
+        _hold: &Hold<'_>,
+    ) -> Result<Held, Fault>
+        requires sync { IsSync R.row }
+    {
         Err(NO_STAND)
     }
 

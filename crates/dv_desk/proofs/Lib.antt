@@ -4,8 +4,8 @@ pub mod Floatless
 pub mod JsonRead
 pub mod Led
 pub mod Listed
-pub mod Ports
 pub mod Read
 pub mod Stamped
 pub mod Talked
 pub mod Turned
+pub mod WordSteps

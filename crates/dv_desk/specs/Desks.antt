@@ -5,9 +5,9 @@ use Rattle.dv_desk.specs.declared.desks.Desk.{Desk}
 use Rattle.dv_desk.specs.Turns.{Moment, moment}
 
 -- the moment of a desk
-abbrev pub moment_of : {K H G : Type 0} → OfKeeper K → Desk K H G → Moment
+abbrev pub moment_of : {R K H G : Type 0} → OfKeeper K → Desk R K H G → Moment
 moment_of keeper desk = moment keeper.store keeper.faults desk.office.now desk.keeper.now
 
 -- where its office and its keeper are
-abbrev pub places : {K H G : Type 0} → Desk K H G → GName × GName
+abbrev pub places : {R K H G : Type 0} → Desk R K H G → GName × GName
 places desk = (desk.office.ghost_name, desk.keeper.ghost_name)

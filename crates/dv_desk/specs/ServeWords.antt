@@ -1,25 +1,23 @@
 -- The words behind `serve`.
-use Rattle.std.specs.Char.{is_ascii_digit}
-use Rattle.std.specs.List.{list_all}
-use Rattle.std.specs.Prelude.{ℕ, ◌==◌, Bool, false, ◌&&◌, not, nat_le, List, [], ◌∷◌, Option, Some, None, option_map, if◌then◌else◌}
-use Rattle.std.specs.Str.Parse.{digits_value}
+use Rattle.std.specs.Prelude.{ℕ, List, [], ◌∷◌, Option, Some, None, codes, option_and_then, option_map, if◌then◌else◌}
+use Rattle.std.specs.Str.{bytes_eq}
+use Rattle.dv_mart.specs.Whats.{behind}
+use Rattle.dv_given.specs.Numbers.{default_workers, number_in, workers_in}
 use Rattle.dv_desk.specs.declared.words.ServeWords.{ServeWords}
-
--- a decimal number: digits, of which the first is not 0
-abbrev pub is_number : List ℕ → Bool
-is_number [] = false
-is_number (digit ∷ digits) = not (digit == 48) && list_all is_ascii_digit (digit ∷ digits)
 
 -- the port that a word says: a number up to 65,535
 abbrev pub port_in : List ℕ → Option ℕ
-port_in word = if is_number word && nat_le (digits_value 10 word) 65535 then Some (digits_value 10 word) else None
+port_in word = number_in 65535 word
 
--- a window is loaded by so many workers
-abbrev pub workers : ℕ
-workers = 4
+-- by how many workers a window is loaded, as words say: by `--workers=N` or `--workers N`, and by four where there are none
+abbrev pub workers_said : List (List ℕ) → Option ℕ
+workers_said [] = Some default_workers
+workers_said (word ∷ []) = option_and_then workers_in (behind (codes "--workers=") word)
+workers_said (name ∷ word ∷ []) = if bytes_eq name (codes "--workers") then workers_in word else None
+workers_said (name ∷ word ∷ more ∷ words) = None
 
--- what the words say: they are a port, and no more
+-- what the words say: a port, and then perhaps the workers
 abbrev pub serve_words : List (List ℕ) → Option ServeWords
 serve_words [] = None
-serve_words (word ∷ []) = option_map (λ port. record { port = port; workers = workers }) (port_in word)
-serve_words (word ∷ second ∷ words) = None
+serve_words (word ∷ words) =
+    option_and_then (λ port. option_map (λ workers. record { port = port; workers = workers }) (workers_said words)) (port_in word)

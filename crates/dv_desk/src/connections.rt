@@ -7,8 +7,9 @@ use dv_records::Keeper;
 use dv_serving::{Came, MOST_REQUESTS, Served, came_of, end_with, refuse, say};
 use dv_text::{KeyDigest, Memory};
 use std::alloc::Global;
+use std::thread::Threads;
 
-impl<K: Keeper, H: KeyDigest, G: Gate> Desk<'_, '_, '_, '_, K, H, G> {
+impl<R: Threads + Sync, K: Keeper, H: KeyDigest, G: Gate> Desk<'_, '_, '_, '_, '_, R, K, H, G> {
     ghost use Rattle.std.specs.Prelude.{◌≡◌, ◌≤◌};
     ghost use Rattle.dv_text.specs.Causes.{HasCause, Rose};
     ghost use Rattle.dv_serving.specs.declared.steps.Came.TheVariants as came;

@@ -11,12 +11,14 @@ use dv_outside::Gate;
 use dv_records::{Keeper, SnapId};
 use dv_snapshots::stored_text;
 use dv_text::{KeyDigest, Memory, Stamp};
-use dv_window::{Office, Order};
+use dv_window::{Office, Order, workers_for};
 use std::alloc::Global;
+use std::thread::Threads;
 
-/// How windows are loaded: by 1 to 64 workers, with a digest function, through a gate.
+/// How windows are loaded: by 1 to 64 workers of a runtime, with a digest function, through a gate.
 #[derive(Drop)]
-pub(crate) struct Loading<'d, 'g, H, G> {
+pub(crate) struct Loading<'r, 'd, 'g, R, H, G> {
+    pub(crate) rt: &'r R,
     pub(crate) workers: u32,
     pub(crate) digest: &'d H,
     pub(crate) gate: &'g G,
@@ -26,13 +28,13 @@ pub(crate) struct Loading<'d, 'g, H, G> {
 
 /// A desk over what it is lent.
 #[derive(Drop)]
-pub(crate) struct Desk<'o, 'k, 'd, 'g, K, H, G> {
+pub(crate) struct Desk<'o, 'k, 'r, 'd, 'g, R, K, H, G> {
     pub(crate) office: &'o mut Office,
     pub(crate) keeper: &'k mut K,
-    pub(crate) loading: Loading<'d, 'g, H, G>,
+    pub(crate) loading: Loading<'r, 'd, 'g, R, H, G>,
 }
 
-impl<K: Keeper, H: KeyDigest, G: Gate> Desk<'_, '_, '_, '_, K, H, G> {
+impl<R: Threads + Sync, K: Keeper, H: KeyDigest, G: Gate> Desk<'_, '_, '_, '_, '_, R, K, H, G> {
     ghost use Rattle.std.specs.Prelude.{◌≡◌, ◌<◌, ◌≤◌, false, length};
     ghost use Rattle.dv_desk.specs.Desks.{moment_of, places};
     ghost use Rattle.dv_desk.specs.Reads.{IsPitAt, IsReadAs, IsReadBy, pit_due};
@@ -93,14 +95,16 @@ impl<K: Keeper, H: KeyDigest, G: Gate> Desk<'_, '_, '_, '_, K, H, G> {
         match read_body(alloc, body) {
             Ok(Posted::Given(given)) => {
                 let Loading {
+                    rt,
                     workers,
                     digest,
                     gate,
                 } = &self.loading;
+                let workers = workers_for(&given, *workers);
                 let order = Order::Declared;
                 let came = self
                     .office
-                    .load(self.keeper, &given, *workers, order, *digest, *gate);
+                    .load(*rt, self.keeper, &given, workers, order, *digest, *gate);
                 Answer::from(came)
             }
             Ok(Posted::Faulty { place }) => Answer::Broken(Rule::Manifest { place }),

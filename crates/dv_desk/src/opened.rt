@@ -20,6 +20,7 @@ use dv_restore::StartFault;
 use dv_text::KeyDigest;
 use dv_window::Office;
 use std::alloc::Global;
+use std::thread::Threads;
 
 /// Serves the connections that come through the doors, one after another, over the vault that a keeper has.
 ///
@@ -28,7 +29,8 @@ use std::alloc::Global;
 /// `serve_link` with this office, and given back, whatever came of it. `Done` comes where the doors have no connection
 /// left, or 4,294,967,295 were served. `ReadFault` comes only where the doors' count of faults rose, with the line
 /// `vaultdesk: read fault doors`; `WriteFault` only where that of the sink did. Condition: 1 to 64 workers.
-pub fn serve<D: Doors, K: Keeper, E: Sink, H: KeyDigest, G: Gate>(
+pub fn serve<R: Threads + Sync, D: Doors, K: Keeper, E: Sink, H: KeyDigest, G: Gate>(
+    rt: &R,
     alloc: Global,
     doors: &mut D,
     keeper: &mut K,
@@ -55,6 +57,7 @@ pub fn serve<D: Doors, K: Keeper, E: Sink, H: KeyDigest, G: Gate>(
     ensures later { (D.faults doors.old ≤ D.faults doors.new) × (E.faults err.old ≤ E.faults err.new) }
 {
     let loading = Loading {
+        rt,
         workers,
         digest,
         gate,
@@ -63,13 +66,13 @@ pub fn serve<D: Doors, K: Keeper, E: Sink, H: KeyDigest, G: Gate>(
 }
 
 // The connections of the doors are served with an office that was started.
-fn serve_with<D: Doors, K: Keeper, E: Sink, H: KeyDigest, G: Gate>(
+fn serve_with<R: Threads + Sync, D: Doors, K: Keeper, E: Sink, H: KeyDigest, G: Gate>(
     alloc: Global,
     doors: &mut D,
     office: &mut Office,
     keeper: &mut K,
     err: &mut E,
-    loading: Loading<'_, '_, H, G>,
+    loading: Loading<'_, '_, '_, R, H, G>,
 ) -> Status
     requires agrees { AgreesUnlessStale office.old (K.store keeper.old) }
     ensures serves { ServesWith H.function (tells D.Line.Link) (D.lines doors.old) (D.lines doors.new) (D.faults doors.old) (D.faults doors.new)
@@ -97,12 +100,12 @@ fn end_unstarted<E: Sink>(alloc: Global, err: &mut E, fault: StartFault) -> Stat
 }
 
 // What `serve` does, by how windows are loaded: nothing is chosen here.
-fn serve_by<D: Doors, K: Keeper, E: Sink, H: KeyDigest, G: Gate>(
+fn serve_by<R: Threads + Sync, D: Doors, K: Keeper, E: Sink, H: KeyDigest, G: Gate>(
     alloc: Global,
     doors: &mut D,
     keeper: &mut K,
     err: &mut E,
-    loading: Loading<'_, '_, H, G>,
+    loading: Loading<'_, '_, '_, R, H, G>,
 ) -> Status
     ensures says { ServeSays H.function (tells D.Line.Link) (D.lines doors.old) (D.lines doors.new)
         (seen K.store K.faults keeper.old keeper.new) (seen E.contents E.faults err.old err.new) result }

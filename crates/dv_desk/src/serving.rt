@@ -15,6 +15,7 @@ use dv_serving::Served;
 use dv_text::KeyDigest;
 use dv_window::Office;
 use std::alloc::Global;
+use std::thread::Threads;
 
 /// Serves a connection: takes requests from it and answers them in their order.
 ///
@@ -25,7 +26,8 @@ use std::alloc::Global;
 /// written whole, with `WriteFault` the last one wasn't. `Memory` comes for want of memory to take a request or to make a
 /// reply; all replies but the last were written whole then. Conditions: 1 to 64 workers, and the keeper's store, where it
 /// is told, is what the office holds, unless this is stale.
-pub fn serve_link<L: Link, K: Keeper, H: KeyDigest, G: Gate>(
+pub fn serve_link<R: Threads + Sync, L: Link, K: Keeper, H: KeyDigest, G: Gate>(
+    rt: &R,
     alloc: Global,
     link: &mut L,
     office: &mut Office,
@@ -50,6 +52,7 @@ pub fn serve_link<L: Link, K: Keeper, H: KeyDigest, G: Gate>(
     ensures later { L.faults link.old ≤ L.faults link.new }
 {
     let loading = Loading {
+        rt,
         workers,
         digest,
         gate,

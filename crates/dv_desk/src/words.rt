@@ -1,7 +1,7 @@
-ghost use Rattle.std.specs.Prelude.{◌≡◌, map, string_bytes};
-ghost use Rattle.std.specs.Char.{is_ascii_digit};
-ghost use Rattle.std.specs.List.{list_all};
+ghost use Rattle.std.specs.Prelude.{◌≡◌, ◌≤◌, IfSome, map, string_bytes};
 ghost use Rattle.dv_desk.specs.ServeWords as spec;
+
+use dv_given::{WORKERS, number_in, value_behind, workers_in};
 
 /// What the words behind `serve` say: the port, and how many workers load a window.
 #[derive(Clone, Copy)]
@@ -10,46 +10,42 @@ pub struct ServeWords {
     pub workers: u32,
 }
 
-const WORKERS: u32 = 4;
-
-// Whether all bytes are digits.
-fn are_digits(word: &[u8]) -> bool
-    ensures { result ≡ list_all is_ascii_digit word.now }
-{
-    word.iter().all(|byte| byte.is_ascii_digit())
-}
-
-// Whether the bytes are a decimal number without a sign or a leading zero.
-fn is_number(word: &[u8]) -> bool
-    ensures { result ≡ spec.is_number word.now }
-{
-    match word {
-        [] => false,
-        [first, ..] => *first != b'0' && are_digits(word),
-    }
-}
+const MOST_PORT: u32 = 65_535;
 
 // The port that a word says.
 fn port_in(word: &str) -> Option<u16>
     ensures { result ≡ spec.port_in word.now }
 {
-    if !is_number(word.as_bytes()) {
-        return None;
-    }
-    word.parse().ok()
+    let port = number_in(MOST_PORT, word.as_bytes())?;
+    Some(port as u16)
 }
 
-/// What the words behind `serve` say; none exactly where they aren't one decimal number from 1 to 65,535
-/// without sign or leading zero. Takes no memory.
-pub fn serve_words(words: &[String]) -> Option<ServeWords>
-    ensures { result ≡ spec.serve_words (map string_bytes words.now) }
+// The number of workers that words say: an option with its value in one word, or in two.
+fn workers_said(words: &[String]) -> Option<u32>
+    ensures workers { result ≡ spec.workers_said (map string_bytes words.now) }
+    ensures some { IfSome result (λ workers. 1 ≤ workers) }
+    ensures most { IfSome result (λ workers. workers ≤ 64) }
 {
-    let [word] = words else {
+    match words {
+        [] => Some(WORKERS),
+        [word] => workers_in(value_behind(b"--workers=", word.as_bytes())?),
+        [name, word] if name.as_str() == "--workers" => workers_in(word.as_bytes()),
+        _ => None,
+    }
+}
+
+/// What the words behind `serve` say; none exactly where they aren't one decimal number from 1 to 65,535, and then
+/// perhaps the workers, as `--workers N` or `--workers=N` with a number from 1 to 64, each without sign or leading zero.
+/// Takes no memory.
+pub fn serve_words(words: &[String]) -> Option<ServeWords>
+    ensures words { result ≡ spec.serve_words (map string_bytes words.now) }
+    ensures some { IfSome result (λ said. 1 ≤ said.workers) }
+    ensures most { IfSome result (λ said. said.workers ≤ 64) }
+{
+    let [word, behind @ ..] = words else {
         return None;
     };
     let port = port_in(word.as_str())?;
-    Some(ServeWords {
-        port,
-        workers: WORKERS,
-    })
+    let workers = workers_said(behind)?;
+    Some(ServeWords { port, workers })
 }

@@ -3,6 +3,7 @@ pub mod Endings
 pub mod FolderReads
 pub mod Given
 pub mod Lines
+pub mod Numbers
 pub mod Readings
 pub mod Says
 pub mod Takings

@@ -13,6 +13,7 @@ use dv_outside::{Doors, Folder, Gate, Sink, Status, end};
 use dv_records::Keeper;
 use dv_text::KeyDigest;
 use std::alloc::Global;
+use std::thread::Threads;
 
 // What the words ask for.
 #[derive(Clone, Copy)]
@@ -39,9 +40,20 @@ fn asked_of(words: &[String]) -> Asked
 }
 
 /// All that the program does. Where the first word isn't `serve`, it is `run`, and the doors are left. Where it is, and the
-/// words behind it are a port, it names the port to the doors and serves the connections that come; the folder and
-/// standard output are left. Else the words are no command.
-pub fn program<F: Folder, D: Doors, K: Keeper, O: Sink, E: Sink, H: KeyDigest, G: Gate>(
+/// words behind it are a port and perhaps the workers, it names the port to the doors and serves the connections that
+/// come; the folder and standard output are left. Else the words are no command. Windows are loaded on threads of the
+/// runtime.
+pub fn program<
+    R: Threads + Sync,
+    F: Folder,
+    D: Doors,
+    K: Keeper,
+    O: Sink,
+    E: Sink,
+    H: KeyDigest,
+    G: Gate,
+>(
+    rt: &R,
     alloc: Global,
     words: &[String],
     folder: &mut F,
@@ -77,10 +89,11 @@ pub fn program<F: Folder, D: Doors, K: Keeper, O: Sink, E: Sink, H: KeyDigest, G
     ensures later_out { (O.faults out.old ≤ O.faults out.new) × (E.faults err.old ≤ E.faults err.new) }
 {
     match asked_of(words) {
-        Asked::Runs => run(alloc, words, folder, keeper, out, err, digest, gate),
+        Asked::Runs => run(rt, alloc, words, folder, keeper, out, err, digest, gate),
         Asked::Serves(asked) => {
             doors.listen(asked.port);
-            serve(alloc, doors, keeper, err, asked.workers, digest, gate)
+            let workers = asked.workers;
+            serve(rt, alloc, doors, keeper, err, workers, digest, gate)
         }
         Asked::Misused => end(err, USAGE, Status::Usage),
     }

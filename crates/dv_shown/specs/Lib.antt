@@ -11,6 +11,7 @@ pub mod DamagedSnapshots
 pub mod DamagedStores
 pub mod Declared
 pub mod Digested
+pub mod Exercised
 pub mod Kept
 pub mod Limited
 pub mod Listed

@@ -11,6 +11,7 @@ ghost use Rattle.dv_shown.specs.DamagedSnapshots.{SnapshotsDamaged};
 ghost use Rattle.dv_shown.specs.DamagedStores.{DamageByWeight, DamagePastLimits, HeavyRows, OrderOfStores, StoresSound};
 ghost use Rattle.dv_shown.specs.Declared.{FaultsDeclared, FilesDeclared, MappingsDeclared, TablesDeclared};
 ghost use Rattle.dv_shown.specs.Digested.{HashesDigested, LinkDigested, PitDigested, SatelliteDigested, StatusDigested};
+ghost use Rattle.dv_shown.specs.Exercised.{ExerciseCounts};
 ghost use Rattle.dv_shown.specs.Kept.{ChangesMade, SnapshotsKept, SnapshotsRead, StoresChanged, TablesKept};
 ghost use Rattle.dv_shown.specs.Limited.{LimitsKept, LimitsPassed};
 ghost use Rattle.dv_shown.specs.Listed.{ManifestsRead};
@@ -307,6 +308,11 @@ pub fn bridge_written()
 /// The words for marts and tables, and the text of the windows.
 pub fn words_hold()
     ensures { WordsHold }
+{}
+
+/// The counts behind the windows that `exercise` makes.
+pub fn exercise_counted()
+    ensures { ExerciseCounts }
 {}
 
 /// Steps of loads.

@@ -11,5 +11,5 @@ mod stands;
 
 fn main(rt: HostRuntime) -> io::Result<ExitCode> {
     let mut stand = FileStand::new(rt);
-    play_from(rt.alloc(), rt.reader(), &mut rt.stdout(), &mut stand)
+    play_from(&rt, rt.alloc(), rt.reader(), &mut rt.stdout(), &mut stand)
 }

@@ -4,6 +4,7 @@ use dv_outside::{OpenGate, Status};
 use dv_program::program;
 use dv_sqlite::SqliteKeeper;
 use dv_text::{Memory, Text};
+use std::thread::Threads;
 
 /// The program over the file of a number.
 #[derive(Drop)]
@@ -42,7 +43,13 @@ impl Stand for FileStand {
         })
     }
 
-    fn run(&mut self, words: &[String], outside: &mut Outside, _digests: Digests) -> Status {
+    fn run<R: Threads + Sync>(
+        &mut self,
+        rt: &R,
+        words: &[String],
+        outside: &mut Outside,
+        _digests: Digests,
+    ) -> Status {
         let Ok(path) = self.path() else {
             return Status::Memory;
         };
@@ -54,6 +61,7 @@ impl Stand for FileStand {
         } = outside;
         let mut keeper = SqliteKeeper::new(self.rt, path);
         let status = program(
+            rt,
             self.rt.alloc(),
             words,
             folder,

@@ -10,5 +10,5 @@ mod stands;
 
 fn main(rt: HostRuntime) -> io::Result<ExitCode> {
     let mut stand = MemoryStand::new(rt.alloc());
-    play_from(rt.alloc(), rt.reader(), &mut rt.stdout(), &mut stand)
+    play_from(&rt, rt.alloc(), rt.reader(), &mut rt.stdout(), &mut stand)
 }

@@ -1,13 +1,16 @@
 use dv_case_keeper::{CaseKeeper, Misfit};
-use dv_cases::{Digests, Ended, Fault, Outside, Stand};
+use dv_cases::{Digests, Ended, Fault, Held, Hold, Outside, Stand};
+use dv_catalog::WindowIn;
 use dv_desk::{Served, serve_link};
 use dv_digest::{Md5Keys, TinyKeys};
-use dv_outside::{MemoryLink, OpenGate, Status};
+use dv_given::{Arrived, bring};
+use dv_outside::{HoldGate, MemoryFolder, MemoryLink, OpenGate, Status};
 use dv_program::program;
-use dv_records::Fail;
-use dv_text::{KeyDigest, Memory};
-use dv_window::Office;
+use dv_records::{Fail, LoadAnswer};
+use dv_text::{KeyDigest, Memory, Text};
+use dv_window::{Office, Order};
 use std::alloc::Global;
+use std::thread::Threads;
 
 /// The program over a keeper in memory, and the office that served the last connection.
 #[derive(Drop)]
@@ -29,7 +32,8 @@ impl MemoryStand {
 }
 
 // Calls the program.
-fn run_by<H: KeyDigest>(
+fn run_by<R: Threads + Sync, H: KeyDigest>(
+    rt: &R,
     alloc: Global,
     words: &[String],
     outside: &mut Outside,
@@ -43,7 +47,7 @@ fn run_by<H: KeyDigest>(
         err,
     } = outside;
     program(
-        alloc, words, folder, doors, keeper, out, err, digest, &OpenGate,
+        rt, alloc, words, folder, doors, keeper, out, err, digest, &OpenGate,
     )
 }
 
@@ -75,7 +79,8 @@ fn office_over<H: KeyDigest>(
 }
 
 // Serves a connection by an office, which is started where it is not to be that of the last one.
-fn serve_by<H: KeyDigest>(
+fn serve_by<R: Threads + Sync, H: KeyDigest>(
+    rt: &R,
     stand: &mut MemoryStand,
     link: &mut MemoryLink,
     is_on: bool,
@@ -91,10 +96,45 @@ fn serve_by<H: KeyDigest>(
     }
     match office {
         Some(office) => {
-            let served = serve_link(*alloc, link, office, keeper, 4, digest, &OpenGate);
+            let served = serve_link(rt, *alloc, link, office, keeper, 4, digest, &OpenGate);
             Ok(ended(served))
         }
         None => Err(NO_OFFICE),
+    }
+}
+
+// The window of a manifest in a folder.
+fn window_in(alloc: Global, folder: &mut MemoryFolder, manifest: &str) -> Result<WindowIn, Fault> {
+    let name = Text::of(alloc, manifest.as_bytes())?;
+    match bring(alloc, folder, &name) {
+        Ok(Arrived::Brought(given)) => Ok(given),
+        _ => Err(Fault::Wrong("the manifest is not brought")),
+    }
+}
+
+// Loads a window by an office over a keeper, and holds the worker who has its first task.
+fn hold_by<R: Threads + Sync, H: KeyDigest>(
+    rt: &R,
+    alloc: Global,
+    keeper: &mut CaseKeeper,
+    given: &WindowIn,
+    hold: &Hold<'_>,
+    digest: &H,
+) -> Result<Held, Fault> {
+    let workers = u32::try_from(hold.workers).unwrap_or(0);
+    if workers < 1 || workers > 64 {
+        return Err(Fault::Wrong("there are 1 to 64 workers"));
+    }
+    let mut office = office_over(alloc, keeper, digest)?;
+    let gate = HoldGate::new(hold.turns);
+    let came = office.load(rt, keeper, given, workers, Order::Declared, digest, &gate);
+    office.close();
+    match came {
+        LoadAnswer::Loaded { rows } => Ok(Held {
+            rows,
+            is_reached: gate.reached(),
+        }),
+        _ => Err(Fault::Wrong("the window is not loaded")),
     }
 }
 
@@ -103,22 +143,44 @@ impl Stand for MemoryStand {
         Ok(MemoryStand::new(self.alloc))
     }
 
-    fn run(&mut self, words: &[String], outside: &mut Outside, digests: Digests) -> Status {
+    fn run<R: Threads + Sync>(
+        &mut self,
+        rt: &R,
+        words: &[String],
+        outside: &mut Outside,
+        digests: Digests,
+    ) -> Status {
         match digests {
-            Digests::Md5 => run_by(self.alloc, words, outside, &mut self.keeper, &Md5Keys),
-            Digests::Tiny => run_by(self.alloc, words, outside, &mut self.keeper, &TinyKeys),
+            Digests::Md5 => run_by(rt, self.alloc, words, outside, &mut self.keeper, &Md5Keys),
+            Digests::Tiny => run_by(rt, self.alloc, words, outside, &mut self.keeper, &TinyKeys),
         }
     }
 
-    fn connect(
+    fn connect<R: Threads + Sync>(
         &mut self,
+        rt: &R,
         link: &mut MemoryLink,
         digests: Digests,
         is_on: bool,
     ) -> Result<Ended, Fault> {
         match digests {
-            Digests::Md5 => serve_by(self, link, is_on, &Md5Keys),
-            Digests::Tiny => serve_by(self, link, is_on, &TinyKeys),
+            Digests::Md5 => serve_by(rt, self, link, is_on, &Md5Keys),
+            Digests::Tiny => serve_by(rt, self, link, is_on, &TinyKeys),
+        }
+    }
+
+    fn hold<R: Threads + Sync>(
+        &mut self,
+        rt: &R,
+        outside: &mut Outside,
+        hold: &Hold<'_>,
+    ) -> Result<Held, Fault> {
+        let alloc = self.alloc;
+        let given = window_in(alloc, &mut outside.folder, hold.manifest.as_str())?;
+        let keeper = &mut self.keeper;
+        match hold.digests {
+            Digests::Md5 => hold_by(rt, alloc, keeper, &given, hold, &Md5Keys),
+            Digests::Tiny => hold_by(rt, alloc, keeper, &given, hold, &TinyKeys),
         }
     }
 

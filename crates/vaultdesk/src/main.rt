@@ -38,6 +38,7 @@ fn main(rt: HostRuntime) -> ExitCode {
     let mut folder = RealFolder::new(rt);
     let mut doors = RealDoors::new(rt);
     let status = program(
+        &rt,
         alloc,
         &words,
         &mut folder,

@@ -1,0 +1,8 @@
+use Rattle.dv_app.proofs.Vocabulary.{Mapping, subst, sym, true, ◌≡◌}
+use Rattle.dv_catalog.specs.TableLookups.{is_table_of}
+use Rattle.dv_mart.proofs.VaultMarts.{of_mapping}
+use Rattle.dv_app.proofs.counts.push_table.Goals as goal
+
+pub table_name-requires : goal.table_name-requires
+table_name-requires c =
+    subst (λ (m : Mapping). is_table_of m c.args.table ≡ true) (sym c.catalog.ensures.value) (of_mapping c.args.vault.now.mapping c.args.table c.requires.among)

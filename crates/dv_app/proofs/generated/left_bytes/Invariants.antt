@@ -1,0 +1,8 @@
+use Rattle.std.specs.Prelude.{◌≡◌, ◌++◌, codes}
+use Rattle.std.specs.List.{flat_map, range_with_len}
+use Rattle.dv_app.specs.Generated.{left_line}
+use Rattle.dv_app.proofs.generated.left_bytes.Given as goal
+
+-- the records of the items so far
+abbrev pub invariant-loop-item : goal.invariant-loop-item
+invariant-loop-item l = l.bytes.items ≡ codes "K,A\n" ++ flat_map (left_line l.window) (range_with_len 0 l.item)
