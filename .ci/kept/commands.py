@@ -269,12 +269,11 @@ USAGE_WORDS = (
     "", "help", "--help", "-h", "-- windows", "Windows", "windows now", "windows -v", "windows -- now",
     "init mapping.toml", "init --force", "init -- --", "resume w1.toml",
     "load", "load --", "load w1.toml w2.toml", "load -- w1.toml w2.toml", "load -w1.toml", "load - w1.toml",
-    "load --workers 2 w1.toml", "load w1.toml --order=declared",
     "mart", "mart feed:customers", "mart -- feed:customers", "mart feed:customers 2024-03-01T02:00:00 w1.toml",
     "table", "table hub_customer hub_product", "try", "try feed:customers 2024-03-01T02:00:00",
     "snapshot", "snapshot customer 2024-03-01T02:00:00", "snapshot -- -1 2", "pit customer",
     "pit customer 2024-03-01T02:00:00 w1.toml", "bridge", "bridge sold", "bridge sold 2024-03-01T02:00:00 w1.toml",
-    "bridge -sold 2024-03-01T02:00:00", "exercise 4", "serve", "serve 0", "serve 08080", "serve 65536", "serve 8080 4",
+    "bridge -sold 2024-03-01T02:00:00", "exercise", "serve", "serve 0", "serve 08080", "serve 65536", "serve 8080 4",
     "serve --workers 4 8080",
 )
 

@@ -148,10 +148,10 @@ def with_signals(limits):
 class Desk:
     """A process of the program that serves a vault."""
 
-    def __init__(self, vault, port=None, limits=None):
+    def __init__(self, vault, port=None, limits=None, options=()):
         self.vault, self.port = vault, port or free_port()
         self.said = tempfile.TemporaryFile()
-        self.process = subprocess.Popen([vault.bench.program, "serve", str(self.port)], cwd=vault.folder,
+        self.process = subprocess.Popen([vault.bench.program, "serve", str(self.port), *options], cwd=vault.folder,
                                         stdin=subprocess.DEVNULL, stdout=self.said, stderr=subprocess.STDOUT,
                                         preexec_fn=with_signals(limits))
 

@@ -44,11 +44,11 @@ PURPOSES = ("sales", "repair", "advice, free", 'a "look"')
 class Source:
     """What the systems have at a date."""
 
-    def __init__(self, seed):
-        self.random = random.Random(seed)
+    def __init__(self, seed, size=CUSTOMERS):
+        self.random, self.size = random.Random(seed), size
         self.new_number = 0
         self.customers, self.phones, self.visits, self.care = {}, {}, {}, {}
-        self.enter(CUSTOMERS)
+        self.enter(size)
 
     def enter(self, count):
         for _ in range(count):
@@ -66,12 +66,12 @@ class Source:
 
     def go_on(self):
         """Some customers change, some are gone, and as many are new."""
-        for customer in self.random.sample(sorted(self.customers), CUSTOMERS // 5):
+        for customer in self.random.sample(sorted(self.customers), self.size // 5):
             self.describe(customer)
-        for customer in self.random.sample(sorted(self.customers), CUSTOMERS // 20):
+        for customer in self.random.sample(sorted(self.customers), self.size // 20):
             for rows in (self.customers, self.phones, self.visits, self.care):
                 del rows[customer]
-        self.enter(CUSTOMERS // 20)
+        self.enter(self.size // 20)
 
     def extracts(self):
         yield "customers", ("CUST_NO", "NAME", "CITY"), [(key, *row) for key, row in self.customers.items()]
@@ -93,9 +93,9 @@ def write_window(vault, source, manifest, date):
     vault.write(manifest, f'load = "{date}"\n{entries}')
 
 
-def inputs(bench):
+def inputs(bench, source=None):
     """A vault with the mapping and the windows, and no store."""
-    vault, source = bench.empty(), Source(seed=7)
+    vault, source = bench.empty(), source or Source(seed=7)
     vault.write("mapping.toml", MAPPING)
     for manifest, date in zip(MANIFESTS, DATES):
         write_window(vault, source, manifest, date)
@@ -148,9 +148,9 @@ def seconds_of_second_load(after_first):
     return statistics.median(taken)
 
 
-def make(bench):
+def make(bench, source=None):
     """A run that nothing breaks off."""
-    after_first = inputs(bench)
+    after_first = inputs(bench, source)
     after_first.says("init", err="init: Stored")
     added = after_first.loaded("w1.toml")
     vault = after_first.twin()

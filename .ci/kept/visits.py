@@ -37,7 +37,7 @@ def words_behind_serve(bench):
     vault = orders.kept(bench, 1)
     before = vault.store_bytes()
     for words in ("", "0", "08080", "+8080", "-8080", "65536", "99999999999999999999", "80 x", "8080 8080", "-- 8080", "8080 --",
-                  "8080 --workers 2", "--help", "localhost:8080", "8080.0", "0x50", "windows", "٨٠٨٠"):
+                  "8080 -w 2", "--help", "localhost:8080", "8080.0", "0x50", "windows", "٨٠٨٠"):
         vault.says("serve", *words.split(), **USAGE)
     vault.says("serve", "", **USAGE)
     with open("/dev/full", "wb") as full:

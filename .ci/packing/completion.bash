@@ -1,4 +1,5 @@
-# Completion of vaultdesk in bash: its commands, manifests, and the names that the mapping.toml of this folder declares.
+# Completion of vaultdesk in bash: its commands, their options, manifests, and the names that the mapping.toml of this folder
+# declares.
 
 # Prints a line for each name, with what it completes before it: hub NAME, path NAME, table NAME, mart WORD.
 # It reads the mapping a token at a time, and passes over what it does not know; vaultdesk itself says what is wrong.
@@ -72,7 +73,7 @@ _vaultdesk_named() {
 _vaultdesk_words() {
   local at=$1 command=$2
   case $at:$command in
-    1:*) printf '%s\n' init load resume windows mart table snapshot pit bridge serve try ;;
+    1:*) printf '%s\n' init load resume windows mart table snapshot pit bridge serve try exercise ;;
     2:mart) _vaultdesk_named mart ;;
     2:table) _vaultdesk_named table ;;
     2:pit) _vaultdesk_named hub ;;
@@ -86,27 +87,53 @@ _vaultdesk_words() {
   esac
 }
 
+# What a word may be that is an option, or the value of the one before it.
+_vaultdesk_options() {
+  local before=$1 current=$2 command=$3 names=
+  case $command in
+    try | load | exercise) names='--workers --order' ;;
+    serve) names='--workers' ;;
+  esac
+  case $before:$current in
+    --workers:*) ;;
+    --order:*) printf '%s\n' declared reverse ;;
+    :--order=*) printf '%s\n' --order=declared --order=reverse ;;
+    *) [ -z "$names" ] || printf '%s\n' $names ;;
+  esac
+}
+
 _vaultdesk() {
-  # Blanks part the words here; bash would also part them at a colon.
-  local line=${COMP_LINE:0:COMP_POINT} words at current front
+  # Blanks part the words here; bash would also part them at a colon and at an equals sign.
+  local line=${COMP_LINE:0:COMP_POINT} words current command word before= are_plain= at=0 front sign
   read -ra words <<<"$line"
   [[ $line != *[[:blank:]] ]] || words+=("")
-  at=$((${#words[@]} - 1))
-  current=${words[at]}
-  case $at:${words[1]:-} in
-    [2-9]:load | [1-9][0-9]*:load | [4-9]:try | [1-9][0-9]*:try)
+  current=${words[-1]} command=${words[1]:-}
+  # Options and their values count for no place, and behind -- there are none.
+  for word in "${words[@]:0:${#words[@]}-1}"; do
+    case $are_plain:$before:$word in
+      :*:--) are_plain=1 before= ;;
+      ::--workers | ::--order) before=$word ;;
+      ::-*) ;;
+      :-*) before= ;;
+      *) ((at += 1)) ;;
+    esac
+  done
+  case $before$are_plain$current:$at:$command in
+    -*) mapfile -t COMPREPLY < <(compgen -W "$(_vaultdesk_options "$before" "$current" "$command")" -- "$current") ;;
+    *:[2-9]:load | *:[1-9][0-9]*:load | *:[4-9]:try | *:[1-9][0-9]*:try)
       compopt -o filenames 2>/dev/null
       mapfile -t COMPREPLY < <(compgen -d -- "$current"; compgen -f -X '!*.toml' -- "$current")
+      return
       ;;
-    *)
-      mapfile -t COMPREPLY < <(compgen -W "$(_vaultdesk_words "$at" "${words[1]:-}")" -- "$current")
-      # What stands before the last colon is on the line already, and bash replaces only what is behind it.
-      if [[ $current == *:* && $COMP_WORDBREAKS == *:* ]]; then
-        front=${current%"${current##*:}"}
-        COMPREPLY=("${COMPREPLY[@]#"$front"}")
-      fi
-      ;;
+    *) mapfile -t COMPREPLY < <(compgen -W "$(_vaultdesk_words "$at" "$command")" -- "$current") ;;
   esac
+  # What stands before the last of these signs is on the line already, and bash replaces only what is behind it.
+  for sign in : =; do
+    if [[ $current == *$sign* && $COMP_WORDBREAKS == *$sign* ]]; then
+      front=${current%"${current##*$sign}"}
+      COMPREPLY=("${COMPREPLY[@]#"$front"}")
+    fi
+  done
 }
 
 complete -F _vaultdesk vaultdesk

@@ -14,7 +14,7 @@ from packing import packages
 from packing.checkouts import TOP, append
 from packing.releases import sum_of
 
-COMMANDS = ["bridge", "init", "load", "mart", "pit", "resume", "serve", "snapshot", "table", "try", "windows"]
+COMMANDS = ["bridge", "exercise", "init", "load", "mart", "pit", "resume", "serve", "snapshot", "table", "try", "windows"]
 MAPPING = """\
 hub = [{ name = "customer", parts = 1 }, { name = "site", parts = 2 }]  # name = "no"
 link = [{ name = "visit", hubs = ["customer", "site"] }]
@@ -58,6 +58,22 @@ TYPED = {
     "vaultdesk mart feed:phones ": [],
     "vaultdesk init ": [],
     "vaultdesk serve ": [],
+    "vaultdesk init -": [],
+    "vaultdesk mart --": [],
+    "vaultdesk load -": ["--order", "--workers"],
+    "vaultdesk exercise --w": ["--workers"],
+    "vaultdesk serve 8080 -": ["--workers"],
+    "vaultdesk load --order ": ["declared", "reverse"],
+    "vaultdesk load --order=": ["declared", "reverse"],
+    "vaultdesk try --order=r": ["reverse"],
+    "vaultdesk load --workers ": [],
+    "vaultdesk load --workers 4 w": ["w1.toml"],
+    "vaultdesk load --workers=4 --order reverse w": ["w1.toml"],
+    "vaultdesk load w1.toml --o": ["--order"],
+    "vaultdesk load -- -": [],
+    "vaultdesk load -- w": ["w1.toml"],
+    "vaultdesk try --workers 2 pit:": ["customer", "site"],
+    "vaultdesk try --order=reverse feed:phones --workers 2 2024-03-01T02:00:00 w": ["w1.toml"],
 }
 COMPLETE = r"""
 source "$1"
