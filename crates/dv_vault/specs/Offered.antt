@@ -1,5 +1,5 @@
 -- The reference lists that a window's rows bring, as they are gathered from the rows: each beside its feed.
-use Rattle.std.specs.Prelude.{◌≡◌, ℕ, ◌==◌, Bool, false, not, List, [], ◌∷◌, Option, None, Some, map, filter, slice_get}
+use Rattle.std.specs.Prelude.{◌≡◌, ℕ, ◌==◌, Bool, false, not, List, [], ◌∷◌, ◌++◌, Option, None, Some, map, filter, slice_get}
 use denote.Ref.{Bor}
 use Rattle.std.specs.List.{flat_map, list_all}
 use Rattle.std.specs.Option.{option_map, option_map_or}
@@ -40,6 +40,10 @@ IsKeyOf hashes told refs = key_told hashes told refs ≡ hashes.hash refs
 abbrev pub offered_by : Hashes → Offer → Offered
 offered_by hashes offer = record { refs = offer.refs.now; feed = offer.feed; digest = key_told hashes (told_by offer.told) offer.refs.now }
 
+-- these offers stand behind those that there were, in their order
+abbrev pub StandBehind : Hashes → List Offer → List Offer → List Offered → Type 0
+StandBehind hashes before now more = map (offered_by hashes) now ≡ map (offered_by hashes) before ++ more
+
 -- by references alone
 abbrev pub offer_cmp : Offer → Offer → Ordering
 offer_cmp a b = refs_cmp a.refs.now b.refs.now
@@ -47,6 +51,10 @@ offer_cmp a b = refs_cmp a.refs.now b.refs.now
 -- reference lists of a feed with their hash keys, without those whose keys are all missing
 abbrev pub kept : Hashes → ℕ → List (List Key) → List Offered
 kept hashes feed lists = map (λ refs. record { refs = refs; feed = feed; digest = hashes.hash refs }) (filter (λ refs. not (list_all is_missing refs)) lists)
+
+-- the reference lists of the rows of an extract, as lists made of each row's references, with their hash keys
+abbrev pub kept_of_rows : Hashes → (List Key → List (List Key)) → Staged → List Offered
+kept_of_rows hashes lists staged = flat_map (λ row. kept hashes staged.feed (lists row.refs)) staged.rows
 
 -- whether a hub stands at a place among hubs
 abbrev pub stands_at : List ℕ → ℕ → ℕ → Bool

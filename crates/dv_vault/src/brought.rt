@@ -1,6 +1,6 @@
 // What the rows of a feed bring to the hubs that it names and to its link, gathered before the rows of hubs and
 // links are worked out.
-ghost use Rattle.std.specs.Prelude.{◌≡◌, ◌++◌, ◌==◌, All, IfOk, IfSome, IsTrue, OnOk, find, map, option_map, slice_get};
+ghost use Rattle.std.specs.Prelude.{◌≡◌, ◌==◌, All, IfOk, IfSome, IsTrue, OnOk, find, map, option_map, slice_get};
 ghost use Rattle.dv_text.specs.Keys.{hashes_of};
 ghost use Rattle.dv_catalog.specs.declared.entries.Parent.TheVariants as parents;
 ghost use Rattle.dv_catalog.specs.Feeds as feeds;
@@ -43,7 +43,7 @@ fn find_brought<'c, 'b>(
 
 // Puts the same offers at the end.
 fn add_same<'b, H: KeyDigest>(offers: &mut Vec<Offer<'b>>, more: &[Offer<'b>]) -> Result<(), Memory>
-    ensures { OnOk result (map (offered.offered_by (hashes_of H.function)) offers.new.items ≡ map (offered.offered_by (hashes_of H.function)) offers.old.items ++ map (offered.offered_by (hashes_of H.function)) more.now) }
+    ensures { OnOk result (offered.StandBehind (hashes_of H.function) offers.old.items offers.new.items (map (offered.offered_by (hashes_of H.function)) more.now)) }
 {
     for offer in more {
         offers.push(*offer)?;
@@ -61,7 +61,7 @@ pub(crate) fn add_brought<'b, 'a, H: KeyDigest>(
 ) -> Result<(), Memory>
     requires keys { HasKeys (hashes_of H.function) extract.now }
     requires brought { All (IsOfRows catalog.now (hashes_of H.function) extract.now.staged.now) brought.now }
-    ensures { OnOk result (map (offered.offered_by (hashes_of H.function)) offers.new.items ≡ map (offered.offered_by (hashes_of H.function)) offers.old.items ++ offered.kept (hashes_of H.function) extract.now.staged.now.feed (spec.refs_from catalog.now parent extract.now.staged.now)) }
+    ensures { OnOk result (offered.StandBehind (hashes_of H.function) offers.old.items offers.new.items (offered.kept (hashes_of H.function) extract.now.staged.now.feed (spec.refs_from catalog.now parent extract.now.staged.now))) }
 {
     match find_brought(brought, extract.staged.feed, parent) {
         Some(found) => add_same::<H>(offers, &found.offers),

@@ -3,13 +3,12 @@ ghost use Rattle.std.specs.Prelude.{◌≡◌, ◌+◌, ◌<◌, ◌≤◌, All,
 ghost use Rattle.dv_text.specs.Keys.{hashes_of};
 ghost use Rattle.dv_catalog.specs.Mappings.{is_valid};
 ghost use Rattle.dv_catalog.specs.Tables.{tables};
-ghost use Rattle.dv_records.specs.Deltas.{HasNoClash};
 ghost use Rattle.dv_records.specs.RowViews.{are_up_to};
 ghost use Rattle.dv_records.specs.States.{is_window};
 ghost use Rattle.dv_vault.specs.Additions as additions;
 ghost use Rattle.dv_vault.specs.HashedWindows.{IsHashedWindow};
 ghost use Rattle.dv_vault.specs.Tasks as spec;
-ghost use Rattle.dv_vault.specs.Vaults.{IsVaultOf, added_to, entry_of, hashed_in, names_of_hubs};
+ghost use Rattle.dv_vault.specs.Vaults.{IsVaultOf, added_to, entry_of, names_of_hubs};
 
 use crate::additions::AdditionFault;
 use crate::batches::{delta_of, deltas_beside};
@@ -20,6 +19,7 @@ use crate::raw_tables::find_place;
 use crate::results::{Found, TableBatch, TaskResult};
 use crate::tables::{Table, extract_of};
 use crate::tasks::{Task, tasks_of};
+use crate::teams::Team;
 use dv_catalog::{Catalog, TableId};
 use dv_crew::{Order, run_tasks};
 use dv_outside::{Gate, OpenGate};
@@ -28,14 +28,14 @@ use dv_text::{KeyDigest, List, Memory};
 use std::alloc::Global;
 use std::thread::Threads;
 
-// A window of a mapping, and the tables to which it adds rows: what workers read, and nobody changes.
+/// A window of a mapping, and the tables to which it adds rows: what workers read, and nobody changes.
 #[derive(Drop)]
-struct WindowJob<'t, 'b, 'a, H: KeyDigest> {
-    tables: &'t [Table],
-    names: &'t HubKeys<'t>,
-    window: &'b HashedWindow<'a>,
-    catalog: &'t Catalog,
-    digest: &'t H,
+pub(crate) struct WindowJob<'t, 'n, 'b, 'a, H: KeyDigest> {
+    pub(crate) tables: &'t [Table],
+    pub(crate) names: &'n HubKeys<'t>,
+    pub(crate) window: &'b HashedWindow<'a>,
+    pub(crate) catalog: &'t Catalog,
+    pub(crate) digest: &'t H,
     ghost tables_are: { IsVaultOf catalog.now (map entry_of tables.now) },
     ghost dated: { IsTrue (are_up_to window.now.window.now.load (map entry_of tables.now)) },
     ghost valid: { IsTrue (is_valid catalog.now) },
@@ -43,7 +43,7 @@ struct WindowJob<'t, 'b, 'a, H: KeyDigest> {
     ghost gathered: { IsHashedWindow (hashes_of H.function) window.now },
 }
 
-impl<'t, 'b, 'a, H: KeyDigest> WindowJob<'t, 'b, 'a, H> {
+impl<'t, 'n, 'b, 'a, H: KeyDigest> WindowJob<'t, 'n, 'b, 'a, H> {
     // What the rows of a feed bring to hubs and to its link; nothing where the window has none.
     fn keys(&self, alloc: Global, feed: u32) -> Result<Vec<Brought<'b>>, Memory>
         ensures { IfOk result (λ brought. All (λ one. (one.feed ≡ feed) × spec.IsBrought self.now.catalog.now (hashes_of H.function) self.now.window.now.window.now one) brought.items) }
@@ -101,7 +101,7 @@ impl<'t, 'b, 'a, H: KeyDigest> WindowJob<'t, 'b, 'a, H> {
 // Does the task at a place among the tasks of a window.
 fn run_at<'b, H: KeyDigest>(
     alloc: Global,
-    job: &WindowJob<'_, 'b, '_, H>,
+    job: &WindowJob<'_, '_, 'b, '_, H>,
     tasks: &[Task],
     place: u32,
 ) -> Result<TaskResult<'b>, Memory>
@@ -112,16 +112,13 @@ fn run_at<'b, H: KeyDigest>(
     job.run(alloc, tasks[place as usize])
 }
 
-// What the tasks of a window give, each done by one of so many workers.
+// What the tasks of a window give, each done by a worker of a team.
 fn found_by<'b, R: Threads + Sync, H: KeyDigest, G: Gate>(
     rt: &R,
     alloc: Global,
-    job: &WindowJob<'_, 'b, '_, H>,
-    workers: u32,
-    order: Order,
-    gate: &G,
+    job: &WindowJob<'_, '_, 'b, '_, H>,
+    team: &Team<'_, G>,
 ) -> Result<Found<'b>, Memory>
-    requires workers { (1 ≤ workers) × (workers ≤ 64) }
     ensures { IfOk result (spec.IsFound job.now.catalog.now (hashes_of H.function) (names_of_hubs job.now.names.now) job.now.window.now.window.now (map entry_of job.now.tables.now)) }
 {
     let tasks = tasks_of(alloc, job.catalog, job.window.window)?;
@@ -131,7 +128,7 @@ fn found_by<'b, R: Threads + Sync, H: KeyDigest, G: Gate>(
         requires { (place < length tasks.now) × (tasks.now ≡ spec.tasks job.now.catalog.now job.now.window.now.window.now) }
         ensures { IfOk result (spec.IsResultAt job.entry.now.catalog.now (hashes_of H.function) (names_of_hubs job.entry.now.names.now) job.entry.now.window.now.window.now (map entry_of job.entry.now.tables.now) place) }
     { run_at(alloc, job, tasks, place) };
-    let results = run_tasks(rt, alloc, &task, count, workers, order, gate)?;
+    let results = run_tasks(rt, alloc, &task, count, team.workers, team.order, team.gate)?;
     Found::of(alloc, results)
 }
 
@@ -148,7 +145,7 @@ fn parent_count(catalog: &Catalog) -> u32
 fn parents_by<'b, R: Threads + Sync, H: KeyDigest>(
     rt: &R,
     alloc: Global,
-    job: &WindowJob<'_, 'b, '_, H>,
+    job: &WindowJob<'_, '_, 'b, '_, H>,
     brought: &[Brought<'b>],
     workers: u32,
 ) -> Result<List<TableBatch>, Memory>
@@ -172,40 +169,29 @@ fn parents_by<'b, R: Threads + Sync, H: KeyDigest>(
     )
 }
 
-/// As `all_deltas`, worked out by so many workers: first the tasks of the window, in the given order and with the
-/// gate, then the tables of hubs and links, one table a task, for which the keys of all feeds are needed.
-pub(crate) fn deltas_by<'b, R: Threads + Sync, H: KeyDigest, G: Gate>(
+/// The rows that the window adds to each table, or the first collision that it makes, worked out by a team: first the
+/// tasks of the window, then the tables of hubs and links, one table a task, for which the keys of all feeds are needed.
+pub(crate) fn deltas_by<R: Threads + Sync, H: KeyDigest, G: Gate>(
     rt: &R,
     alloc: Global,
-    tables: &[Table],
-    names: &HubKeys<'_>,
-    window: &'b HashedWindow<'_>,
-    catalog: &Catalog,
-    digest: &H,
-    workers: u32,
-    order: Order,
-    gate: &G,
+    job: &WindowJob<'_, '_, '_, '_, H>,
+    team: &Team<'_, G>,
 ) -> Result<List<Rows>, AdditionFault>
-    requires tables { IsVaultOf catalog.now (map entry_of tables.now) }
-    requires dated { IsTrue (are_up_to window.now.window.now.load (map entry_of tables.now)) }
-    requires valid { IsTrue (is_valid catalog.now) }
-    requires window { IsTrue (is_window catalog.now window.now.window.now) }
-    requires gathered { IsHashedWindow (hashes_of H.function) window.now }
-    requires workers { (1 ≤ workers) × (workers ≤ 64) }
-    ensures rows { IfOk result (λ batches. batches ≡ map (added_to catalog.now (hashes_of H.function) window.now.window.now) (map entry_of tables.now)) }
-    ensures apart { IfOk result (λ batches. All (λ entry. HasNoClash (hashed_in catalog.now (hashes_of H.function) (names_of_hubs names.now) window.now.window.now entry)) (map entry_of tables.now)) }
-    ensures follow { IfOk result (additions.FollowAll window.now.window.now.load (map entry_of tables.now)) }
-    ensures clashes { IfErr result (additions.ClashesAt catalog.now (hashes_of H.function) (names_of_hubs names.now) window.now.window.now (map entry_of tables.now)) }
+    ensures rows { IfOk result (λ batches. batches ≡ map (added_to job.now.catalog.now (hashes_of H.function) job.now.window.now.window.now) (map entry_of job.now.tables.now)) }
+    ensures apart { IfOk result (λ batches. additions.AreApartBy job.now.catalog.now (hashes_of H.function) (names_of_hubs job.now.names.now) job.now.window.now.window.now (map entry_of job.now.tables.now)) }
+    ensures follow { IfOk result (additions.FollowAll job.now.window.now.window.now.load (map entry_of job.now.tables.now)) }
+    ensures clashes { IfErr result (additions.ClashesAt job.now.catalog.now (hashes_of H.function) (names_of_hubs job.now.names.now) job.now.window.now.window.now (map entry_of job.now.tables.now)) }
 {
-    let job = WindowJob {
-        tables,
-        names,
-        window,
-        catalog,
-        digest,
-    };
-    let found = found_by(rt, alloc, &job, workers, order, gate)?;
-    let parents = parents_by(rt, alloc, &job, &found.brought, workers)?;
+    let found = found_by(rt, alloc, job, team)?;
+    let parents = parents_by(rt, alloc, job, &found.brought, team.workers)?;
     let found = found.with_batches(parents)?;
-    deltas_beside(alloc, tables, names, window, catalog, digest, found)
+    deltas_beside(
+        alloc,
+        job.tables,
+        job.names,
+        job.window,
+        job.catalog,
+        job.digest,
+        found,
+    )
 }

@@ -1,6 +1,7 @@
 // A window is kept: a keeper takes it, and then the tables.
-ghost use Rattle.std.specs.Prelude.{◌≡◌, ◌+◌, ◌≤◌, ◌++◌, ◌∷◌, [], IfErr, IfNone, IfOk, IfSome, IsSome, IsTrue, None, OnErr, OnOk, Some, false, length, map, true};
+ghost use Rattle.std.specs.Prelude.{◌≡◌, ◌+◌, ◌≤◌, ◌++◌, ◌∷◌, [], IfErr, IfNone, IfOk, IfSome, IsSome, IsTrue, List as list_of, None, OnErr, OnOk, Some, false, length, map, true};
 ghost use Rattle.std.specs.List.{AllZip};
+ghost use Rattle.dv_text.specs.declared.rows.WindowHead.{WindowHead};
 ghost use Rattle.dv_text.specs.Causes.{Rose};
 ghost use Rattle.dv_text.specs.Told.{Told};
 ghost use Rattle.dv_records.specs.Changes.{Changes, KeeperCause};
@@ -156,13 +157,11 @@ fn open<K: Keeper>(
     keeper.put_stage(alloc, window)
 }
 
-// The heads with one behind them.
-fn heads_with(heads: &List<WindowHead>, head: WindowHead) -> Result<List<WindowHead>, Memory>
-    ensures { IfOk result (λ made. made ≡ heads.now ++ head ∷ []) }
+// Takes the last head away. Takes no memory.
+fn forget_last(heads: &mut List<WindowHead>)
+    ensures { (before : list_of WindowHead) (head : WindowHead) → heads.old ≡ before ++ head ∷ [] → heads.new ≡ before }
 {
-    let mut made = heads.copy()?;
-    made.push(head)?;
-    Ok(made)
+    let _last = heads.pop();
 }
 
 // How many rows a part has, at most.
@@ -214,23 +213,25 @@ fn apply_all(tables: &mut [Table], parts: Vec<Part>)
     }
 }
 
-// Makes room for the rows of a window behind those of the tables, and gives its head, and the heads with it.
+// Makes room for the rows of a window behind those of the tables, puts its head behind the others, and gives it once
+// more.
 fn make_room(
     alloc: Global,
     tables: &mut [Table],
-    heads: &List<WindowHead>,
+    heads: &mut List<WindowHead>,
     begun: &Begun,
-) -> Result<(WindowHead, List<WindowHead>), Memory>
+) -> Result<WindowHead, Memory>
     requires { length begun.now.parts.items ≡ length tables.old }
     ensures rows { map entry_of tables.new ≡ map entry_of tables.old }
     ensures room { OnOk result (spec.HaveRoom tables.new (parts_spec.whole_in begun.now.parts.items)) }
-    ensures head { IfOk result (λ made. made.0 ≡ head_of begun.now.window) }
-    ensures heads { IfOk result (λ made. made.1 ≡ heads.now ++ head_of begun.now.window ∷ []) }
+    ensures head { IfOk result (λ head. head ≡ head_of begun.now.window) }
+    ensures heads { OnOk result (heads.new ≡ heads.old ++ head_of begun.now.window ∷ []) }
+    ensures kept { OnErr result (heads.new ≡ heads.old) }
 {
     reserve_all(tables, &begun.parts)?;
     let head = head(alloc, &begun.window)?;
-    let heads = heads_with(heads, head.copy()?)?;
-    Ok((head, heads))
+    heads.push(head.copy()?)?;
+    Ok(head)
 }
 
 // A window that was not opened further than it was.
@@ -268,18 +269,19 @@ impl Vault {
         ensures cause { IfErr result (λ untaken. untaken.error ≡ KeeperError.Failed → Rose (K.faults keeper.old) (K.faults keeper.new)) }
     {
         let alloc = self.heads.allocator();
-        let Ok((head, heads)) = make_room(alloc, &mut self.raw.tables, &self.heads, &begun) else {
+        let Ok(head) = make_room(alloc, &mut self.raw.tables, &mut self.heads, &begun) else {
             return Err(unopened(KeeperError::Memory, is_open, begun));
         };
         if let Err(error) = open(alloc, keeper, is_open, &begun.window) {
+            forget_last(&mut self.heads);
             return Err(unopened(error, is_open, begun));
         }
         let mut begun = begun;
         if let Err(error) = complete(alloc, keeper, &self.raw.tables, &mut begun, &head) {
+            forget_last(&mut self.heads);
             let begun = Some(begun);
             return Err(Untaken { error, begun });
         }
-        self.heads = heads;
         self.weight = begun.weight;
         apply_all(&mut self.raw.tables, begun.parts);
         Ok(())

@@ -17,6 +17,7 @@ mod raw_tables;
 mod results;
 mod tables;
 mod tasks;
+mod teams;
 mod vaults;
 
 pub use additions::AdditionFault;

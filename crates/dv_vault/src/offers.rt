@@ -1,7 +1,7 @@
 // What the rows of a window's extracts bring to hubs and links. The reference lists are lent as they stand in
 // the rows, and none is copied.
-ghost use Rattle.std.specs.Prelude.{◌≡◌, ℕ, ◌==◌, ◌∷◌, ◌++◌, [], OnOk, Some, if◌then◌else◌, map, slice_get};
-ghost use Rattle.std.specs.List.{flat_map, list_any};
+ghost use Rattle.std.specs.Prelude.{◌≡◌, ℕ, ◌==◌, ◌∷◌, [], OnOk, Some, if◌then◌else◌, slice_get};
+ghost use Rattle.std.specs.List.{list_any};
 ghost use Rattle.dv_text.specs.declared.rows.Key.{Key};
 ghost use Rattle.dv_text.specs.Keys.{hashes_of};
 ghost use Rattle.dv_catalog.specs.declared.entries.Parent.TheVariants as parents;
@@ -31,7 +31,7 @@ fn add<'a, H: KeyDigest>(
     told: Option<&'a Digest>,
 ) -> Result<(), Memory>
     requires { offered.IsKeyOf (hashes_of H.function) (offered.told_by told) refs.now }
-    ensures { OnOk result (map (offered.offered_by (hashes_of H.function)) offers.new.items ≡ map (offered.offered_by (hashes_of H.function)) offers.old.items ++ offered.kept (hashes_of H.function) feed (refs.now ∷ [])) }
+    ensures { OnOk result (offered.StandBehind (hashes_of H.function) offers.old.items offers.new.items (offered.kept (hashes_of H.function) feed (refs.now ∷ []))) }
 {
     if !are_missing(refs) {
         offers.push(Offer { refs, feed, told })?;
@@ -63,7 +63,7 @@ fn add_key<'a, H: KeyDigest>(
     told: Option<&'a Digest>,
 ) -> Result<(), Memory>
     requires { offered.IsKeyOf (hashes_of H.function) (offered.told_by told) (key.now ∷ []) }
-    ensures { OnOk result (map (offered.offered_by (hashes_of H.function)) offers.new.items ≡ map (offered.offered_by (hashes_of H.function)) offers.old.items ++ offered.kept (hashes_of H.function) feed (if stands then (key.now ∷ []) ∷ [] else [])) }
+    ensures { OnOk result (offered.StandBehind (hashes_of H.function) offers.old.items offers.new.items (offered.kept (hashes_of H.function) feed (if stands then (key.now ∷ []) ∷ [] else []))) }
 {
     if !stands {
         return Ok(());
@@ -81,7 +81,7 @@ fn add_keys<'a, H: KeyDigest>(
     told: Option<&'a Digest>,
 ) -> Result<(), Memory>
     requires { (place : ℕ) (key : Key) → slice_get refs.now place ≡ Some key → offered.IsKeyOf (hashes_of H.function) (offered.told_by told) (key ∷ []) }
-    ensures { OnOk result (map (offered.offered_by (hashes_of H.function)) offers.new.items ≡ map (offered.offered_by (hashes_of H.function)) offers.old.items ++ offered.kept (hashes_of H.function) feed (offered.single_keys hub hubs.now refs.now)) }
+    ensures { OnOk result (offered.StandBehind (hashes_of H.function) offers.old.items offers.new.items (offered.kept (hashes_of H.function) feed (offered.single_keys hub hubs.now refs.now))) }
 {
     for (place, key) in refs.iter().enumerate() {
         add_key::<H>(offers, stands_at(hubs, place, hub), key, feed, told)?;
@@ -97,7 +97,7 @@ fn add_hub_offers<'a, H: KeyDigest>(
     extract: &'a HashedExtract<'a>,
 ) -> Result<(), Memory>
     requires { HasKeys (hashes_of H.function) extract.now }
-    ensures { OnOk result (map (offered.offered_by (hashes_of H.function)) offers.new.items ≡ map (offered.offered_by (hashes_of H.function)) offers.old.items ++ flat_map (λ row. offered.kept (hashes_of H.function) extract.now.staged.now.feed (offered.single_keys hub hubs.now row.refs)) extract.now.staged.now.rows) }
+    ensures { OnOk result (offered.StandBehind (hashes_of H.function) offers.old.items offers.new.items (offered.kept_of_rows (hashes_of H.function) (offered.single_keys hub hubs.now) extract.now.staged.now)) }
 {
     let staged = extract.staged;
     for (place, row) in staged.rows.items().iter().enumerate() {
@@ -114,7 +114,7 @@ fn add_link_offers<'a, H: KeyDigest>(
     extract: &'a HashedExtract<'a>,
 ) -> Result<(), Memory>
     requires { HasKeys (hashes_of H.function) extract.now }
-    ensures { OnOk result (map (offered.offered_by (hashes_of H.function)) offers.new.items ≡ map (offered.offered_by (hashes_of H.function)) offers.old.items ++ flat_map (λ row. offered.kept (hashes_of H.function) extract.now.staged.now.feed (row.refs ∷ [])) extract.now.staged.now.rows) }
+    ensures { OnOk result (offered.StandBehind (hashes_of H.function) offers.old.items offers.new.items (offered.kept_of_rows (hashes_of H.function) (λ refs. refs ∷ []) extract.now.staged.now)) }
 {
     let staged = extract.staged;
     for (place, row) in staged.rows.items().iter().enumerate() {
@@ -169,7 +169,7 @@ pub(crate) fn add_offers<'a, H: KeyDigest>(
     parent: Parent,
 ) -> Result<(), Memory>
     requires { HasKeys (hashes_of H.function) extract.now }
-    ensures { OnOk result (map (offered.offered_by (hashes_of H.function)) offers.new.items ≡ map (offered.offered_by (hashes_of H.function)) offers.old.items ++ offered.kept (hashes_of H.function) extract.now.staged.now.feed (spec.refs_from catalog.now parent extract.now.staged.now)) }
+    ensures { OnOk result (offered.StandBehind (hashes_of H.function) offers.old.items offers.new.items (offered.kept (hashes_of H.function) extract.now.staged.now.feed (spec.refs_from catalog.now parent extract.now.staged.now))) }
 {
     let feed = extract.staged.feed;
     match parent {

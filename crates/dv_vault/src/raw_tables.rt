@@ -1,4 +1,4 @@
-ghost use Rattle.std.specs.Prelude.{◌≡◌, false, IfErr, IfNone, IfOk, IfSome, IsTrue, ◌≤◌, find, map, option_map, position, true};
+ghost use Rattle.std.specs.Prelude.{◌≡◌, false, IfErr, IfNone, IfOk, IfSome, IsTrue, find, map, option_map, position, true};
 ghost use Rattle.dv_text.specs.Keys.{hashes_of};
 ghost use Rattle.dv_catalog.specs.Tables.{tables};
 ghost use Rattle.dv_records.specs.ReadBack.{effect_rows_in, hub_rows_in, link_rows_in, multi_rows_in, sat_rows_in, status_rows_in};
@@ -13,10 +13,10 @@ use crate::additions::AdditionFault;
 use crate::batches::all_deltas;
 use crate::hashed_windows::{gathered, gathered_by};
 use crate::hub_keys::hub_keys;
-use crate::jobs::deltas_by;
+use crate::jobs::{WindowJob, deltas_by};
 use crate::tables::Table;
+use crate::teams::Team;
 use dv_catalog::{Catalog, TableId};
-use dv_crew::Order;
 use dv_hub_link::{HubTable, LinkTable};
 use dv_outside::Gate;
 use dv_records::Rows;
@@ -195,22 +195,19 @@ impl RawTables {
         all_deltas(alloc, &self.tables, &names, &hashed, catalog, digest)
     }
 
-    /// As `added`, worked out by so many workers, which begin the tasks of the window in the given order and pass the gate.
+    /// As `added`, worked out by a team.
     pub(crate) fn added_by<R: Threads + Sync, H: KeyDigest, G: Gate>(
         &self,
         rt: &R,
         alloc: Global,
         catalog: &Catalog,
         window: &Window,
-        workers: u32,
-        order: Order,
         digest: &H,
-        gate: &G,
+        team: &Team<'_, G>,
     ) -> Result<List<Rows>, AdditionFault>
         requires tables { spec.IsVaultOf catalog.now (entries_of self.now) }
         requires dated { IsTrue (are_up_to window.now.load (entries_of self.now)) }
         requires window { IsTrue (is_window catalog.now window.now) }
-        requires workers { (1 ≤ workers) × (workers ≤ 64) }
         ensures rows { IfOk result (λ batches. batches ≡ map (spec.added_to catalog.now (hashes_of H.function) window.now) (entries_of self.now)) }
         ensures apart { IfOk result (λ batches. AreApartBy catalog.now (hashes_of H.function) (spec.hub_names catalog.now (entries_of self.now)) window.now (entries_of self.now)) }
         ensures follow { IfOk result (FollowAll window.now.load (entries_of self.now)) }
@@ -218,18 +215,14 @@ impl RawTables {
     {
         catalog.note_valid();
         let names = hub_keys(alloc, catalog, self)?;
-        let hashed = gathered_by(rt, alloc, catalog, window, workers, digest)?;
-        deltas_by(
-            rt,
-            alloc,
-            &self.tables,
-            &names,
-            &hashed,
+        let hashed = gathered_by(rt, alloc, catalog, window, team.workers, digest)?;
+        let job = WindowJob {
+            tables: &self.tables,
+            names: &names,
+            window: &hashed,
             catalog,
             digest,
-            workers,
-            order,
-            gate,
-        )
+        };
+        deltas_by(rt, alloc, &job, team)
     }
 }

@@ -16,6 +16,7 @@ use crate::batches::{none_of_all, weight_with};
 use crate::begun::Begun;
 use crate::raw_tables::RawTables;
 use crate::tables::Table;
+use crate::teams::Team;
 use dv_catalog::{Catalog, TableId};
 use dv_crew::Order;
 use dv_hub_link::{HubTable, LinkTable};
@@ -200,35 +201,24 @@ impl Vault {
             .added(self.heads.allocator(), &self.catalog, window, digest)
     }
 
-    // As `batches`, worked out by so many workers.
+    // As `batches`, worked out by a team.
     fn batches_by<R: Threads + Sync, H: KeyDigest, G: Gate>(
         &self,
         rt: &R,
         window: &Window,
-        workers: u32,
-        order: Order,
         digest: &H,
-        gate: &G,
+        team: &Team<'_, G>,
     ) -> Result<List<Rows>, AdditionFault>
         requires later { late_after (last_head self.now.heads) window.now.load ≡ None }
         requires window { IsTrue (is_window self.now.mapping window.now) }
-        requires workers { (1 ≤ workers) × (workers ≤ 64) }
         ensures rows { IfOk result (λ batches. batches ≡ spec.all_added (hashes_of H.function) self.now window.now) }
         ensures apart { IfOk result (λ batches. spec.AreApart (hashes_of H.function) self.now window.now) }
         ensures follow { IfOk result (spec.FollowAll window.now.load self.now.tables) }
         ensures clashes { IfErr result (spec.Clashes (hashes_of H.function) self.now window.now) }
     {
         let alloc = self.heads.allocator();
-        self.raw.added_by(
-            rt,
-            alloc,
-            &self.catalog,
-            window,
-            workers,
-            order,
-            digest,
-            gate,
-        )
+        self.raw
+            .added_by(rt, alloc, &self.catalog, window, digest, team)
     }
 
     // A window that adds these rows to the tables, none of which has a row of it.
@@ -283,7 +273,12 @@ impl Vault {
         ensures fits { IfOk result (Fits self.now) }
         ensures clashes { IfErr result (spec.Clashes (hashes_of H.function) self.now window) }
     {
-        let rest = self.batches_by(rt, &window, workers, order, digest, gate)?;
+        let team = Team {
+            workers,
+            order,
+            gate,
+        };
+        let rest = self.batches_by(rt, &window, digest, &team)?;
         let begun = self.begun::<H>(window, rest)?;
         Ok(begun)
     }

@@ -4,14 +4,15 @@ use Rattle.dv_vault.specs.Tasks.{IsBatch, IsBrought}
 use Rattle.dv_vault.proofs.jobs.deltas_by.Goals as goal
 
 pub deltas_beside-requires-clause-tables : goal.deltas_beside-requires-clause-tables
-deltas_beside-requires-clause-tables g c κs within = vault_tables c.args.catalog.now (map entry_of c.args.tables.now) c.requires.tables
+deltas_beside-requires-clause-tables g c κs within = let job = c.args.job.now in vault_tables job.catalog.now (map entry_of job.tables.now) job.tables_are
 
 pub deltas_beside-requires-clause-found : goal.deltas_beside-requires-clause-found
 deltas_beside-requires-clause-found g c κs within =
     let hashes = hashes_of g.H.KeyDigest.function in
-    let window = c.args.window.now.window.now in
-    let is_brought = IsBrought c.args.catalog.now hashes window in
-    let is_batch = IsBatch c.args.catalog.now hashes (names_of_hubs c.args.names.now) window (map entry_of c.args.tables.now) in
+    let job = c.args.job.now in
+    let window = job.window.now.window.now in
+    let is_brought = IsBrought job.catalog.now hashes window in
+    let is_batch = IsBatch job.catalog.now hashes (names_of_hubs job.names.now) window (map entry_of job.tables.now) in
     let found = c.in_ok-found.found in
     let are = c.in_ok-found.ensures {u = tt} in
     let put = c.in_ok-found-2.ensures {u = tt} in

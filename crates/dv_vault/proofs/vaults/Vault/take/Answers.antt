@@ -58,12 +58,12 @@ invariant_of-self-2 g c =
     c.apply_all.ensures ∙ ap (entries_with (map entry_of c.deref_mut-2.result.now)) c.in_default-complete.ensures.all ∙ ap (λ entries. entries_with entries whole) (sym same) in
     let after : map entry_of (with_items (with_items c.self.inside.raw.tables c.make_room.new.tables) c.apply_all.new.tables).items ≡ entries_with raw.tables whole =
     entries_after (with_items c.self.inside.raw.tables c.make_room.new.tables) c.deref_mut-2.result.now c.apply_all.new.tables _ c.deref_mut-2.ensures.value c.apply_all.auto.tables grown in
-    let pushed : c.in-Ok.heads ≡ raw.heads ++ head_of c.args.begun.window ∷ [] = (c.in-Ok.ensures {u = tt}).heads in
+    let pushed : c.make_room.new.heads ≡ raw.heads ++ head_of c.args.begun.window ∷ [] = (c.in-Ok.ensures {u = tt}).heads in
     let fits : Fits raw c.args.begun = subst (λ (raw : RawVault). Fits raw c.args.begun) (sym c.self.view_is) c.requires.fits in
     let entries = map entry_of (with_items (with_items c.self.inside.raw.tables c.make_room.new.tables) c.apply_all.new.tables).items in (
-      vault_still raw c.args.begun fits entries c.in-Ok.heads after pushed c.self.invariant.0,
-      rows_still raw c.args.begun fits entries c.in-Ok.heads after pushed c.self.invariant.1,
-      heads_still raw c.args.begun fits entries c.in-Ok.heads after pushed c.self.invariant.2,
+      vault_still raw c.args.begun fits entries c.make_room.new.heads after pushed c.self.invariant.0,
+      rows_still raw c.args.begun fits entries c.make_room.new.heads after pushed c.self.invariant.1,
+      heads_still raw c.args.begun fits entries c.make_room.new.heads after pushed c.self.invariant.2,
       c.in_default-complete.ensures.left.weight_is ∙ fits.weight ∙ ap tables_weight (sym after),
       c.self.invariant.4,
     )
