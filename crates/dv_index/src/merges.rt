@@ -15,7 +15,8 @@ fn is_up_to<R: Placed>(rows: &[R], a: Entry, b: Entry) -> bool
     !compared(rows, b, a).is_lt()
 }
 
-// How many of the first entries of an index stand up to an entry.
+// How many of the first entries of an index stand up to an entry. The steps from the end double until they are too
+// long, so that a place near the end is found soon.
 fn count_up_to<R: Placed>(rows: &[R], index: &[Entry], entry: Entry) -> usize
     requires { IsSorted (entry_cmp (parents_of R.place rows.now)) index.now }
     ensures within { result ≤ length index.now }
@@ -24,7 +25,17 @@ fn count_up_to<R: Placed>(rows: &[R], index: &[Entry], entry: Entry) -> usize
         (λ other. not (is_lt (entry_cmp (parents_of R.place rows.now) entry other)) ≡ false)
         index.now result }
 {
-    index.partition_point(|other| is_up_to(rows, *other, entry))
+    let mut low = 0;
+    let mut high = index.len();
+    while low < high {
+        let probe = high - 1 - (index.len() - high).min((high - low) / 2);
+        if is_up_to(rows, index[probe], entry) {
+            low = probe + 1;
+        } else {
+            high = probe;
+        }
+    }
+    low
 }
 
 // Moves the entries from a place to an end behind so many free places and one more, in which an entry goes.
@@ -40,8 +51,8 @@ fn put_before(index: &mut [Entry], place: usize, end: usize, free: usize, entry:
     index[place + free] = entry;
 }
 
-// Merges entries that stand in order into an index, for which there is room: each finds its place by a binary
-// search, and those behind it move once. Takes no memory.
+// Merges entries that stand in order into an index, for which there is room: each is searched for from the place of
+// the one behind it, and those between them move once. Takes no memory.
 pub(crate) fn merge<R: Placed>(rows: &[R], index: &mut Vec<Entry>, arrivals: &[Entry])
     requires olds { IsSorted (entry_cmp (parents_of R.place rows.now)) index.old.items }
     requires news { IsSorted (entry_cmp (parents_of R.place rows.now)) arrivals.now }
