@@ -1,6 +1,7 @@
 -- One raw table more that is gathered, behind those before it in table order.
-use Rattle.dv_store_rules.proofs.Vocabulary.{arith, zero, suc, ◌≡◌, ◌∙◌, ℕ, ◌+◌, ◌<◌, false, true, List, [], ◌∷◌, ◌++◌, Option, Some, None, refl, sym, ap, subst, append-nil, get_or, length, take, drop, take_more, list_any, map, option_map, sum_by_push, tables, table_name, flaw_in, rows_at}
-use Rattle.dv_store_rules.proofs.Vocabulary.{rows_in, rows_weight, table_eq, tables_weight, IsKnown, Known, Hubs, Links, Indexed, Store, TableId, TableRows, Told, take-append-drop}
+use Rattle.std.proofs.Common.{rules}
+use Rattle.dv_store_rules.proofs.Vocabulary.{suc, ◌≡◌, ◌∙◌, ℕ, ◌+◌, ◌<◌, false, true, List, [], ◌∷◌, ◌++◌, Option, Some, None, refl, sym, ap, subst, append-nil, get_or, length, take, drop, take_more, list_any, option_map, sum_by_push, tables, table_name, flaw_in}
+use Rattle.dv_store_rules.proofs.Vocabulary.{rows_in, rows_weight, table_eq, tables_weight, IsKnown, Known, Hubs, Links, Store, TableId, TableRows, Told, take-append-drop}
 use Rattle.std.proofs.Common.{add-one, drop-cons}
 use Rattle.dv_store_rules.proofs.KnownSteps.{feed_known, hub_known, link_known}
 use Rattle.dv_store_rules.specs.Damages.{damage_at}
@@ -12,9 +13,9 @@ use Rattle.dv_vault.specs.declared.tables.Table.{Table}
 use Rattle.dv_vault.specs.declared.tables.Table.TheVariants as table
 use Rattle.dv_vault.specs.Vaults.{entry_of}
 use Rattle.dv_restore.specs.declared.gathered.Gathered.{Gathered}
-use Rattle.dv_restore.specs.Readings.{AreGathered, HasPut, IsKnownBy, IsPut, IsRawDamage, TellsKnown, entries_in, AreRead, hub_entries, link_entries}
+use Rattle.dv_restore.specs.Readings.{AreGathered, HasPut, IsKnownBy, IsPut, IsRawDamage, TellsKnown, entries_in, AreRead}
 use Rattle.dv_restore.proofs.GatheredEntries.{IsNext, entries_put}
-use Rattle.dv_restore.proofs.ReadSteps.{more_read, none_read, read_damaged}
+use Rattle.dv_restore.proofs.ReadSteps.{more_read, read_damaged}
 use Rattle.dv_restore.proofs.TablePlaces.{IsPlaced, counted_put, next_of, none_before, placed}
 
 -- ---- what is known
@@ -54,37 +55,7 @@ module _ (first : Known) (old new : Gathered) (weight : ℕ) (known : KnownTable
   known_put (table.Effect feed rows) put next none sum known' is' = feed_tells (table.Effect feed rows) refl put sum (entries_put old new weight (table.Effect feed rows) put next) known' is'
 
 put_weight : (old new : Gathered) (weight : ℕ) (next : Table) → IsPut old next weight new → new.weight ≡ weight
-put_weight old new weight (table.Hub hub rows) put = put.weight_is
-put_weight old new weight (table.Link link rows) put = put.weight_is
-put_weight old new weight (table.Sat feed rows) put = put.weight_is
-put_weight old new weight (table.Multi feed rows) put = put.weight_is
-put_weight old new weight (table.Status feed rows) put = put.weight_is
-put_weight old new weight (table.Effect feed rows) put = put.weight_is
-
--- ---- no table
-
-nothing_at : {R : Type 0} (tables : List (Indexed R)) (place : ℕ) → tables ≡ [] → [] ≡ rows_at tables place
-nothing_at tables zero none = ap (λ l. rows_at l 0) (sym none)
-nothing_at tables (suc place) none = ap (λ l. rows_at l (suc place)) (sym none)
-
-pub none_gathered : (first : Known) (told : Option Store) (items : List TableId) (gathered : Gathered) → gathered.hubs.items ≡ [] → gathered.links.items ≡ [] → gathered.feeds.items ≡ [] → gathered.weight ≡ 0
-    → AreGathered first told (take 0 items) 0 gathered
-none_gathered first told items gathered no_hubs no_links no_feeds no_weight =
-    let empty : [] ≡ entries_in gathered = λ i. hub_entries 0 (sym no_hubs i) ++ link_entries 0 (sym no_links i) ++ map entry_of (sym no_feeds i) in
-    record {
-      read = subst (AreRead first told []) empty (none_read first told);
-      known = λ known is. subst (λ l. IsKnown first.hashes first.width known (record first { tables = l })) empty (record {
-        mapping = sym is.catalog_is;
-        hashes = refl;
-        width = refl;
-        heads = sym is.heads_are;
-        hubs = λ hub. nothing_at known.hubs.now hub (is.hubs_are ∙ no_hubs);
-        links = λ link. nothing_at known.links.now link (is.links_are ∙ no_links);
-        weight = sym (is.weight_is ∙ no_weight);
-      });
-      weight = no_weight ∙ ap tables_weight empty;
-      counted = record { hubs = omega (arith, ap length no_hubs); links = omega (arith, ap length no_links); feeds = omega (arith, ap length no_feeds) };
-    }
+put_weight old new weight next put = search rules
 
 -- ---- one table more
 

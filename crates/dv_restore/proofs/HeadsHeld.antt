@@ -1,5 +1,6 @@
 -- What holds of the heads of sealed windows that break no rule: none is later than the last one, and their feeds are in the
 -- mapping.
+use Rattle.std.proofs.Common.{rules}
 use Rattle.dv_store_rules.proofs.Vocabulary.{Bool, List, None, Option, Some, [], and_from, and_parts, ap, append-nil, append_assoc, arith, eqb-true, first_along, flaw_behind, inl, inr, length, list_all, ltb-true, map, map-append, nat_lt, none_before_map, option_map, or_none, refl, slice_get, subst, sym, true, ℕ}
 use Rattle.dv_store_rules.proofs.Vocabulary.{Mapping, get_or, is_loaded, last_or, slice_get-get_or, ◌&&◌, ◌++◌, ◌-◌, ◌==◌, ◌∙◌, ◌∷◌, ◌≡◌, ◌≤◌, ◌<◌, ◌⊎◌, false≢true, false}
 use Rattle.std.specs.Prelude.{◌||◌}
@@ -13,8 +14,7 @@ use Rattle.dv_records.specs.Limits.{most_windows}
 use Rattle.dv_records.specs.States.{ascends}
 
 pub some_of : (a b : Bool) → (a || b) ≡ true → (a ≡ true) ⊎ (b ≡ true)
-some_of true b e = inl refl
-some_of false b e = inr e
+some_of a b e = search rules
 
 -- the last item, told in two ways
 pub last_two_ways : {X : Type 0} (xs : List X) → last_or None xs ≡ slice_get xs (length xs - 1)
@@ -64,11 +64,11 @@ module _ (mapping : Mapping) where
   abbrev has_feeds : WindowHead → Bool
   has_feeds head = list_all (λ feed. nat_lt feed (length mapping.feeds)) head.feeds
 
-  record HeadHolds (before : List WindowHead) (head : WindowHead) : Type 0 where
-    later : is_later before head.load ≡ true
-    feeds : has_feeds head ≡ true
+  pub record HeadHolds (before : List WindowHead) (head : WindowHead) : Type 0 where
+    pub later : is_later before head.load ≡ true
+    pub feeds : has_feeds head ≡ true
 
-  head_holds : (before : List WindowHead) (head : WindowHead) → head_rule mapping before head ≡ None → HeadHolds before head
+  pub head_holds : (before : List WindowHead) (head : WindowHead) → head_rule mapping before head ≡ None → HeadHolds before head
   head_holds before head none =
       let (first, few) = and_parts (is_later before head.load && are_feeds mapping head.feeds) (nat_lt (length before) most_windows) (held 2 (is_head mapping before head) none) in
       let (later, feeds) = and_parts (is_later before head.load) (are_feeds mapping head.feeds) first in

@@ -2,7 +2,7 @@
 -- do not collide.
 use Rattle.dv_hub_link.proofs.Vocabulary.{Contains, Contains-append_cases, Contains-cons_cases, Contains-cons_here, Contains-cons_there, Contains-flat_map, Contains-nil, Delivery, HasNoClash, Hashed, Hashes, Hub, HubName, HubRow, IsApart, Key, Less, Link, false≢true}
 use Rattle.dv_hub_link.proofs.Vocabulary.{LinkRow, List, Mapping, None, Parent, TellLists, Window, [], ap, appended, brought, collision_free, collision_in, deliveries, flat_map, hashed_by, hashed_refs, hub_batch, hub_hashed, hubs_in, hubs_of, inl, inr, is_missing, list_all}
-use Rattle.dv_hub_link.proofs.Vocabulary.{irreflexive, is_known, keys_under, link_batch, link_hashed, map, map_member, missing_refs, offered_refs, parent_hubs, refl, refs_cmp, refs_total, reverse, stored, subst, sym, table_of, true, ℕ, ◌++◌, ◌∙◌, ◌∷◌, ◌≡◌}
+use Rattle.dv_hub_link.proofs.Vocabulary.{irreflexive, is_known, keys_under, link_batch, link_hashed, map, map_member, missing_refs, offered_refs, parent_hubs, refl, refs_cmp, refs_total, reverse, stored, subst, sym, true, ℕ, ◌++◌, ◌∙◌, ◌∷◌, ◌≡◌}
 use Rattle.dv_text.proofs.Vocabulary.{◌⊎◌}
 use Rattle.dv_hub_link.proofs.Hashables.{all_missing}
 use Rattle.dv_hub_link.proofs.ToldLists.{list_told}

@@ -4,6 +4,7 @@ pub mod Completing
 pub mod GatherSteps
 pub mod GatheredEntries
 pub mod HeadsHeld
+pub mod HeadsInOrder
 pub mod HeldBatches
 pub mod KeptTables
 pub mod KnownLists

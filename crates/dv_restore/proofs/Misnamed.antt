@@ -1,9 +1,8 @@
 -- The missing key among the keys of a hub: what stands under the zero key, and what that says of clashes.
-use Rattle.dv_hub_link.proofs.Vocabulary.{Bool, Contains, Contains-append_cases, Contains-append_left, Contains-append_right, Contains-cons_cases, Contains-cons_here, Contains-cons_there, Contains-map, Contains-nil, Delivery, HasNoClash, Hashed, Hashes, Hub, HubName, HubRow, Key, Less, Link, LinkRow, List, Mapping, None, Option, Parent, Some}
-use Rattle.dv_hub_link.proofs.Vocabulary.{TableId, Window, [], ap, brought, bytes_eq, bytes_eq-Decides, deliveries, false, false≢true, find, found_member, hashed_by, inl, inr, is_some, list_any, map, map_member, missing_key, missing_refs, option_map, parent_hubs, refl, refs_cmp, refs_total, some_passes_at, subst, sym, true, ℕ, ◌++◌, ◌∙◌, ◌∷◌, ◌≡◌}
+use Rattle.dv_hub_link.proofs.Vocabulary.{Bool, Contains, Contains-append_cases, Contains-append_left, Contains-append_right, Contains-cons_cases, Contains-cons_here, Contains-cons_there, Contains-map, Contains-nil, Delivery, HasNoClash, Hashed, Hashes, Hub, HubName, HubRow, Key, Link, LinkRow, List, Mapping, None, Option, Parent, Some}
+use Rattle.dv_hub_link.proofs.Vocabulary.{TableId, Window, [], ap, brought, bytes_eq, bytes_eq-Decides, deliveries, false, false≢true, find, found_member, hashed_by, inl, inr, is_some, list_any, map, map_member, missing_key, missing_refs, option_map, parent_hubs, refl, some_passes_at, subst, sym, true, ℕ, ◌++◌, ◌∙◌, ◌∷◌, ◌≡◌}
 use Rattle.dv_text.proofs.Vocabulary.{◌⊎◌}
-use Rattle.dv_text.proofs.Deciding.{key_eq-Decides, refs_exact}
-use Rattle.dv_text.proofs.Orderings.{turned}
+use Rattle.dv_text.proofs.Deciding.{key_eq-Decides}
 use Rattle.dv_text.specs.Keys.{DigestFunction, hashes_of}
 use Rattle.dv_catalog.specs.declared.tables.TableId.TheVariants as ids
 use Rattle.dv_records.specs.Deltas.{missing_in}

@@ -1,6 +1,7 @@
 -- Damage names a place and a rule that there may be, whatever is stored.
-use Rattle.dv_store_rules.proofs.Vocabulary.{◌≡◌, ◌≤◌, ◌+◌, ◌&&◌, ℕ, Bool, true, false, List, [], ◌∷◌, ◌++◌, Option, Some, None, length, map, list_all, nat_le, first_of, option_or, option_map, and_parts, made_of, arith, refl, subst}
-use Rattle.dv_store_rules.proofs.Vocabulary.{Known, Mapping, TableId, flaw_in, flaw_behind, first_flaw, first_along, if_broken, codes, table_name, HubRow, LinkRow, StatusRow, inl, inr, Rows, Hubs, Links, Sats, Multis, Statuses, Effects}
+use Rattle.dv_store_rules.proofs.Vocabulary.{Bool, first_of, if_broken}
+use Rattle.dv_store_rules.proofs.Vocabulary.{◌≡◌, ◌≤◌, ◌+◌, ◌&&◌, ℕ, true, List, [], ◌∷◌, ◌++◌, Option, Some, None, length, nat_le, option_or, option_map, made_of, arith, refl, subst}
+use Rattle.dv_store_rules.proofs.Vocabulary.{Known, Mapping, TableId, flaw_in, flaw_behind, first_flaw, first_along, codes, table_name, HubRow, LinkRow, StatusRow, inl, inr, Rows, Hubs, Links, Sats, Multis, Statuses, Effects}
 use Rattle.std.proofs.Common.{rules}
 use Rattle.std.specs.Prelude.{IfSome}
 use Rattle.dv_text.specs.declared.rows.WindowHead.{WindowHead}
@@ -17,8 +18,8 @@ use Rattle.dv_store_rules.specs.declared.pages.Read.{Read}
 use Rattle.dv_store_rules.specs.declared.pages.Read.TheVariants.{OtherKind, Rows as AllRows}
 use Rattle.dv_store_rules.specs.Damages.{damage_at}
 use Rattle.dv_store_rules.specs.Pages.{IsOfTable}
-use Rattle.dv_store_rules.specs.SnapshotHeads.{is_snapshot, snapshot_flaw, snapshot_rule}
-use Rattle.dv_store_rules.specs.StoredHeads.{head_flaw, head_rule, is_head}
+use Rattle.dv_store_rules.specs.SnapshotHeads.{snapshot_flaw, snapshot_rule}
+use Rattle.dv_store_rules.specs.StoredHeads.{head_flaw, head_rule}
 use Rattle.dv_store_rules.specs.StoredRows.{effect_rule, hub_rule, link_rule, multi_rule, sat_rule, status_rule}
 use Rattle.dv_restore.specs.Damages.{IsBesideTables, IsFormRule, IsNamed}
 use Rattle.dv_restore.specs.Readings.{flaw_read}
@@ -27,20 +28,6 @@ use Rattle.dv_restore.specs.Readings.{flaw_read}
 
 numbered : (n : ℕ) → nat_le 1 n && nat_le n 15 ≡ true → IsFormRule n
 numbered n h1 = search (rules)
-
-broken : (n : ℕ) (holds : Bool) (rest : Option ℕ) → IsFormRule n → IfSome rest IsFormRule → IfSome (option_or (if_broken n holds) rest) IsFormRule
-broken n true rest is later = later
-broken n false rest is later = is
-
-all_numbered : (tests : List (ℕ × Bool)) → list_all (λ test. nat_le 1 test.0 && nat_le test.0 15) tests ≡ true → IfSome (first_of (map (λ test. if_broken test.0 test.1) tests)) IsFormRule
-all_numbered [] all = tt
-all_numbered ((n, holds) ∷ tests) all =
-    let parts = and_parts (nat_le 1 n && nat_le n 15) (list_all (λ test. nat_le 1 test.0 && nat_le test.0 15) tests) all in
-    broken n holds (first_of (map (λ test. if_broken test.0 test.1) tests)) (numbered n parts.0) (all_numbered tests parts.1)
-
-one_numbered : (n : ℕ) (holds : Bool) → nat_le 1 n && nat_le n 15 ≡ true → IfSome (if_broken n holds) IsFormRule
-one_numbered n true is = tt
-one_numbered n false is = numbered n is
 
 -- ---- the first flaw of rows
 
@@ -67,31 +54,34 @@ module _ {R : Type 0} (rule_of : List R → R → Option ℕ) (own : (before : L
 -- ---- what stands beside the raw tables
 
 heads_named : (mapping : Mapping) (heads : List WindowHead) → IfSome (head_flaw mapping heads) IsFlaw
-heads_named mapping heads = first_named (head_rule mapping) (λ before head. one_numbered 2 (is_head mapping before head) refl) heads
+heads_named mapping heads = first_named (head_rule mapping) (λ before head. search (rules, arith)) heads
 
 snapshots_named : (windows : List WindowHead) (heads : List SnapHead) → IfSome (snapshot_flaw windows heads) IsFlaw
-snapshots_named windows heads = first_named (snapshot_rule windows) (λ before head. one_numbered 14 (is_snapshot windows before head) refl) heads
+snapshots_named windows heads = first_named (snapshot_rule windows) (λ before head. search (rules, arith)) heads
 
 -- ---- raw tables
 
+seven_named : (a b c d e f g : Bool) → IfSome (first_of (if_broken 4 a ∷ if_broken 5 b ∷ if_broken 6 c ∷ if_broken 7 d ∷ if_broken 8 e ∷ if_broken 9 f ∷ if_broken 13 g ∷ [])) IsFormRule
+seven_named a b c d e f g = search (rules, arith)
+
 module _ (known : Known) (n : ℕ) where
   hub_named : (before : List HubRow) (row : HubRow) → IfSome (hub_rule known n before row) IsFormRule
-  hub_named before row = all_numbered ((4, _) ∷ (5, _) ∷ (6, _) ∷ (7, _) ∷ (8, _) ∷ (10, _) ∷ (13, _) ∷ []) refl
+  hub_named before row = search (rules, arith)
 
   link_named : (before : List LinkRow) (row : LinkRow) → IfSome (link_rule known n before row) IsFormRule
-  link_named before row = all_numbered ((4, _) ∷ (5, _) ∷ (6, _) ∷ (7, _) ∷ (8, _) ∷ (9, _) ∷ (10, _) ∷ (13, _) ∷ []) refl
+  link_named before row = search (rules, arith)
 
   sat_named : (before : List SatRow) (row : SatRow) → IfSome (sat_rule known n before row) IsFormRule
-  sat_named before row = all_numbered ((4, _) ∷ (5, _) ∷ (6, _) ∷ (7, _) ∷ (8, _) ∷ (9, _) ∷ (13, _) ∷ []) refl
+  sat_named before row = seven_named _ _ _ _ _ _ _
 
   multi_named : (before : List MultiRow) (row : MultiRow) → IfSome (multi_rule known n before row) IsFormRule
-  multi_named before row = all_numbered ((4, _) ∷ (5, _) ∷ (6, _) ∷ (7, _) ∷ (8, _) ∷ (9, _) ∷ (13, _) ∷ []) refl
+  multi_named before row = seven_named _ _ _ _ _ _ _
 
   status_named : (before : List StatusRow) (row : StatusRow) → IfSome (status_rule known n before row) IsFormRule
-  status_named before row = all_numbered ((4, _) ∷ (5, _) ∷ (6, _) ∷ (8, _) ∷ (9, _) ∷ (11, _) ∷ (13, _) ∷ []) refl
+  status_named before row = search (rules, arith)
 
   effect_named : (before : List EffectRow) (row : EffectRow) → IfSome (effect_rule known n before row) IsFormRule
-  effect_named before row = all_numbered ((4, _) ∷ (5, _) ∷ (6, _) ∷ (8, _) ∷ (9, _) ∷ (12, _) ∷ (13, _) ∷ []) refl
+  effect_named before row = search (rules, arith)
 
 flaw_named : (known : Known) (id : TableId) (rows : Rows) → is_of_kind id rows ≡ true → IfSome (flaw_in known id rows) IsFlaw
 flaw_named known (Hub n) (Hubs rows) own = first_named (hub_rule known n) (hub_named known n) rows
@@ -113,10 +103,6 @@ found flaws flaw named is = subst (λ o. IfSome o IsFlaw) is named
 
 beside : (mapping : Mapping) (table : List ℕ) (flaw : Flaw) → IsBesideTables table → IsFlaw flaw → IsNamed mapping (damage_at table flaw)
 beside mapping table flaw name named = record { table_is = inl name; counted = named.0; numbered = named.1 }
-
--- of the mapping, the sealed windows, and the snapshots
-pub mapping_named : (mapping : Mapping) → IsNamed mapping (damage_at (codes "mapping") (record { row = 1; rule = 1 }))
-mapping_named mapping = beside mapping (codes "mapping") (record { row = 1; rule = 1 }) (inl refl) (omega arith, numbered 1 refl)
 
 pub windows_named : (mapping : Mapping) (heads : List WindowHead) (flaw : Flaw) → head_flaw mapping heads ≡ Some flaw → IsNamed mapping (damage_at (codes "windows") flaw)
 windows_named mapping heads flaw is = beside mapping (codes "windows") flaw (inr (inl refl)) (found (head_flaw mapping heads) flaw (heads_named mapping heads) is)

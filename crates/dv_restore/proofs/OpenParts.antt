@@ -1,4 +1,5 @@
 -- The parts of an open window in a vault of which some first tables have its batches.
+use Rattle.std.proofs.Common.{rules}
 use Rattle.dv_vault.proofs.Vocabulary.{◌≡◌, ℕ, ◌+◌, true, List, [], ◌∷◌, ◌++◌, refl, sym, ◌∙◌, ap, arith, drop, map, suc, take, zero, sum_by, sum_by-cons, Hashes, Mapping, TableId, Rows, TableRows, Window, is_of_kind, row_count, rows_then, rows_weight, table_after, table_batch, table_entry, tables, tables_weight, vault, vault_weight}
 use Rattle.dv_vault.proofs.Vocabulary.{ArePartsOf, none_like, opened_in, parts_at, rest_in, tables_there, window_batches}
 use Rattle.dv_catalog.specs.declared.tables.TableId.TheVariants as ids
@@ -14,38 +15,22 @@ use Rattle.dv_vault.specs.declared.begun.Part.{Part}
 
 -- a table and its batch are of its kind
 after_kind : (mapping : Mapping) (hashes : Hashes) (older : Backwards) (id : TableId) → is_of_kind id (table_after mapping hashes older id) ≡ true
-after_kind mapping hashes older (ids.Hub n) = refl
-after_kind mapping hashes older (ids.Link n) = refl
-after_kind mapping hashes older (ids.Sat n) = refl
-after_kind mapping hashes older (ids.Multi n) = refl
-after_kind mapping hashes older (ids.Status n) = refl
-after_kind mapping hashes older (ids.Effect n) = refl
+after_kind mapping hashes older id = search rules
 
 batch_kind : (mapping : Mapping) (hashes : Hashes) (older : Backwards) (window : Window) (id : TableId) → is_of_kind id (table_batch mapping hashes id older window) ≡ true
-batch_kind mapping hashes older window (ids.Hub n) = refl
-batch_kind mapping hashes older window (ids.Link n) = refl
-batch_kind mapping hashes older window (ids.Sat n) = refl
-batch_kind mapping hashes older window (ids.Multi n) = refl
-batch_kind mapping hashes older window (ids.Status n) = refl
-batch_kind mapping hashes older window (ids.Effect n) = refl
+batch_kind mapping hashes older window id = search rules
 
 none_kind : (mapping : Mapping) (hashes : Hashes) (older : Backwards) (window : Window) (id : TableId) → is_of_kind id (none_like (table_batch mapping hashes id older window)) ≡ true
-none_kind mapping hashes older window (ids.Hub n) = refl
-none_kind mapping hashes older window (ids.Link n) = refl
-none_kind mapping hashes older window (ids.Sat n) = refl
-none_kind mapping hashes older window (ids.Multi n) = refl
-none_kind mapping hashes older window (ids.Status n) = refl
-none_kind mapping hashes older window (ids.Effect n) = refl
+none_kind mapping hashes older window id = search rules
 
 pub none_weighs : (rows : Rows) → (rows_weight (none_like rows) ≡ 0) × (row_count (none_like rows) ≡ 0)
-none_weighs (of.Hubs a) = (refl, refl)
-none_weighs (of.Links a) = (refl, refl)
-none_weighs (of.Sats a) = (refl, refl)
-none_weighs (of.Multis a) = (refl, refl)
-none_weighs (of.Statuses a) = (refl, refl)
-none_weighs (of.Effects a) = (refl, refl)
-none_weighs (of.Pits a) = (refl, refl)
-none_weighs (of.Bridges a) = (refl, refl)
+none_weighs rows = search rules
+
+head_same : {x y : TableRows} {xs ys : List TableRows} → x ∷ xs ≡ y ∷ ys → x ≡ y
+head_same e = cc
+
+tail_same : {x y : TableRows} {xs ys : List TableRows} → x ∷ xs ≡ y ∷ ys → xs ≡ ys
+tail_same e = cc
 
 -- the rows of all batches are counted, wherever they are
 pub all_counted : (k : ℕ) (batches : List Rows) → sum_by row_count (opened_in (parts_at k batches)) + sum_by row_count (rest_in (parts_at k batches)) ≡ sum_by row_count batches
@@ -106,12 +91,6 @@ module _ (mapping : Mapping) (hashes : Hashes) (older : Backwards) (window : Win
       λ i. same_behind id (table_after mapping hashes older id) part.opened (none_like (batch_at id)) (after_kind mapping hashes older id) here.opened (none_kind mapping hashes older window id) (first ∙ sym (then_none (table_after mapping hashes older id) (batch_at id))) i
       ∷ (opened_are zero some parts behind (tail_same e ∙ none_first some) ∙ ap opened_in (all_lacking (map batch_at some))) i
     where
-      head_same : {x y : TableRows} {xs ys : List TableRows} → x ∷ xs ≡ y ∷ ys → x ≡ y
-      head_same e = cc
-
-      tail_same : {x y : TableRows} {xs ys : List TableRows} → x ∷ xs ≡ y ∷ ys → xs ≡ ys
-      tail_same e = cc
-
       none_first : (some : List TableId) → map (table_entry mapping hashes older) some ≡ mixed 0 some
       none_first [] = refl
       none_first (id ∷ some) = refl
@@ -119,12 +98,6 @@ module _ (mapping : Mapping) (hashes : Hashes) (older : Backwards) (window : Win
       let first : rows_then (table_after mapping hashes older id) part.opened ≡ table_after mapping hashes (with_newest window older) id = ap (λ (entry : TableRows). entry.rows) (head_same e) in
       λ i. same_behind id (table_after mapping hashes older id) part.opened (batch_at id) (after_kind mapping hashes older id) here.opened (batch_kind mapping hashes older window id) (first ∙ table_after-newest mapping hashes older window id) i
       ∷ opened_are k some parts behind (tail_same e) i
-    where
-      head_same : {x y : TableRows} {xs ys : List TableRows} → x ∷ xs ≡ y ∷ ys → x ≡ y
-      head_same e = cc
-
-      tail_same : {x y : TableRows} {xs ys : List TableRows} → x ∷ xs ≡ y ∷ ys → xs ≡ ys
-      tail_same e = cc
 
 pub partly_weighs : (mapping : Mapping) (hashes : Hashes) (sealed : List Window) (window : Window) (k : ℕ)
     → tables_weight (partial mapping hashes sealed window k) + sum_by rows_weight (rest_in (parts_at k (window_batches mapping hashes sealed window))) ≡ vault_weight mapping hashes (sealed ++ window ∷ [])

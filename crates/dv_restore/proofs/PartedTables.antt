@@ -1,9 +1,9 @@
 -- Tables in two by a load date, one table after the other, and what the two parts weigh.
+use Rattle.std.proofs.Common.{rules}
 use Rattle.dv_vault.proofs.Vocabulary.{All, All-head, All-nil, All-push, All-tail, List, Rows, TableRows, [], and_parts, ap, are_up_to, arith, entry_of, is_up_to, map, map-append, refl, rows_weight, subst, sum_by, sum_by-cons, sym, tables_weight, true, ℕ, ◌++◌, ◌+◌, ◌∙◌, ◌∷◌, ◌≡◌}
 use Rattle.dv_vault.specs.declared.tables.Table.{Table}
 use Rattle.dv_records.proofs.VaultSteps.{rows_add_up}
 use Rattle.dv_records.specs.RowViews.{are_of_one_kind}
-use Rattle.dv_records.specs.declared.stores.Rows.TheVariants.{Hubs, Links, Sats, Multis, Statuses, Effects, Pits, Bridges}
 use Rattle.dv_restore.specs.Parts.{AreParted, EndsAt, IsParted, entry_before, rows_at, rows_before}
 
 module _ (date : ℕ) where
@@ -30,14 +30,7 @@ module _ (date : ℕ) where
 
   -- the two parts of rows are of one kind
   pub one_kind : (rows : Rows) → are_of_one_kind (rows_before date rows) (rows_at date rows) ≡ true
-  one_kind (Hubs rows) = refl
-  one_kind (Links rows) = refl
-  one_kind (Sats rows) = refl
-  one_kind (Multis rows) = refl
-  one_kind (Statuses rows) = refl
-  one_kind (Effects rows) = refl
-  one_kind (Pits rows) = refl
-  one_kind (Bridges rows) = refl
+  one_kind rows = search rules
 
   weights_all : (entries : List TableRows) → All (λ entry. EndsAt date entry.rows) entries
       → tables_weight entries ≡ tables_weight (map (entry_before date) entries) + sum_by rows_weight (map (λ entry. rows_at date entry.rows) entries)

@@ -9,13 +9,6 @@ use Rattle.dv_restore.specs.Readings.{AreInForm, AreRead, HasHeads, IsRawDamage}
 -- ---- one table more
 
 module _ (first : Known) (told : Option Store) where
-  pub none_read : AreRead first told [] []
-  none_read = record {
-    ids_are = refl;
-    in_form = λ before entry behind e. absurd (no_split before entry behind e);
-    stored = λ s e. refl;
-  }
-
   module _ (ids : List TableId) (entries : List TableRows) (read : AreRead first told ids entries) (id : TableId) (entry : TableRows) (is : entry.table ≡ id) where
     more_in_form : flaw_in (record first { tables = entries }) id entry.rows ≡ None → AreInForm first (entries ++ entry ∷ [])
     more_in_form clear before other behind e =

@@ -1,10 +1,9 @@
 -- The rows of tables in which no row breaks a rule have load dates of the heads that are known.
-use Rattle.dv_store_rules.proofs.Vocabulary.{Bool, List, None, Option, [], and_from, and_parts, append_assoc, first_along, flaw_behind, if_broken, list_all, list_any, map, none_before_map, option_or, or_none, refl, some_passes, some_passes_at, sym, true, ℕ}
+use Rattle.std.proofs.Common.{rules}
+use Rattle.dv_store_rules.proofs.Vocabulary.{Bool, List, None, Option, [], and_from, and_parts, append_assoc, first_along, flaw_behind, list_all, list_any, map, none_before_map, or_none, refl, some_passes, some_passes_at, sym, true, ℕ}
 use Rattle.dv_store_rules.proofs.Vocabulary.{Contains-nil, Hashes, Mapping, Window, ap, bytes_eq, false, head_of, inl, inr, not, option_to_list, subst}
 use Rattle.dv_vault.proofs.Vocabulary.{Contains-cons_cases, not-true}
-use Rattle.dv_records.specs.Hubs.{link_cmp}
-use Rattle.dv_store_rules.specs.FormRules.{are_references, follows, is_light, is_link_row, is_new_digest, is_source, zero_key}
-use Rattle.dv_catalog.specs.FirstOf.{first_of}
+use Rattle.dv_store_rules.specs.FormRules.{zero_key}
 use Rattle.dv_restore.specs.Begins.{HaveNoZeroLinks}
 use Rattle.dv_store_rules.proofs.Vocabulary.{Known, Rows, TableId, TableRows, flaw_in, is_delivered, is_loaded, is_of_kind, ◌&&◌, ◌++◌, ◌==◌, ◌∙◌, ◌∷◌, ◌≡◌}
 use Rattle.dv_text.specs.declared.rows.WindowHead.{WindowHead}
@@ -17,18 +16,9 @@ use Rattle.dv_records.specs.declared.raw_rows.SatRow.{SatRow}
 use Rattle.dv_records.specs.declared.raw_rows.StatusRow.{StatusRow}
 use Rattle.dv_records.specs.declared.stores.Rows.TheVariants.{Hubs, Links, Sats, Multis, Statuses, Effects}
 use Rattle.dv_records.specs.RowViews.{loads_of}
-use Rattle.dv_store_rules.proofs.RuleParts.{held}
 use Rattle.dv_store_rules.specs.StoredRows.{hub_rule, link_rule, sat_rule, multi_rule, status_rule, effect_rule}
 use Rattle.dv_restore.specs.Parts.{are_loaded}
 use Rattle.dv_restore.specs.Readings.{AreInForm}
-
--- the second of the first answers
-second : {R : Type 0} (a b rest : Option R) → option_or a (option_or b rest) ≡ None → b ≡ None
-second a b rest none = (or_none b rest (or_none a (option_or b rest) none).1).0
-
--- and the fourth
-fourth : {R : Type 0} (a b c d rest : Option R) → option_or a (option_or b (option_or c (option_or d rest))) ≡ None → d ≡ None
-fourth a b c d rest none = second c d rest (or_none b (option_or c (option_or d rest)) (or_none a (option_or b (option_or c (option_or d rest))) none).1).1
 
 -- a window that has a feed is there
 delivered_loaded : (heads : List WindowHead) (feed load : ℕ) → is_delivered heads feed load ≡ true → is_loaded heads load ≡ true
@@ -47,31 +37,25 @@ module _ (known : Known) where
   abbrev is_known : ℕ → Bool
   is_known load = is_loaded known.heads load
 
-  delivered_known : (feed load : ℕ) → if_broken 5 (is_delivered known.heads feed load) ≡ None → is_known load ≡ true
-  delivered_known feed load none = delivered_loaded known.heads feed load (held 5 (is_delivered known.heads feed load) none)
-
   -- the rows of one table
   pub loads_known : (table : TableId) (rows : Rows) → is_of_kind table rows ≡ true → flaw_in known table rows ≡ None → list_all is_known (loads_of rows) ≡ true
   loads_known (Hub hub) (Hubs rows) kind none =
-      all_along (hub_rule known hub) (λ (row : HubRow). row.load) is_known (λ before row none. held 5 (is_known row.load) (second _ _ _ none)) [] rows none
+      all_along (hub_rule known hub) (λ (row : HubRow). row.load) is_known (λ before row none. search rules) [] rows none
   loads_known (Link link) (Links rows) kind none =
-      all_along (link_rule known link) (λ (row : LinkRow). row.load) is_known (λ before row none. held 5 (is_known row.load) (second _ _ _ none)) [] rows none
+      all_along (link_rule known link) (λ (row : LinkRow). row.load) is_known (λ before row none. search rules) [] rows none
   loads_known (Sat feed) (Sats rows) kind none =
-      all_along (sat_rule known feed) (λ (row : SatRow). row.load) is_known (λ before row none. delivered_known feed row.load (second _ _ _ none)) [] rows none
+      all_along (sat_rule known feed) (λ (row : SatRow). row.load) is_known (λ before row none. delivered_loaded known.heads feed row.load (search rules)) [] rows none
   loads_known (Multi feed) (Multis rows) kind none =
-      all_along (multi_rule known feed) (λ (row : MultiRow). row.load) is_known (λ before row none. delivered_known feed row.load (second _ _ _ none)) [] rows none
+      all_along (multi_rule known feed) (λ (row : MultiRow). row.load) is_known (λ before row none. delivered_loaded known.heads feed row.load (search rules)) [] rows none
   loads_known (Status feed) (Statuses rows) kind none =
-      all_along (status_rule known feed) (λ (row : StatusRow). row.load) is_known (λ before row none. delivered_known feed row.load (second _ _ _ none)) [] rows none
+      all_along (status_rule known feed) (λ (row : StatusRow). row.load) is_known (λ before row none. delivered_loaded known.heads feed row.load (search rules)) [] rows none
   loads_known (Effect feed) (Effects rows) kind none =
-      all_along (effect_rule known feed) (λ (row : EffectRow). row.load) is_known (λ before row none. delivered_known feed row.load (second _ _ _ none)) [] rows none
+      all_along (effect_rule known feed) (λ (row : EffectRow). row.load) is_known (λ before row none. delivered_loaded known.heads feed row.load (search rules)) [] rows none
   loads_known table rows kind none = cc
 
   -- no row of a link stands under the zero key
   digest_known : (link : ℕ) (before : List LinkRow) (row : LinkRow) → link_rule known link before row ≡ None → not (bytes_eq row.digest (zero_key known.width)) ≡ true
-  digest_known link before row none =
-      held 7 (not (bytes_eq row.digest (zero_key known.width)))
-      (fourth (if_broken 4 (is_link_row known link row)) (if_broken 5 (is_loaded known.heads row.load)) (if_broken 6 (follows (λ (other : LinkRow). other.load) link_cmp before row)) (if_broken 7 (not (bytes_eq row.digest (zero_key known.width))))
-      (first_of (if_broken 8 (is_source known.mapping row.source) ∷ if_broken 9 (are_references known link row.hubs) ∷ if_broken 10 (is_new_digest (λ (other : LinkRow). other.digest) before row.digest) ∷ if_broken 13 (is_light known (Links (before ++ row ∷ []))) ∷ [])) none)
+  digest_known link before row none = search rules
 
   none_zero : (rows : List LinkRow) → list_all (λ digest. not (bytes_eq digest (zero_key known.width))) (map (λ (row : LinkRow). row.digest) rows) ≡ true → list_any (λ row. bytes_eq row.digest (zero_key known.width)) rows ≡ false
   none_zero [] all = refl

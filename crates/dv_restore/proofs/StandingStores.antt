@@ -31,7 +31,7 @@ use Rattle.dv_restore.proofs.OpenParts.{all_counted, partly_opened, partly_weigh
 use Rattle.dv_restore.proofs.StoredTables.{read_partial, read_vault}
 use Rattle.dv_restore.specs.Begins.{HasPlace, compared_in}
 use Rattle.dv_restore.specs.Completions.{IsBegunAs, IsBegunOf, IsOpenBehind, MayGoOn, rows_there}
-use Rattle.dv_restore.specs.Damages.{BreaksRule, IsFirstDamage, IsInForm, IsNotRead, IsReadAs, KeepsF15}
+use Rattle.dv_restore.specs.Damages.{BreaksRule, IsInForm, IsNotRead, IsReadAs, KeepsF15}
 use Rattle.dv_restore.specs.Restored.{IsOfState, heads_of_state}
 use Rattle.dv_restore.specs.Sealed.{sealed_entry, sealed_of, stored_vault}
 use Rattle.dv_vault.specs.declared.begun.Begun.{Begun}
@@ -246,10 +246,3 @@ module _ (mapping : Mapping) (function : DigestFunction) (state : State) (store 
       let none : None ≡ Some damage = sym in_form.undamaged ∙ broken in
       cc
   none_broken damage (inr broken) = broken.stops in_form.goes_on
-
-  -- and nothing in it is its first damage
-  pub never_damaged : (damage : Damage) → IsFirstDamage (hashes_of function) function.width store damage → ⊥
-  never_damaged damage (inl unread) = never_unread mapping (hashes_of function) state store stands damage unread
-  never_damaged damage (inr (other, other_read, broken)) =
-      let same = same_mapping other mapping store other_read stands.mapped in
-      none_broken damage (subst (λ (read : Mapping). BreaksRule (hashes_of function) function.width read store damage) same broken)

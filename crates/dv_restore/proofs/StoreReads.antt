@@ -1,6 +1,6 @@
 -- What is read of a store before its raw tables, and with them, tells its first damage.
-use Rattle.dv_store_rules.proofs.Vocabulary.{List, None, Option, Some, [], ap, map, option_to_list, refl, subst, sym, ℕ, ◌++◌, ◌∙◌, ◌∷◌, ◌≡◌}
-use Rattle.dv_store_rules.proofs.Vocabulary.{Hashes, Mapping, Store, Window, first_of, head_of}
+use Rattle.dv_store_rules.proofs.Vocabulary.{List, None, Option, Some, ap, map, option_to_list, refl, sym, ℕ, ◌++◌, ◌∙◌, ◌≡◌}
+use Rattle.dv_store_rules.proofs.Vocabulary.{Hashes, Mapping, Store, Window, head_of}
 use Rattle.std.specs.Option.{option_map}
 use Rattle.dv_records.specs.declared.answers.Damage.{Damage}
 use Rattle.std.specs.Prelude.{IfSome, codes, true}
@@ -9,47 +9,15 @@ use Rattle.dv_catalog.specs.Tables.{tables}
 use Rattle.dv_records.specs.declared.stores.TableRows.{TableRows}
 use Rattle.dv_store_rules.specs.Damages.{damage_at, form_damage, head_damage, raw_damage, snapshot_damage, stage_damage, stage_damage_by, stored_entries}
 use Rattle.dv_store_rules.specs.Flaws.{if_broken}
-use Rattle.dv_store_rules.specs.SnapshotHeads.{snapshot_flaw, snapshot_heads}
 use Rattle.dv_store_rules.specs.StoredHeads.{head_flaw, is_stage}
-use Rattle.dv_records.specs.declared.snapshots.SnapHead.{SnapHead}
 use Rattle.dv_vault.specs.Vaults.{RawVault}
 use Rattle.dv_restore.specs.Completions.{IsBegunAs, MayGoOn}
 use Rattle.dv_restore.specs.Damages.{KeepsF15}
 use Rattle.dv_restore.specs.Sealed.{sealed_of, sealed_vault, vault_of}
 use Rattle.dv_vault.specs.declared.begun.Begun.{Begun}
 
--- the first of some answers
-module _ {R : Type 0} (test : Option R) (tests : List (Option R)) where
-  first_is : (answer : R) → test ≡ Some answer → first_of (test ∷ tests) ≡ Some answer
-  first_is answer e = ap (λ first. first_of (first ∷ tests)) e
-
-  later_is : test ≡ None → first_of (test ∷ tests) ≡ first_of tests
-  later_is e = ap (λ first. first_of (first ∷ tests)) e
-
--- the damages that are looked for behind the first ones
-module _ (mapping : Mapping) (hashes : Hashes) (width : ℕ) (store : Store) where
-  abbrev behind_rows : List (Option Damage)
-  behind_rows = snapshot_damage store ∷ []
-
-  abbrev behind_stage : List (Option Damage)
-  behind_stage = raw_damage mapping hashes width store ∷ behind_rows
-
-  abbrev behind_heads : List (Option Damage)
-  behind_heads = stage_damage mapping store ∷ behind_stage
-
-module _ (mapping : Mapping) (hashes : Hashes) (width : ℕ) (store : Store) (damage : Damage) where
-  pub head_first : head_damage mapping store ≡ Some damage → form_damage mapping hashes width store ≡ Some damage
-  head_first e = first_is (head_damage mapping store) (behind_heads mapping hashes width store) damage e
-
-  pub stage_first : head_damage mapping store ≡ None → stage_damage mapping store ≡ Some damage → form_damage mapping hashes width store ≡ Some damage
-  stage_first none e =
-      later_is (head_damage mapping store) (behind_heads mapping hashes width store) none ∙ first_is (stage_damage mapping store) (behind_stage mapping hashes width store) damage e
-
-  pub rows_first : head_damage mapping store ≡ None → stage_damage mapping store ≡ None → raw_damage mapping hashes width store ≡ Some damage → form_damage mapping hashes width store ≡ Some damage
-  rows_first none none_open e =
-      later_is (head_damage mapping store) (behind_heads mapping hashes width store) none
-      ∙ later_is (stage_damage mapping store) (behind_stage mapping hashes width store) none_open
-      ∙ first_is (raw_damage mapping hashes width store) (behind_rows mapping hashes width store) damage e
+pub head_first : (mapping : Mapping) (hashes : Hashes) (width : ℕ) (store : Store) (damage : Damage) → head_damage mapping store ≡ Some damage → form_damage mapping hashes width store ≡ Some damage
+head_first mapping hashes width store damage e = rw e refl
 
 -- ---- what is read of a store before its raw tables
 
@@ -62,7 +30,7 @@ module _ (mapping : Mapping) (hashes : Hashes) (width : ℕ) (store : Store) (he
     head_none = ap (λ heads. option_map (damage_at (codes "windows")) (head_flaw mapping heads)) (sym windows) ∙ ap (option_map (damage_at (codes "windows"))) clear
 
     pub stage_damaged : (damage : Damage) → stage_damage mapping store ≡ Some damage → form_damage mapping hashes width store ≡ Some damage
-    stage_damaged damage e = stage_first mapping hashes width store damage head_none e
+    stage_damaged damage e = rw (head_none, e) refl
 
   module _ (clear : head_flaw mapping heads ≡ None) (in_form : IfSome stage (λ window. is_stage mapping heads window ≡ true)) where
     stage_none : stage_damage mapping store ≡ None
@@ -73,24 +41,11 @@ module _ (mapping : Mapping) (hashes : Hashes) (width : ℕ) (store : Store) (he
         by (Some window) is = ap (λ whole. option_map (λ rule. damage_at (codes "stage") (record { row = 1; rule = rule })) (if_broken 3 whole)) is
 
     pub rows_damaged : (damage : Damage) → raw_damage mapping hashes width store ≡ Some damage → form_damage mapping hashes width store ≡ Some damage
-    rows_damaged damage e = rows_first mapping hashes width store damage (head_none clear) stage_none e
+    rows_damaged damage e = rw (head_none clear, stage_none, e) refl
 
     -- behind rows that break no rule
-    module _ (none : raw_damage mapping hashes width store ≡ None) where
-      snapshots_first : form_damage mapping hashes width store ≡ first_of (snapshot_damage store ∷ [])
-      snapshots_first =
-          later_is (head_damage mapping store) (behind_heads mapping hashes width store) (head_none clear)
-          ∙ later_is (stage_damage mapping store) (behind_stage mapping hashes width store) stage_none
-          ∙ later_is (raw_damage mapping hashes width store) (behind_rows mapping hashes width store) none
-
-      pub snapshots_damaged : (damage : Damage) → snapshot_damage store ≡ Some damage → form_damage mapping hashes width store ≡ Some damage
-      snapshots_damaged damage e = snapshots_first ∙ first_is (snapshot_damage store) [] damage e
-
-      pub none_damaged : (snapshots : List SnapHead) → snapshots ≡ snapshot_heads store → snapshot_flaw heads snapshots ≡ None → form_damage mapping hashes width store ≡ None
-      none_damaged snapshots are flawless =
-          snapshots_first
-          ∙ later_is (snapshot_damage store) []
-          ((λ i. option_map (damage_at (codes "snapshots")) (snapshot_flaw (sym windows i) (sym are i))) ∙ ap (option_map (damage_at (codes "snapshots"))) flawless)
+    pub snapshots_damaged : raw_damage mapping hashes width store ≡ None → (damage : Damage) → snapshot_damage store ≡ Some damage → form_damage mapping hashes width store ≡ Some damage
+    snapshots_damaged none damage e = rw (head_none clear, stage_none, none, e) refl
 
   -- ---- and with them
 
@@ -99,17 +54,7 @@ module _ (mapping : Mapping) (hashes : Hashes) (width : ℕ) (store : Store) (he
     sealed_is = λ i. sealed_vault mapping (windows i) (staged i) (read i)
 
     pub goes_on : KeepsF15 hashes mapping store → MayGoOn hashes (vault_of mapping heads entries) stage
-    goes_on keeps =
-        subst (λ entries. MayGoOn hashes (vault_of mapping heads entries) stage) (sym read)
-        (subst (λ stage. MayGoOn hashes (vault_of mapping heads (stored_entries store (tables mapping))) stage) (sym staged)
-        (subst (λ heads. MayGoOn hashes (vault_of mapping heads (stored_entries store (tables mapping))) store.stage) (sym windows) keeps))
-
-    -- and back
-    pub keeps_on : MayGoOn hashes (vault_of mapping heads entries) stage → KeepsF15 hashes mapping store
-    keeps_on goes =
-        subst (λ heads. MayGoOn hashes (vault_of mapping heads (stored_entries store (tables mapping))) store.stage) windows
-        (subst (λ stage. MayGoOn hashes (vault_of mapping heads (stored_entries store (tables mapping))) stage) staged
-        (subst (λ entries. MayGoOn hashes (vault_of mapping heads entries) stage) read goes))
+    goes_on keeps = rw (windows, staged, read) keeps
 
 -- the open window that is begun
 pub staged_is : (hashes : Hashes) (raw : RawVault) (stage : Option Window) (begun : Option Begun) → IsBegunAs hashes raw stage begun → option_map (λ (b : Begun). b.window) begun ≡ stage

@@ -1,4 +1,5 @@
 -- The places of tables in table order, and how many tables of each kind stand before a place.
+use Rattle.std.proofs.Common.{rules}
 use Rattle.dv_store_rules.proofs.Vocabulary.{◌≡◌, ◌∙◌, ℕ, ◌+◌, ◌-◌, ◌<◌, ◌≤◌, true, false, List, [], ◌∷◌, ◌++◌, refl, sym, ap, subst, arith, inl, inr, cases_lt, get_or, length, length-append, list_all, list_any, map, map-append, passes_at, range_with_len, feed_tables, tables, is_of_feed, FeedDef}
 use Rattle.dv_store_rules.proofs.Vocabulary.{Mapping, TableId, TableRows, table_eq, no_rows, not, and_parts}
 use Rattle.dv_vault.proofs.Vocabulary.{all_pass_both, sat_tables, effect_tables, Contains-get_or, same_table, table_eq-itself, are_apart, not-true, none_passes, false≢true}
@@ -43,12 +44,7 @@ are_of_feeds n (feed ∷ feeds) =
     (are_of_feeds (n + 1) feeds)
 
 feed_placed : (mapping : Mapping) (i : ℕ) (id : TableId) → is_of_feed id ≡ true → length mapping.hubs + length mapping.links ≤ i → IsPlaced mapping i id
-feed_placed mapping i (HubId n) of le = cc
-feed_placed mapping i (LinkId n) of le = cc
-feed_placed mapping i (Sat n) of le = le
-feed_placed mapping i (Multi n) of le = le
-feed_placed mapping i (Status n) of le = le
-feed_placed mapping i (Effect n) of le = le
+feed_placed mapping i id of le = search rules
 
 pub placed : (mapping : Mapping) (i : ℕ) (id : TableId) → i < length (tables mapping) → get_or (tables mapping) i id ≡ id → IsPlaced mapping i id
 placed mapping i id within here =

@@ -1,17 +1,22 @@
 -- What is restored from a store: the vault of its sealed windows, the open one, and the heads of its snapshots.
 use Rattle.std.specs.Option.{option_map}
-use Rattle.std.specs.Prelude.{◌≡◌, true, List, Option, map}
+use Rattle.std.specs.Prelude.{◌≡◌, Bool, true, List, Option, map}
+use Rattle.dv_text.specs.declared.rows.WindowHead.{WindowHead}
 use Rattle.dv_text.specs.Keys.{Hashes}
 use Rattle.dv_catalog.specs.Entries.{Mapping}
 use Rattle.dv_records.specs.declared.stores.Store.{Store}
 use Rattle.dv_records.specs.declared.snapshots.SnapHead.{SnapHead}
 use Rattle.dv_records.specs.Snapshots.{snapshot}
-use Rattle.dv_records.specs.States.{State, is_valid_state}
+use Rattle.dv_records.specs.States.{State, ascends, is_valid_state}
 use Rattle.dv_store_rules.specs.SnapshotHeads.{snapshot_heads}
 use Rattle.dv_vault.specs.Keeping.{HasRows}
 use Rattle.dv_vault.specs.Vaults.{HasSealed, RawVault}
 use Rattle.dv_vault.specs.declared.begun.Begun.{Begun}
 use Rattle.dv_restore.specs.Completions.{IsOpenBehind, rows_there}
+
+-- the load dates of sealed windows ascend
+abbrev pub are_in_order : List WindowHead → Bool
+are_in_order heads = ascends (map (λ head. head.load) heads)
 
 -- a store has what a vault, a window that is begun and heads of snapshots say, in the tables of the mapping
 pub record HasKept (raw : RawVault) (begun : Option Begun) (snapshots : List SnapHead) (store : Store) : Type 0 where

@@ -16,7 +16,7 @@ ghost use Rattle.dv_store_rules.specs.StoredHeads as spec;
 ghost use Rattle.dv_vault.specs.Additions.{Fits};
 ghost use Rattle.dv_restore.specs.Completions.{IsBegunAs};
 ghost use Rattle.dv_restore.specs.Damages.{BreaksRule, IsInForm, IsNamed};
-ghost use Rattle.dv_restore.specs.Restored.{HasKept, IsOfState};
+ghost use Rattle.dv_restore.specs.Restored.{HasKept, IsOfState, are_in_order};
 
 use crate::completions::restored;
 use crate::faults::StoreFault;
@@ -152,6 +152,7 @@ pub fn read_store<K: Keeper, H: KeyDigest>(
     ensures in_form { IfOk result (λ restored. Told (K.store keeper.old) (IsInForm (hashes_of H.function) H.function.width catalog)) }
     ensures stands { IfOk result (λ restored. (state : State) → (store : Store) → K.store keeper.old ≡ Some store → Stands catalog (hashes_of H.function) state store → IsOfState (hashes_of H.function) state restored.vault restored.begun restored.snapshots) }
     ensures limits { IfOk result (λ restored. KeepLimits restored.snapshots) }
+    ensures order { IfOk result (λ restored. IsTrue (are_in_order restored.vault.heads)) }
     ensures damaged { (damage : Damaged) → IsErrOf result (StoreFault.Damaged damage) → Told (K.store keeper.old) (λ s. BreaksRule (hashes_of H.function) H.function.width catalog s damage) }
     ensures undamaged { (damage : Damaged) → IsErrOf result (StoreFault.Damaged damage) → (state : State) → (store : Store) → K.store keeper.old ≡ Some store → Stands catalog (hashes_of H.function) state store → ⊥ }
     ensures formed { (damage : Damaged) → IsErrOf result (StoreFault.Damaged damage) → IsNamed catalog damage }

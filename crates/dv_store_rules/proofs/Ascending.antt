@@ -1,5 +1,5 @@
 -- Numbers of which each is greater than the one before it ascend.
-use Rattle.dv_store_rules.proofs.Vocabulary.{◌≡◌, ℕ, ◌+◌, ◌-◌, ◌<◌, ◌≤◌, true, false, List, [], ◌∷◌, length, drop, drop_more, length-drop, get_or, list_all, nat_lt, refl, sym, ◌∙◌, ap, arith, ascends, nat_tests}
+use Rattle.dv_store_rules.proofs.Vocabulary.{◌≡◌, ℕ, ◌+◌, ◌-◌, ◌<◌, ◌≤◌, true, List, [], ◌∷◌, length, drop, drop_more, length-drop, get_or, list_all, nat_lt, refl, sym, ◌∙◌, ap, arith, ascends, nat_tests}
 
 -- numbers above a lesser one
 all_above : (low high : ℕ) (xs : List ℕ) → low < high → list_all (nat_lt high) xs ≡ true → list_all (nat_lt low) xs ≡ true
@@ -8,9 +8,6 @@ all_above low high (x ∷ xs) less e = grind (arith, nat_tests, all_above low hi
 
 pub next_ascends : (a b : ℕ) (xs : List ℕ) → a < b → ascends (a ∷ b ∷ xs) ≡ ascends (b ∷ xs)
 next_ascends a b xs less = grind (arith, nat_tests, all_above a b xs less)
-
-pub next_falls : (a b : ℕ) (xs : List ℕ) → b ≤ a → ascends (a ∷ b ∷ xs) ≡ false
-next_falls a b xs le = grind (arith, nat_tests)
 
 few_ascend : (xs : List ℕ) → length xs ≤ 1 → ascends xs ≡ true
 few_ascend [] few = refl
@@ -28,9 +25,6 @@ from_one xs place e some under = let same : place + 1 - 1 ≡ place = omega arit
 
 pub ascends_on : (xs : List ℕ) (place d e : ℕ) → 1 ≤ place → place < length xs → get_or xs (place - 1) d < get_or xs place e → ascends (drop (place + 1 - 1) xs) ≡ ascends (drop (place - 1) xs)
 ascends_on xs place d e some under less = rw (from_two xs place d e some under, from_one xs place e some under) (sym (next_ascends (get_or xs (place - 1) d) (get_or xs place e) (drop (place + 1) xs) less))
-
-pub falls_at : (xs : List ℕ) (place d e : ℕ) → 1 ≤ place → place < length xs → get_or xs place e ≤ get_or xs (place - 1) d → ascends (drop (place - 1) xs) ≡ false
-falls_at xs place d e some under le = rw (from_two xs place d e some under) (next_falls (get_or xs (place - 1) d) (get_or xs place e) (drop (place + 1) xs) le)
 
 pub ascends_whole : (xs : List ℕ) (place : ℕ) → length xs ≤ place → ascends (drop (place - 1) xs) ≡ true
 ascends_whole xs place past = few_ascend (drop (place - 1) xs) (omega (arith, length-drop (place - 1) xs))

@@ -6,7 +6,6 @@ use Rattle.dv_store_rules.specs.FormRules.{last_code, takes_turn}
 use Rattle.dv_records.proofs.LastChange.{all_up_to}
 use Rattle.dv_records.proofs.StatusReconstruct.{tells}
 use Rattle.dv_records.specs.declared.raw_rows.Code.{Code}
-use Rattle.dv_records.specs.declared.raw_rows.Code.TheVariants.{D, I}
 use Rattle.dv_text.proofs.Passing.{find_none}
 use Rattle.dv_store_rules.proofs.BatchRows.{earlier_rows}
 
@@ -16,17 +15,11 @@ says_there None = false
 says_there (Some code) = is_appearance code
 
 told_by_code : (o : Option StatusRow) → says_there (option_map (λ row. row.code) o) ≡ says_present o
-told_by_code None = refl
-told_by_code (Some row) = refl
+told_by_code o = search rules
 
 -- a code between two moments takes a turn after one that says the first of them
 turn_between : (last : Option Code) (now : Bool) (code : Code) → code_between (says_there last) now ≡ Some code → takes_turn last code ≡ true
-turn_between None true code e = let same : I ≡ code = cc in subst (λ c. takes_turn None c ≡ true) same refl
-turn_between None false code e = cc
-turn_between (Some I) true code e = cc
-turn_between (Some I) false code e = let same : D ≡ code = cc in subst (λ c. takes_turn (Some I) c ≡ true) same refl
-turn_between (Some D) true code e = let same : I ≡ code = cc in subst (λ c. takes_turn (Some D) c ≡ true) same refl
-turn_between (Some D) false code e = cc
+turn_between last now code e = search rules
 
 -- a search for a parent's last row goes past rows of other parents
 last_of_first : (parent : List ℕ) (first more : List StatusRow) → ((row : StatusRow) → Contains more row → row.parent ≡ parent → ⊥) → find (λ (row : StatusRow). bytes_eq row.parent parent) (reverse (first ++ more)) ≡ find (λ (row : StatusRow). bytes_eq row.parent parent) (reverse first)

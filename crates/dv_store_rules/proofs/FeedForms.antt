@@ -1,17 +1,19 @@
 -- What the rules of a feed's rows look up is what is read of a store.
+use Rattle.dv_store_rules.proofs.Vocabulary.{◌∙◌}
+use Rattle.dv_store_rules.proofs.Vocabulary.{Bool}
 use Rattle.dv_store_rules.proofs.Vocabulary.{◌≡◌, ℕ, false, List, Option, Some, None, map, refl, sym, option_map, option_map_or, slice_get, has_number, is_delivered, is_source, has_parent, source_by, list_any, bytes_eq, Hashes, FeedDef, Parent, Known, KnownTables, IsKnown, is_under, is_in_parent}
 use Rattle.dv_store_rules.proofs.Vocabulary.{◌==◌, ◌+◌, ◌≤◌, Mapping, true, and_from, and_parts, are_texts, arith, attrs_fit, eqb-true, is_valid, le-leb, length, sum_by, valid_feed}
 use Rattle.dv_store_rules.proofs.RuleParts.{source_told}
 use Rattle.dv_store_rules.specs.OwnRules.{is_among}
 use Rattle.dv_catalog.specs.declared.entries.Parent.TheVariants.{Hub, Link}
 
-module _ (hashes : Hashes) (width : ℕ) (known : KnownTables) (read : Known) (is : IsKnown hashes width known read) (feed : ℕ) where
-  pub delivered_told : (loads : List ℕ) (load : ℕ) → has_number loads load ≡ is_delivered known.heads.now feed load → is_delivered read.heads feed load ≡ has_number loads load
-  delivered_told loads load told = rw is.heads (sym told)
+-- what the rules of a feed's rows look up is what was read
+pub record LooksUp (read : Known) (feed : ℕ) (loads : List ℕ) (sources : List (List ℕ)) (under : List ℕ → Bool) : Type 0 where
+  pub parent : (digest : List ℕ) → has_parent read feed digest ≡ under digest
+  pub loaded : (load : ℕ) → is_delivered read.heads feed load ≡ has_number loads load
+  pub source : (source : List ℕ) → is_source read.mapping source ≡ is_among sources source
 
-  pub source_is_told : (sources : List (List ℕ)) (source : List ℕ) → sources ≡ map (λ feed. source_by (Some feed)) known.catalog.now.feeds → is_source read.mapping source ≡ is_among sources source
-  source_is_told sources source from = rw is.mapping (source_told known.catalog.now sources source from)
-
+module _ (hashes : Hashes) (width : ℕ) (known : KnownTables) (read : Known) (is : IsKnown hashes width known read) where
   parent_is : (parent : Parent) (digest : List ℕ) → is_in_parent read.tables parent digest ≡ is_under known.hubs.now known.links.now (Some parent) digest
   parent_is (Hub hub) digest = λ i. list_any (λ row. bytes_eq row.digest digest) (is.hubs hub i)
   parent_is (Link link) digest = λ i. list_any (λ row. bytes_eq row.digest digest) (is.links link i)
@@ -21,8 +23,13 @@ module _ (hashes : Hashes) (width : ℕ) (known : KnownTables) (read : Known) (i
   by_parent None digest = refl
   by_parent (Some def) digest = parent_is def.parent digest
 
-  pub parent_told : (digest : List ℕ) → has_parent read feed digest ≡ is_under known.hubs.now known.links.now (option_map (λ def. def.parent) (slice_get known.catalog.now.feeds feed)) digest
-  parent_told digest = rw is.mapping (by_parent (slice_get known.catalog.now.feeds feed) digest)
+  pub looks_up : (feed : ℕ) (loads : List ℕ) (sources : List (List ℕ)) (under : List ℕ → Bool) → ((load : ℕ) → has_number loads load ≡ is_delivered known.heads.now feed load) → sources ≡ map (λ feed. source_by (Some feed)) known.catalog.now.feeds
+      → ((digest : List ℕ) → under digest ≡ is_under known.hubs.now known.links.now (option_map (λ def. def.parent) (slice_get known.catalog.now.feeds feed)) digest) → LooksUp read feed loads sources under
+  looks_up feed loads sources under told from beneath = record {
+    parent = λ digest. rw is.mapping (by_parent (slice_get known.catalog.now.feeds feed) digest) ∙ sym (beneath digest);
+    loaded = λ load. rw is.heads (sym (told load));
+    source = λ source. rw is.mapping (source_told known.catalog.now sources source from);
+  }
 
 -- ---- how many texts there are
 

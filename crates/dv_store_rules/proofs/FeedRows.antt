@@ -1,7 +1,7 @@
 -- The rows of a feed's tables after valid windows, whatever their kind: each is of an extract of the feed, so that its load
 -- date, its source and its parent are known.
 use Rattle.dv_store_rules.proofs.Vocabulary.{Contains, Contains-append_cases, Contains-append_right, Contains-cons_here, Contains-cons_there, Contains-nil, Extract, FeedDef, HasForm, Hub, IsNewestFirst, IsTotalOrder, Key, Link, List, NRow, Option, Ordering}
-use Rattle.dv_store_rules.proofs.Vocabulary.{Parent, Some, Window, [], all_refs, ap, ascending-sorted_by, batch_made, batch_of, extract_of, filter_map, filter_map_member, fit_hubs, history, inl, inr, is_known, is_window, length, load_order, map_member}
+use Rattle.dv_store_rules.proofs.Vocabulary.{Parent, Place, Some, Window, [], all_refs, ap, ascending-sorted_by, batch_made, batch_of, extract_of, filter_map, filter_map_member, fit_hubs, history, inl, inr, is_known, is_window, length, load_order, map_member}
 use Rattle.dv_store_rules.proofs.Vocabulary.{newest_rows, parent_hubs, passes_at, refl, reverse, reverse_member, slice_get, source, staged_rows, subst, sym, true, whole, ℕ, ◌++◌, ◌∙◌, ◌∷◌, ◌≡◌}
 use Rattle.dv_store_rules.specs.FormRules.{Known, follows, has_parent, is_delivered, is_digest, is_in_hub, is_in_parent, is_source}
 use Rattle.dv_records.proofs.KnownLists.{row_known}
@@ -80,21 +80,23 @@ of_extract newest older refs has =
     by [] was = Contains-nil refs was
     by (last ∷ rest) was = (last, Contains-cons_there newest (last ∷ rest) last (Contains-cons_here last rest), was)
 
-module _ {T R : Type 0} (known : Known) (feed : ℕ) (cmp : R → R → Ordering) (parent_of : R → List ℕ) (load_of : R → ℕ) (source_of : R → List ℕ) (refs_of : T → List Key) where
+-- Own is what a row has of a thing of the extract besides
+module _ {T R : Type 0} (known : Known) (feed : ℕ) (cmp : R → R → Ordering) (place : R → Place) (source_of : R → List ℕ) (refs_of : T → List Key) (Own : List Extract → Extract → T → R → Type 0) where
   -- what a row is made of
-  pub record IsFeedMade (newest : Extract) (thing : T) (row : R) : Type 0 where
-    pub parent : parent_of row ≡ known.hashes.hash (refs_of thing)
-    pub load : load_of row ≡ newest.load
+  pub record IsFeedMade (older : List Extract) (newest : Extract) (thing : T) (row : R) : Type 0 where
+    pub parent : (place row).parent ≡ known.hashes.hash (refs_of thing)
+    pub load : (place row).load ≡ newest.load
     pub source : source_of row ≡ source known.mapping feed
+    pub own : Own older newest thing row
 
   module _ (total : IsTotalOrder cmp) (things : List Extract → Extract → List T) (row_of : List Extract → Extract → T → Option R)
-      (made : (older : List Extract) (newest : Extract) (thing : T) (row : R) → row_of older newest thing ≡ Some row → IsFeedMade newest thing row)
+      (made : (older : List Extract) (newest : Extract) (thing : T) (row : R) → row_of older newest thing ≡ Some row → IsFeedMade older newest thing row)
       (listed : (older : List Extract) (newest : Extract) (thing : T) → Contains (things older newest) thing → Contains (all_refs (newest_rows older) ++ all_refs newest.rows) (refs_of thing)) where
     -- an extract's batch
     abbrev pub feed_rows_of : List Extract → Extract → List R
     feed_rows_of older newest = batch_of cmp (row_of older newest) (things older newest)
 
-    stamped : (older : List Extract) (newest : Extract) (row : R) → Contains (feed_rows_of older newest) row → load_of row ≡ newest.load
+    stamped : (older : List Extract) (newest : Extract) (row : R) → Contains (feed_rows_of older newest) row → (place row).load ≡ newest.load
     stamped older newest row has =
         let (thing, there, gives) = batch_made cmp (row_of older newest) (things older newest) row has in
         (made older newest thing row gives).load
@@ -104,14 +106,14 @@ module _ {T R : Type 0} (known : Known) (feed : ℕ) (cmp : R → R → Ordering
       pub record FeedFacts : Type 0 where
         pub thing : T
         pub thing_in : Contains (things is.older is.newest) thing
-        pub gives : row_of is.older is.newest thing ≡ Some row
+        pub row_is : IsFeedMade is.older is.newest thing row
         pub extract_in : Contains (history feed (reverse windows)) is.newest
         pub order : IsNewestFirst (λ (extract : Extract). extract.load) (is.newest ∷ is.older)
-        pub wide : is_digest known.width (parent_of row) ≡ true
-        pub loaded : is_delivered known.heads feed (load_of row) ≡ true
-        pub ordered : follows load_of cmp before row ≡ true
+        pub wide : is_digest known.width (place row).parent ≡ true
+        pub loaded : is_delivered known.heads feed (place row).load ≡ true
+        pub ordered : follows (λ row. (place row).load) cmp before row ≡ true
         pub sourced : is_source known.mapping (source_of row) ≡ true
-        pub parented : has_parent known feed (parent_of row) ≡ true
+        pub parented : has_parent known feed (place row).parent ≡ true
 
       -- it does where the rows are of a feed's table
       pub feed_facts : FeedFacts
@@ -126,12 +128,12 @@ module _ {T R : Type 0} (known : Known) (feed : ℕ) (cmp : R → R → Ordering
           record {
             thing = thing;
             thing_in = there;
-            gives = gives;
+            row_is = is_made;
             extract_in = extract_in;
             order = later_event feed_rows_of (λ (extract : Extract). extract.load) all before row is order;
-            wide = is_wide known.width (parent_of row) (ap length is_made.parent ∙ around.wide.hash (refs_of thing));
-            loaded = feed_loaded known windows around feed is.newest extract_in (load_of row) is_made.load;
-            ordered = follows_them (λ (extract : Extract). extract.load) load_of cmp feed_rows_of stamped (λ older newest. ascending-sorted_by cmp total (filter_map (row_of older newest) (things older newest))) all order before row is;
+            wide = is_wide known.width (place row).parent (ap length is_made.parent ∙ around.wide.hash (refs_of thing));
+            loaded = feed_loaded known windows around feed is.newest extract_in (place row).load is_made.load;
+            ordered = follows_them (λ (extract : Extract). extract.load) (λ row. (place row).load) cmp feed_rows_of stamped (λ older newest. ascending-sorted_by cmp total (filter_map (row_of older newest) (things older newest))) all order before row is;
             sourced = feed_sourced known windows around feed is.newest extract_in (source_of row) is_made.source;
-            parented = parent_there known windows around feed extract extract_has parents (refs_of thing) listed_in (parent_of row) is_made.parent;
+            parented = parent_there known windows around feed extract extract_has parents (refs_of thing) listed_in (place row).parent is_made.parent;
           }

@@ -1,7 +1,8 @@
 -- Windows before a last one of valid windows are valid.
+use Rattle.dv_store_rules.proofs.Vocabulary.{rules}
 use Rattle.dv_store_rules.proofs.Vocabulary.{All-weaker, Contains, Contains-append_left, Contains-cons_cases, Contains-cons_here, Contains-cons_there, Contains-flat_map, Hashes, IsApart, Key, List, Mapping, None, Parent, Window, [], all_pass, and_from}
 use Rattle.dv_store_rules.proofs.Vocabulary.{and_parts, ap, are_windows_valid, arith, ascends, collision, collision_in, flat_map, flat_map_member, hashed_refs, inl, inr, is_known, is_none, is_offered, is_window, le-leb, leb-true, length, length-append, list_all}
-use Rattle.dv_store_rules.proofs.Vocabulary.{map, map-append, missing_refs, most_weight, most_windows, nat_le, nat_lt, none_from, offered_refs, parents, passes_at, refl, some_passes, some_passes_at, subst, sym, true, vault_weight, ℕ, ◌++◌, ◌∙◌, ◌∷◌, ◌≡◌, ◌≤◌}
+use Rattle.dv_store_rules.proofs.Vocabulary.{map, map-append, missing_refs, most_weight, most_windows, nat_lt, none_from, offered_refs, parents, passes_at, refl, some_passes, some_passes_at, subst, sym, true, vault_weight, ℕ, ◌++◌, ◌∙◌, ◌∷◌, ◌≡◌, ◌≤◌}
 use Rattle.dv_records.proofs.CollisionTies.{collision_free, none_collide}
 use Rattle.dv_records.proofs.VaultSteps.{weight-push}
 use Rattle.dv_records.specs.Deltas.{brought}
@@ -51,18 +52,7 @@ module _ (mapping : Mapping) (hashes : Hashes) where
 
   -- each of these follows
   pub parts_of_valid : (windows : List Window) → are_windows_valid mapping hashes windows ≡ true → Parts windows
-  parts_of_valid windows e =
-      let (e1, few) = and_parts _ (nat_le (length windows) most_windows) e in
-      let (e2, light) = and_parts _ (nat_le (vault_weight mapping hashes windows) most_weight) e1 in
-      let (e3, apart) = and_parts _ (is_none (collision mapping hashes windows)) e2 in
-      let (ordered, whole) = and_parts (ascends (map (λ window. window.load) windows)) (list_all (is_window mapping) windows) e3 in
-      record {
-        ordered = ordered;
-        whole = whole;
-        apart = none_from (collision mapping hashes windows) apart;
-        light = leb-true (vault_weight mapping hashes windows) most_weight light;
-        few = leb-true (length windows) most_windows few;
-      }
+  parts_of_valid windows e = search (rules, none_from, leb-true)
 
   valid_of_parts : (windows : List Window) → Parts windows → are_windows_valid mapping hashes windows ≡ true
   valid_of_parts windows parts =

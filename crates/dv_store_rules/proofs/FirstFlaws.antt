@@ -1,6 +1,6 @@
 -- The first flaw of rows, told from a place that breaks a rule and the rows before it, which break none.
 use Rattle.dv_store_rules.proofs.Vocabulary.{◌≡◌, ℕ, zero, suc, ◌+◌, ◌<◌, ◌≤◌, List, [], ◌∷◌, ◌++◌, Option, Some, None, length, take, slice_get, refl, sym, ◌∙◌, ap, arith, append_assoc, append-nil, length-append, length-take-le, take-take, get_or-take, get_or_from_slice_get, slice_get-get_or, slice_get_within, same_Some, cases_lt, inl, inr}
-use Rattle.dv_store_rules.proofs.Vocabulary.{AreClear, Breaks, Flaw, IsFirst, first_along, first_flaw, flaw_behind}
+use Rattle.dv_store_rules.proofs.Vocabulary.{AreClear, Breaks, Fault, Flaw, IsFirst, TellsFlaw, first_along, first_flaw, flaw_behind, subst}
 
 -- a row of first rows is there
 pub got_taken : {R : Type 0} (rows : List R) (count place : ℕ) (row : R) → place < count → slice_get (take count rows) place ≡ Some row → slice_get rows place ≡ Some row
@@ -92,3 +92,15 @@ module _ {R : Type 0} (rule_of : List R → R → Option ℕ) where
             let is : other ≡ row = same_Some other row (sym at ∙ ap (slice_get rows) same ∙ there) in
             rw (is, same) none
       ]
+
+-- ---- two rules that are one
+
+module _ {R : Type 0} (told rule : List R → R → Option ℕ) (same : (before : List R) (row : R) → told before row ≡ rule before row) (rows : List R) where
+  first_same : first_flaw told rows ≡ first_flaw rule rows
+  first_same = λ i. first_flaw (λ before row. same before row i) rows
+
+  pub none_flawed : AreClear told rows (length rows) → first_flaw rule rows ≡ None
+  none_flawed clear = sym first_same ∙ no_flaw told rows clear
+
+  pub first_told : (fault : Fault) → TellsFlaw fault (first_flaw told rows) → TellsFlaw fault (first_flaw rule rows)
+  first_told fault = subst (TellsFlaw fault) first_same

@@ -1,6 +1,6 @@
 -- Where no row breaks a rule behind the rows before it, no flaw is found.
-use Rattle.dv_store_rules.proofs.Vocabulary.{AllByRecursion, Bool, List, None, Option, [], ap, append-nil, append_assoc, first_of, map, refl, true, ℕ, ◌++◌, ◌∷◌, ◌≡◌}
-use Rattle.dv_store_rules.specs.Flaws.{first_flaw, flaw_behind, if_broken}
+use Rattle.dv_store_rules.proofs.Vocabulary.{List, None, Option, [], ap, append-nil, append_assoc, refl, ℕ, ◌++◌, ◌∷◌, ◌≡◌}
+use Rattle.dv_store_rules.specs.Flaws.{first_flaw, flaw_behind}
 use Rattle.dv_catalog.specs.FirstOf.{first_along}
 
 -- a test that no item answers behind the items before it answers nothing along the list
@@ -14,8 +14,3 @@ none_along test (x ∷ xs) before none =
 -- a rule that no row breaks leaves no flaw
 pub flawless : {R : Type 0} (rule_of : List R → R → Option ℕ) (rows : List R) → ((before : List R) (row : R) (after : List R) → rows ≡ before ++ row ∷ after → rule_of before row ≡ None) → first_flaw rule_of rows ≡ None
 flawless rule_of rows kept = none_along (flaw_behind rule_of) rows [] (λ before row after e. rw (kept before row after e))
-
--- rules with their numbers, none of which is broken
-pub unbroken : (rules : List (ℕ × Bool)) → AllByRecursion (λ rule. rule.1 ≡ true) rules → first_of (map (λ rule. if_broken rule.0 rule.1) rules) ≡ None
-unbroken [] all = refl
-unbroken (rule ∷ rules) all = rw all.0 (unbroken rules all.1)

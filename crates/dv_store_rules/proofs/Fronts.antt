@@ -1,20 +1,8 @@
 -- The first flaw of a table, told by what was read of it.
-use Rattle.dv_store_rules.proofs.Vocabulary.{◌≡◌, ◌∙◌, ℕ, ◌+◌, ◌<◌, ◌≤◌, Bool, true, false, not, List, [], ◌∷◌, ◌++◌, Option, Some, None, refl, sym, ap, arith, rules, subst, inl, inr, eqb-true, ◌==◌, length, take, drop, sum_by, leb-true, or_none, none_before_map, append_assoc, first_of, first_along, take-append-drop}
-use Rattle.dv_store_rules.proofs.Vocabulary.{Flaw, IsHeavyFront, Known, Read, AllRows, OtherKind, Rows, TableId, TellsRows, first_flaw, flaw_behind, flaw_in, if_broken, is_light, is_of_kind, most_weight, of_other_kind, page, row_count, rows_weight, tables_weight}
+use Rattle.dv_store_rules.proofs.Vocabulary.{first_of, if_broken}
+use Rattle.dv_store_rules.proofs.Vocabulary.{◌≡◌, ◌∙◌, ℕ, ◌+◌, ◌<◌, ◌≤◌, Bool, true, false, List, [], ◌∷◌, ◌++◌, Option, Some, None, refl, sym, ap, arith, rules, subst, inl, inr, eqb-true, ◌==◌, length, take, drop, sum_by, leb-true, or_none, none_before_map, append_assoc, first_along, take-append-drop}
+use Rattle.dv_store_rules.proofs.Vocabulary.{Flaw, IsHeavyFront, Known, Read, AllRows, OtherKind, Rows, TableId, TellsRows, first_flaw, flaw_behind, flaw_in, is_light, is_of_kind, most_weight, of_other_kind, page, row_count, rows_weight, tables_weight}
 use Rattle.dv_store_rules.proofs.Vocabulary.{hub_rule, link_rule, sat_rule, multi_rule, status_rule, effect_rule}
-use Rattle.dv_store_rules.proofs.RuleParts.{held}
-use Rattle.std.specs.Str.{bytes_eq}
-use Rattle.dv_records.specs.Effects.{effect_cmp}
-use Rattle.dv_records.specs.Hubs.{hub_cmp, link_cmp}
-use Rattle.dv_records.specs.Satellites.{multi_cmp, sat_cmp}
-use Rattle.dv_records.specs.Statuses.{status_cmp}
-use Rattle.dv_records.specs.declared.raw_rows.EffectRow.{EffectRow}
-use Rattle.dv_records.specs.declared.raw_rows.HubRow.{HubRow}
-use Rattle.dv_records.specs.declared.raw_rows.LinkRow.{LinkRow}
-use Rattle.dv_records.specs.declared.raw_rows.MultiRow.{MultiRow}
-use Rattle.dv_records.specs.declared.raw_rows.SatRow.{SatRow}
-use Rattle.dv_records.specs.declared.raw_rows.StatusRow.{StatusRow}
-use Rattle.dv_store_rules.specs.FormRules.{are_references, follows, has_key_hash, has_parent, is_delivered, is_diff_of, is_digest, is_hub_row, is_link_row, is_loaded, is_multi_row, is_new_digest, is_sat_row, is_source, is_span, last_code, takes_turn, zero_key}
 use Rattle.dv_catalog.specs.declared.tables.TableId.TheVariants.{Hub, Link, Sat, Multi, Status, Effect}
 use Rattle.dv_records.specs.declared.stores.Rows.TheVariants.{Hubs, Links, Sats, Multis, Statuses, Effects}
 
@@ -28,11 +16,6 @@ front_answers test before (x ∷ xs) ys r e = by (test before x) refl (front_ans
     by : (o : Option _) → test before x ≡ o → (first_along test (before ++ x ∷ []) xs ≡ Some r → first_along test (before ++ x ∷ []) (xs ++ ys) ≡ Some r) → first_along test before ((x ∷ xs) ++ ys) ≡ Some r
     by None t rest = rw t (rest (rw t at e))
     by (Some y) t rest = rw t (rw t at e)
-
--- where no test answers, the last one doesn't
-last_none : {R : Type 0} (tests : List (Option R)) (test : Option R) → first_of (tests ++ test ∷ []) ≡ None → test ≡ None
-last_none [] test none = (or_none test None none).0
-last_none (next ∷ tests) test none = last_none tests test (or_none next (first_of (tests ++ test ∷ [])) none).1
 
 -- ---- rows of one kind
 
@@ -64,45 +47,6 @@ module _ {R : Type 0} (rule_of : List R → R → Option ℕ) (weight_of : R →
         subst (λ l. first_flaw rule_of l ≡ Some flaw) (take-append-drop count rows) same,
       )
 
--- ---- a row that breaks no rule
-
-module _ (known : Known) (n : ℕ) where
-  hub_light : (before : List HubRow) (row : HubRow) → hub_rule known n before row ≡ None → if_broken 13 (is_light known (Hubs (before ++ row ∷ []))) ≡ None
-  hub_light before row none =
-      last_none
-      (if_broken 4 (is_hub_row known n row) ∷ if_broken 5 (is_loaded known.heads row.load) ∷ if_broken 6 (follows (λ (other : HubRow). other.load) hub_cmp before row) ∷ if_broken 7 (has_key_hash known.hashes row) ∷ if_broken 8 (is_source known.mapping row.source) ∷ if_broken 10 (is_new_digest (λ (other : HubRow). other.digest) before row.digest) ∷ [])
-      (if_broken 13 (is_light known (Hubs (before ++ row ∷ [])))) none
-
-  link_light : (before : List LinkRow) (row : LinkRow) → link_rule known n before row ≡ None → if_broken 13 (is_light known (Links (before ++ row ∷ []))) ≡ None
-  link_light before row none =
-      last_none
-      (if_broken 4 (is_link_row known n row) ∷ if_broken 5 (is_loaded known.heads row.load) ∷ if_broken 6 (follows (λ (other : LinkRow). other.load) link_cmp before row) ∷ if_broken 7 (not (bytes_eq row.digest (zero_key known.width))) ∷ if_broken 8 (is_source known.mapping row.source) ∷ if_broken 9 (are_references known n row.hubs) ∷ if_broken 10 (is_new_digest (λ (other : LinkRow). other.digest) before row.digest) ∷ [])
-      (if_broken 13 (is_light known (Links (before ++ row ∷ [])))) none
-
-  sat_light : (before : List SatRow) (row : SatRow) → sat_rule known n before row ≡ None → if_broken 13 (is_light known (Sats (before ++ row ∷ []))) ≡ None
-  sat_light before row none =
-      last_none
-      (if_broken 4 (is_sat_row known n row) ∷ if_broken 5 (is_delivered known.heads n row.load) ∷ if_broken 6 (follows (λ (other : SatRow). other.load) sat_cmp before row) ∷ if_broken 7 (is_diff_of known.hashes row.diff row.attrs) ∷ if_broken 8 (is_source known.mapping row.source) ∷ if_broken 9 (has_parent known n row.parent) ∷ [])
-      (if_broken 13 (is_light known (Sats (before ++ row ∷ [])))) none
-
-  multi_light : (before : List MultiRow) (row : MultiRow) → multi_rule known n before row ≡ None → if_broken 13 (is_light known (Multis (before ++ row ∷ []))) ≡ None
-  multi_light before row none =
-      last_none
-      (if_broken 4 (is_multi_row known n row) ∷ if_broken 5 (is_delivered known.heads n row.load) ∷ if_broken 6 (follows (λ (other : MultiRow). other.load) multi_cmp before row) ∷ if_broken 7 (is_diff_of known.hashes row.diff row.attrs) ∷ if_broken 8 (is_source known.mapping row.source) ∷ if_broken 9 (has_parent known n row.parent) ∷ [])
-      (if_broken 13 (is_light known (Multis (before ++ row ∷ [])))) none
-
-  status_light : (before : List StatusRow) (row : StatusRow) → status_rule known n before row ≡ None → if_broken 13 (is_light known (Statuses (before ++ row ∷ []))) ≡ None
-  status_light before row none =
-      last_none
-      (if_broken 4 (is_digest known.width row.parent) ∷ if_broken 5 (is_delivered known.heads n row.load) ∷ if_broken 6 (follows (λ (other : StatusRow). other.load) status_cmp before row) ∷ if_broken 8 (is_source known.mapping row.source) ∷ if_broken 9 (has_parent known n row.parent) ∷ if_broken 11 (takes_turn (last_code before row.parent) row.code) ∷ [])
-      (if_broken 13 (is_light known (Statuses (before ++ row ∷ [])))) none
-
-  effect_light : (before : List EffectRow) (row : EffectRow) → effect_rule known n before row ≡ None → if_broken 13 (is_light known (Effects (before ++ row ∷ []))) ≡ None
-  effect_light before row none =
-      last_none
-      (if_broken 4 (is_digest known.width row.parent) ∷ if_broken 5 (is_delivered known.heads n row.load) ∷ if_broken 6 (follows (λ (other : EffectRow). other.load) effect_cmp before row) ∷ if_broken 8 (is_source known.mapping row.source) ∷ if_broken 9 (has_parent known n row.parent) ∷ if_broken 12 (is_span row) ∷ [])
-      (if_broken 13 (is_light known (Effects (before ++ row ∷ [])))) none
-
 -- ---- rows of any kind
 
 -- rows of another kind, where there is one
@@ -113,25 +57,28 @@ of_other rows some = by (row_count rows == 0) refl
     by true none = absurd (omega (arith, some, eqb-true (row_count rows) 0 none))
     by false t = rw t refl
 
+light_last : (a b c d e f light : Bool) → first_of (if_broken 4 a ∷ if_broken 5 b ∷ if_broken 6 c ∷ if_broken 7 d ∷ if_broken 8 e ∷ if_broken 9 f ∷ if_broken 13 light ∷ []) ≡ None → light ≡ true
+light_last a b c d e f light none = search rules
+
 module _ (known : Known) where
-  not_heavy : (rows : Rows) → if_broken 13 (is_light known rows) ≡ None → tables_weight known.tables + rows_weight rows ≤ most_weight
-  not_heavy rows none = leb-true _ _ (held 13 (is_light known rows) none)
+  not_heavy : (rows : Rows) → is_light known rows ≡ true → tables_weight known.tables + rows_weight rows ≤ most_weight
+  not_heavy rows light = leb-true _ _ light
 
   -- the flaw of a front that weighs too much
   front_flaw : (table : TableId) (stored : Rows) (count : ℕ) → is_of_kind table stored ≡ true → 0 < row_count (page 0 count stored) → most_weight < tables_weight known.tables + rows_weight (page 0 count stored)
       → (flaw : Flaw) × (flaw_in known table (page 0 count stored) ≡ Some flaw) × (flaw_in known table stored ≡ Some flaw)
   front_flaw (Hub n) (Hubs rows) count own some heavy =
-      front_found (hub_rule known n) _ (tables_weight known.tables) (λ before row none. not_heavy (Hubs (before ++ row ∷ [])) (hub_light known n before row none)) rows count some heavy
+      front_found (hub_rule known n) _ (tables_weight known.tables) (λ before row none. not_heavy (Hubs (before ++ row ∷ [])) (search rules)) rows count some heavy
   front_flaw (Link n) (Links rows) count own some heavy =
-      front_found (link_rule known n) _ (tables_weight known.tables) (λ before row none. not_heavy (Links (before ++ row ∷ [])) (link_light known n before row none)) rows count some heavy
+      front_found (link_rule known n) _ (tables_weight known.tables) (λ before row none. not_heavy (Links (before ++ row ∷ [])) (search rules)) rows count some heavy
   front_flaw (Sat n) (Sats rows) count own some heavy =
-      front_found (sat_rule known n) _ (tables_weight known.tables) (λ before row none. not_heavy (Sats (before ++ row ∷ [])) (sat_light known n before row none)) rows count some heavy
+      front_found (sat_rule known n) _ (tables_weight known.tables) (λ before row none. not_heavy (Sats (before ++ row ∷ [])) (search rules)) rows count some heavy
   front_flaw (Multi n) (Multis rows) count own some heavy =
-      front_found (multi_rule known n) _ (tables_weight known.tables) (λ before row none. not_heavy (Multis (before ++ row ∷ [])) (multi_light known n before row none)) rows count some heavy
+      front_found (multi_rule known n) _ (tables_weight known.tables) (λ before row none. not_heavy (Multis (before ++ row ∷ [])) (light_last _ _ _ _ _ _ (is_light known (Multis (before ++ row ∷ []))) none)) rows count some heavy
   front_flaw (Status n) (Statuses rows) count own some heavy =
-      front_found (status_rule known n) _ (tables_weight known.tables) (λ before row none. not_heavy (Statuses (before ++ row ∷ [])) (status_light known n before row none)) rows count some heavy
+      front_found (status_rule known n) _ (tables_weight known.tables) (λ before row none. not_heavy (Statuses (before ++ row ∷ [])) (search rules)) rows count some heavy
   front_flaw (Effect n) (Effects rows) count own some heavy =
-      front_found (effect_rule known n) _ (tables_weight known.tables) (λ before row none. not_heavy (Effects (before ++ row ∷ [])) (effect_light known n before row none)) rows count some heavy
+      front_found (effect_rule known n) _ (tables_weight known.tables) (λ before row none. not_heavy (Effects (before ++ row ∷ [])) (search rules)) rows count some heavy
   front_flaw table stored count own some heavy = cc
 
   -- where a front of a table's rows weighs too much with what was read before, it has a flaw, and this is the first of all

@@ -1,14 +1,13 @@
 -- The rules of a hub's row are those of a row by itself, of hash keys that stand once, and of the weight.
-use Rattle.dv_store_rules.proofs.Vocabulary.{◌≡◌, ◌==◌, ℕ, ◌+◌, ◌≤◌, Bool, true, ◌&&◌, List, [], ◌∷◌, ◌++◌, Option, Some, None, length, map, nat_le, refl, sym, ◌∙◌, arith, is_none, first_of, if_broken, source_by, most_weight, slice_get, is_loaded, has_number, last_of, bytes_eq}
-use Rattle.dv_store_rules.proofs.Vocabulary.{HubRow, Hubs, Known, follows, has_key_hash, is_digest, is_hub_row, is_light, is_new_digest, is_source, are_texts, hub_cmp, hub_place, hub_rule, parts_of, rows_weight, turning_rule, KnownTables, Hashes, first_flaw, sum_by, IsKnown}
-use Rattle.dv_store_rules.proofs.Vocabulary.{AreClear, Fault, TellsFlaw, flaw_in, or_none, subst, text_weight, texts_weight, HubDef, Mapping, is_valid, valid_hub, Key, refs_fit, and_from, and_parts, eqb-true, le-leb}
-use Rattle.dv_store_rules.proofs.RuleParts.{in_parts, none_found, owns_clear, source_told, turns_clear}
+use Rattle.dv_store_rules.proofs.Vocabulary.{rules}
+use Rattle.dv_store_rules.proofs.Vocabulary.{◌≡◌, ◌==◌, ℕ, ◌+◌, ◌≤◌, Bool, true, List, [], ◌∷◌, Option, Some, None, length, map, refl, sym, arith, is_none, source_by, slice_get, is_loaded, has_number, bytes_eq}
+use Rattle.dv_store_rules.proofs.Vocabulary.{HubRow, Known, has_key_hash, is_digest, are_texts, hub_cmp, hub_place, hub_rule, parts_of, turning_rule, KnownTables, Hashes, IsKnown}
+use Rattle.dv_store_rules.proofs.Vocabulary.{AreClear, or_none, text_weight, texts_weight, HubDef, Mapping, is_valid, valid_hub, Key, refs_fit, and_from, and_parts, eqb-true, le-leb}
+use Rattle.dv_store_rules.proofs.RuleParts.{none_found, owns_clear, source_told, turns_clear}
 use Rattle.dv_store_rules.proofs.Apart.{once_placed}
 use Rattle.dv_store_rules.proofs.Chains.{all_in_order}
-use Rattle.dv_store_rules.proofs.FirstFlaws.{no_flaw}
-use Rattle.dv_catalog.specs.declared.tables.TableId.TheVariants.{Hub}
 use Rattle.dv_hub_link.specs.HubRows.{are_hub_rows}
-use Rattle.dv_store_rules.specs.OwnRules.{hub_early, hub_late, first_stands, is_among, unbroken}
+use Rattle.dv_store_rules.specs.OwnRules.{hub_early, hub_late, first_stands, unbroken}
 use Rattle.dv_store_rules.specs.RowWalks.{own_of}
 
 -- the text of a key in form fits a room
@@ -49,45 +48,10 @@ hub_told hashes width weight parts loads sources = turning_rule hub_place hub_cm
 
 module _ (hashes : Hashes) (width : ℕ) (known : KnownTables) (read : Known) (is : IsKnown hashes width known read) (hub parts : ℕ) (loads : List ℕ) (sources : List (List ℕ))
     (counted : parts ≡ parts_of (slice_get known.catalog.now.hubs hub)) (told : (load : ℕ) → has_number loads load ≡ is_loaded known.heads.now load) (from : sources ≡ map (λ feed. source_by (Some feed)) known.catalog.now.feeds) where
-  form : (row : HubRow) → is_hub_row read hub row ≡ (is_digest width row.digest && are_texts parts row.key.parts)
-  form row = rw (is.width, is.mapping, counted) refl
-
-  loaded : (load : ℕ) → is_loaded read.heads load ≡ has_number loads load
-  loaded load = rw is.heads (sym (told load))
-
-  keyed : (row : HubRow) → has_key_hash read.hashes row ≡ has_key_hash hashes row
-  keyed row = rw is.hashes refl
-
-  source_is : (source : List ℕ) → is_source read.mapping source ≡ is_among sources source
-  source_is source = rw is.mapping (source_told known.catalog.now sources source from)
-
-  once : (before : List HubRow) (row : HubRow) → is_new_digest (λ (other : HubRow). other.digest) before row.digest ≡ is_none (last_of hub_place before row.digest)
-  once before row = sym (none_found (λ (other : HubRow). bytes_eq other.digest row.digest) before)
-
-  light : (rows : List HubRow) → is_light read (Hubs rows) ≡ nat_le (known.weight + rows_weight (Hubs rows)) most_weight
-  light rows = rw is.weight refl
-
-  rule_is : (before : List HubRow) (row : HubRow) → hub_told hashes width known.weight parts loads sources before row ≡ hub_rule read hub before row
-  rule_is before row =
-      let behind = follows (λ (other : HubRow). other.load) hub_cmp before row in
-      let heavy = nat_le (known.weight + sum_by hub_weight (before ++ row ∷ [])) most_weight in
-      let light_is : is_light read (Hubs (before ++ row ∷ [])) ≡ heavy = light (before ++ row ∷ []) in
-      sym (
-      (λ i. first_of (
-      if_broken 4 (form row i) ∷ if_broken 5 (loaded row.load i) ∷ if_broken 6 behind ∷ if_broken 7 (keyed row i) ∷ if_broken 8 (source_is row.source i) ∷ if_broken 10 (once before row i)
-      ∷ if_broken 13 (light_is i) ∷ []))
-      ∙ in_parts
-      (if_broken 4 (is_digest width row.digest && are_texts parts row.key.parts) ∷ if_broken 5 (has_number loads row.load) ∷ if_broken 6 behind ∷ [])
-      (if_broken 7 (has_key_hash hashes row)) (if_broken 8 (is_among sources row.source) ∷ []) (if_broken 10 (is_none (last_of hub_place before row.digest))) (if_broken 13 heavy))
-
-  flaw_is_told : (rows : List HubRow) → first_flaw (hub_told hashes width known.weight parts loads sources) rows ≡ first_flaw (hub_rule read hub) rows
-  flaw_is_told rows = λ i. first_flaw (λ before row. rule_is before row i) rows
-
-  pub hub_clear : (rows : List HubRow) → AreClear (hub_told hashes width known.weight parts loads sources) rows (length rows) → flaw_in read (Hub hub) (Hubs rows) ≡ None
-  hub_clear rows clear = sym (flaw_is_told rows) ∙ no_flaw (hub_told hashes width known.weight parts loads sources) rows clear
-
-  pub hub_flawed : (rows : List HubRow) (fault : Fault) → TellsFlaw fault (first_flaw (hub_told hashes width known.weight parts loads sources) rows) → TellsFlaw fault (flaw_in read (Hub hub) (Hubs rows))
-  hub_flawed rows fault tells = subst (TellsFlaw fault) (flaw_is_told rows) tells
+  pub hub_same : (before : List HubRow) (row : HubRow) → hub_told hashes width known.weight parts loads sources before row ≡ hub_rule read hub before row
+  hub_same before row =
+      let once = sym (none_found (λ (other : HubRow). bytes_eq other.digest row.digest) before) in
+      rw (is.width, is.mapping, is.heads, is.hashes, is.weight, counted, sym (told row.load), source_told known.catalog.now sources row.source from, once) (search rules)
 
 -- where no row breaks a rule, the rows are such as a table has
 pub hub_placed : (hashes : Hashes) (width weight parts : ℕ) (loads : List ℕ) (sources : List (List ℕ)) (rows : List HubRow)

@@ -1,5 +1,6 @@
 -- The rows of the table of a hub or a link, for any kind of row that is made of a delivery: their load dates, sources and
 -- order, and that no two have one hash key.
+use Rattle.dv_store_rules.proofs.Vocabulary.{Place}
 use Rattle.dv_store_rules.proofs.Vocabulary.{Bool, Contains, Contains-append_cases, Delivery, Hub, IsApart, IsStrictlySortedBy, IsTotalOrder, Less, Link, List, Option, Ordering, Parent, Some, Window, ap, appended, ascending-sorted_by, batch_made, batch_of}
 use Rattle.dv_store_rules.proofs.Vocabulary.{bytes_eq, bytes_eq-Decides, deliveries, digest_cmp, false, false≢true, filter_map, hashed_refs, hub_apart, inl, inr, irreflexive, is_known, is_offered, is_offered-member, is_window, length, link_apart}
 use Rattle.dv_store_rules.proofs.Vocabulary.{load_order, nat_list_cmp_total, not, on_total, parent_hubs, passes_at, refl, reverse, reverse_member, some_passes_at, source, subst, sym, true, whole, ℕ, ◌∙◌, ◌≡◌}
@@ -37,7 +38,14 @@ digest_total digest_of = on_total digest_of nat_list_cmp_total
 pub digests_differ : (a b : List ℕ) → digest_cmp a b ≡ Less → a ≡ b → ⊥
 digests_differ a b less same = irreflexive nat_list_cmp_total b (subst (λ d. digest_cmp d b ≡ Less) same less)
 
-module _ {R : Type 0} (known : Known) (parent : Parent) (digest_of : R → List ℕ) (load_of : R → ℕ) (source_of : R → List ℕ) where
+-- Own is what a row has of the delivery besides
+module _ {R : Type 0} (known : Known) (parent : Parent) (place : R → Place) (source_of : R → List ℕ) (Own : Delivery → R → Type 0) where
+  abbrev pub digest_of : R → List ℕ
+  digest_of row = (place row).parent
+
+  abbrev pub load_of : R → ℕ
+  load_of row = (place row).load
+
   -- rows by their hash keys
   abbrev pub hash_cmp : R → R → Ordering
   hash_cmp a b = digest_cmp (digest_of a) (digest_of b)
@@ -48,6 +56,7 @@ module _ {R : Type 0} (known : Known) (parent : Parent) (digest_of : R → List 
     pub digest : digest_of row ≡ known.hashes.hash item.refs
     pub load : load_of row ≡ window.load
     pub source : source_of row ≡ source known.mapping item.feed
+    pub own : Own item row
 
   module _ (row_of : List Window → Window → Delivery → Option R) (made : (older : List Window) (window : Window) (item : Delivery) (row : R) → row_of older window item ≡ Some row → IsMade older window item row) where
     -- a window's batch
@@ -143,6 +152,7 @@ module _ {R : Type 0} (known : Known) (parent : Parent) (digest_of : R → List 
       -- what holds of the row, whatever its kind
       pub record KeyFacts : Type 0 where
         pub of : Origin
+        pub row_is : IsMade is.older is.newest of.item row
         pub apart : IsApart known.hashes (hashed_refs known.mapping windows parent)
         pub wide : is_digest known.width (digest_of row) ≡ true
         pub loaded : is_loaded known.heads (load_of row) ≡ true
@@ -153,4 +163,4 @@ module _ {R : Type 0} (known : Known) (parent : Parent) (digest_of : R → List 
 
       -- it does where the rows are of a hub's or a link's table
       pub key_facts : KeyFacts
-      key_facts = record { of = origin; apart = own_keys; wide = row_wide; loaded = row_loaded; ordered = row_follows; sourced = row_sourced; brought = row_known; new = row_new }
+      key_facts = record { of = origin; row_is = is_made; apart = own_keys; wide = row_wide; loaded = row_loaded; ordered = row_follows; sourced = row_sourced; brought = row_known; new = row_new }

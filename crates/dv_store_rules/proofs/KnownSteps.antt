@@ -1,6 +1,7 @@
 -- What the code knows of a store, with one table more.
+use Rattle.dv_store_rules.proofs.Vocabulary.{rules}
 use Rattle.dv_store_rules.proofs.Vocabulary.{◌≡◌, ◌==◌, ◌+◌, ℕ, zero, suc, inl, inr, true, false, List, [], ◌∷◌, ◌++◌, length, list_any, refl, sym, ◌∙◌, ap, arith, cases_eq, eq-eqb, eqb-true, false_from_ne_true, or_parts, sum_by_push, Hashes, HubRow, Hubs, Indexed, IsKnown, Known, KnownTables, LinkRow, Links, Rows, if◌then◌else◌, TableId, TableRows, is_of_feed, rows_at, rows_in, rows_weight, table_eq, hub_rows, link_rows}
-use Rattle.dv_catalog.specs.declared.tables.TableId.TheVariants.{Effect, Hub, Link, Multi, Sat, Status}
+use Rattle.dv_catalog.specs.declared.tables.TableId.TheVariants.{Hub, Link}
 
 -- ---- one entry more
 
@@ -33,20 +34,10 @@ differ a b other = false_from_ne_true (a == b) (λ same. other (sym (eqb-true a 
 
 -- a table of a feed is none of a hub or a link
 no_hub : (id : TableId) → is_of_feed id ≡ true → (hub : ℕ) → table_eq id (Hub hub) ≡ false
-no_hub (Hub n) e hub = cc
-no_hub (Link n) e hub = refl
-no_hub (Sat n) e hub = refl
-no_hub (Multi n) e hub = refl
-no_hub (Status n) e hub = refl
-no_hub (Effect n) e hub = refl
+no_hub id e hub = search rules
 
 no_link : (id : TableId) → is_of_feed id ≡ true → (link : ℕ) → table_eq id (Link link) ≡ false
-no_link (Hub n) e link = refl
-no_link (Link n) e link = cc
-no_link (Sat n) e link = refl
-no_link (Multi n) e link = refl
-no_link (Status n) e link = refl
-no_link (Effect n) e link = refl
+no_link id e link = search rules
 
 module _ (hashes : Hashes) (width : ℕ) (known : KnownTables) (read : Known) (is : IsKnown hashes width known read) (next : KnownTables) (catalog : next.catalog.now ≡ known.catalog.now) (heads : next.heads.now ≡ known.heads.now) where
   -- with the table of the next hub

@@ -1,5 +1,6 @@
 -- What a page tells of the rows of a table, behind those that were read before it.
-use Rattle.dv_store_rules.proofs.Vocabulary.{TellsRows, AllRows, OtherKind, IsGrown, Some, None, Store, if◌then◌else◌, nat_le, leb-true, leb-false, and_parts, ◌&&◌, are_snapshots_in_order, are_apart, have_kinds, is_well_formed, ◌≡◌, ◌∙◌, ℕ, ◌+◌, ◌≤◌, ◌<◌, Bool, true, false, refl, sym, ap, arith, subst, false≢true, inl, inr, Rows, TableId, is_of_kind, most_weight, page, row_count, rows_then, rows_weight, AreFirst, TellsPage, Foreign, Last, More}
+use Rattle.dv_store_rules.proofs.Vocabulary.{rules}
+use Rattle.dv_store_rules.proofs.Vocabulary.{IsGrown, Some, None, Store, if◌then◌else◌, nat_le, leb-true, leb-false, and_parts, ◌&&◌, are_snapshots_in_order, are_apart, have_kinds, is_well_formed, ◌≡◌, ◌∙◌, ℕ, ◌+◌, ◌≤◌, ◌<◌, Bool, true, false, refl, sym, ap, arith, subst, false≢true, inl, inr, Rows, TableId, is_of_kind, most_weight, page, row_count, rows_then, rows_weight, AreFirst, TellsPage, Foreign, Last, More}
 use Rattle.dv_store_rules.proofs.RowPages.{weight_least, count_then, page_count, page_exact, page_kind, then_page, weight_then, whole_page}
 
 module _ (table : TableId) (stored rows more : Rows) (weight most : ℕ) (first : AreFirst table stored rows) (is : more ≡ page (row_count rows) most stored) where
@@ -72,23 +73,10 @@ light_page table rows more weight sum kind own some e = by (nat_le (weight + row
 
 -- one that is more
 pub heavy : (sum : ℕ) → (if nat_le sum most_weight then Some sum else None) ≡ None → most_weight < sum
-heavy sum e = by (nat_le sum most_weight) refl
-  where
-    by : (b : Bool) → nat_le sum most_weight ≡ b → most_weight < sum
-    by true light = let no : Some sum ≡ None = rw light at e in cc
-    by false light = leb-false sum most_weight light
+heavy sum e = search (rules, leb-false)
 
 -- the tables of a well-formed store have their kinds
 pub well_kinds : (store : Store) → is_well_formed store ≡ true → have_kinds store.tables ≡ true
 well_kinds store is = (and_parts (are_apart store.tables) (have_kinds store.tables) (and_parts (are_apart store.tables && have_kinds store.tables) (are_snapshots_in_order store.snapshots) is).0).1
 
 -- ---- what was read
-
--- all of the table is read, or too much
-pub told_last : (table : TableId) (weight sum : ℕ) (stored before rows : Rows) → sum ≡ weight + rows_weight before → TellsPage table sum stored before rows Last → TellsRows table weight stored (AllRows rows)
-told_last table weight sum stored before rows e (own, inl same) = (own, inl same)
-told_last table weight sum stored before rows e (own, inr (first, some, heavy)) = (own, inr (record { first = first; some = some; heavy = omega (arith, e, heavy) }))
-
--- the first row is of another kind
-pub told_foreign : (table : TableId) (weight sum : ℕ) (stored before rows : Rows) (row : ℕ) → row ≡ row_count rows + 1 → TellsPage table sum stored before rows Foreign → TellsRows table weight stored (OtherKind row)
-told_foreign table weight sum stored before rows row e (other, some, none) = (other, some, omega (arith, e, none))

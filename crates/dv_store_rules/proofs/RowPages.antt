@@ -1,8 +1,6 @@
 -- Rows of any kind: their pages, and rows behind others.
 use Rattle.dv_store_rules.proofs.Vocabulary.{◌≡◌, ◌∙◌, Bool, ℕ, zero, suc, ◌+◌, ◌-◌, ◌≤◌, ◌<◌, true, false, List, [], ◌∷◌, ◌++◌, refl, sym, ap, arith, rules, length, take, drop, min, length-take, length-drop, length-append, take_all, take_min, take-nil, sum_by, sum_by-append, sum_by-cons}
 use Rattle.dv_store_rules.proofs.Vocabulary.{TableId, Rows, TableRows, and_parts, has_kind, have_kinds, is_of_kind, no_rows, page, row_count, rows_in, rows_then, rows_weight, same_table, table_eq}
-use Rattle.dv_catalog.specs.declared.tables.TableId.TheVariants.{Hub, Link, Sat, Multi, Status, Effect}
-use Rattle.dv_records.specs.declared.stores.Rows.TheVariants.{Hubs, Links, Sats, Multis, Statuses, Effects, Pits, Bridges}
 
 -- ---- lists
 
@@ -27,44 +25,16 @@ long_sum weight some (x ∷ xs) = omega (arith, some x, long_sum weight some xs,
 -- ---- pages
 
 pub then_page : (n m : ℕ) (rows : Rows) → rows_then (page 0 n rows) (page n m rows) ≡ page 0 (n + m) rows
-then_page n m (Hubs rows) = ap Hubs (taken_then n m rows)
-then_page n m (Links rows) = ap Links (taken_then n m rows)
-then_page n m (Sats rows) = ap Sats (taken_then n m rows)
-then_page n m (Multis rows) = ap Multis (taken_then n m rows)
-then_page n m (Statuses rows) = ap Statuses (taken_then n m rows)
-then_page n m (Effects rows) = ap Effects (taken_then n m rows)
-then_page n m (Pits rows) = ap Pits (taken_then n m rows)
-then_page n m (Bridges rows) = ap Bridges (taken_then n m rows)
+then_page n m rows = search (rules, taken_then)
 
 pub page_exact : (n : ℕ) (rows : Rows) → page 0 (row_count (page 0 n rows)) rows ≡ page 0 n rows
-page_exact n (Hubs rows) = ap Hubs (taken_exact n rows)
-page_exact n (Links rows) = ap Links (taken_exact n rows)
-page_exact n (Sats rows) = ap Sats (taken_exact n rows)
-page_exact n (Multis rows) = ap Multis (taken_exact n rows)
-page_exact n (Statuses rows) = ap Statuses (taken_exact n rows)
-page_exact n (Effects rows) = ap Effects (taken_exact n rows)
-page_exact n (Pits rows) = ap Pits (taken_exact n rows)
-page_exact n (Bridges rows) = ap Bridges (taken_exact n rows)
+page_exact n rows = search (rules, taken_exact)
 
 pub page_count : (from most : ℕ) (rows : Rows) → row_count (page from most rows) ≡ min most (row_count rows - from)
-page_count from most (Hubs rows) = counted from most rows
-page_count from most (Links rows) = counted from most rows
-page_count from most (Sats rows) = counted from most rows
-page_count from most (Multis rows) = counted from most rows
-page_count from most (Statuses rows) = counted from most rows
-page_count from most (Effects rows) = counted from most rows
-page_count from most (Pits rows) = counted from most rows
-page_count from most (Bridges rows) = counted from most rows
+page_count from most rows = search (rules, counted)
 
 pub whole_page : (n : ℕ) (rows : Rows) → row_count rows ≤ n → page 0 n rows ≡ rows
-whole_page n (Hubs rows) le = ap Hubs (take_all n rows le)
-whole_page n (Links rows) le = ap Links (take_all n rows le)
-whole_page n (Sats rows) le = ap Sats (take_all n rows le)
-whole_page n (Multis rows) le = ap Multis (take_all n rows le)
-whole_page n (Statuses rows) le = ap Statuses (take_all n rows le)
-whole_page n (Effects rows) le = ap Effects (take_all n rows le)
-whole_page n (Pits rows) le = ap Pits (take_all n rows le)
-whole_page n (Bridges rows) le = ap Bridges (take_all n rows le)
+whole_page n rows le = search (rules, take_all)
 
 pub page_kind : (table : TableId) (from most : ℕ) (rows : Rows) → is_of_kind table (page from most rows) ≡ is_of_kind table rows
 page_kind table from most rows = search rules
@@ -72,60 +42,19 @@ page_kind table from most rows = search rules
 -- ---- rows behind others of their kind
 
 pub count_then : (table : TableId) (a b : Rows) → is_of_kind table a ≡ true → is_of_kind table b ≡ true → row_count (rows_then a b) ≡ row_count a + row_count b
-count_then (Hub n) (Hubs a) (Hubs b) k l = length-append a b
-count_then (Link n) (Links a) (Links b) k l = length-append a b
-count_then (Sat n) (Sats a) (Sats b) k l = length-append a b
-count_then (Multi n) (Multis a) (Multis b) k l = length-append a b
-count_then (Status n) (Statuses a) (Statuses b) k l = length-append a b
-count_then (Effect n) (Effects a) (Effects b) k l = length-append a b
-count_then table a b k l = cc
+count_then table a b k l = search (rules, length-append)
 
 pub weight_then : (table : TableId) (a b : Rows) → is_of_kind table a ≡ true → is_of_kind table b ≡ true → rows_weight (rows_then a b) ≡ rows_weight a + rows_weight b
-weight_then (Hub n) (Hubs a) (Hubs b) k l = sum_by-append _ a b
-weight_then (Link n) (Links a) (Links b) k l = sum_by-append _ a b
-weight_then (Sat n) (Sats a) (Sats b) k l = sum_by-append _ a b
-weight_then (Multi n) (Multis a) (Multis b) k l = sum_by-append _ a b
-weight_then (Status n) (Statuses a) (Statuses b) k l = sum_by-append _ a b
-weight_then (Effect n) (Effects a) (Effects b) k l = sum_by-append _ a b
-weight_then table a b k l = cc
+weight_then table a b k l = search (rules, sum_by-append)
 
 -- each row weighs something
 pub weight_least : (rows : Rows) → row_count rows ≤ rows_weight rows
-weight_least (Hubs rows) = long_sum _ (λ row. omega arith) rows
-weight_least (Links rows) = long_sum _ (λ row. omega arith) rows
-weight_least (Sats rows) = long_sum _ (λ row. omega arith) rows
-weight_least (Multis rows) = long_sum _ (λ row. omega arith) rows
-weight_least (Statuses rows) = long_sum _ (λ row. omega arith) rows
-weight_least (Effects rows) = long_sum _ (λ row. omega arith) rows
-weight_least (Pits rows) = long_sum _ (λ row. omega arith) rows
-weight_least (Bridges rows) = long_sum _ (λ row. omega arith) rows
+weight_least rows = search (rules, long_sum, arith)
 
 -- ---- tables
 
-pub none_kind : (table : TableId) → is_of_kind table (no_rows table) ≡ true
-none_kind (Hub n) = refl
-none_kind (Link n) = refl
-none_kind (Sat n) = refl
-none_kind (Multi n) = refl
-none_kind (Status n) = refl
-none_kind (Effect n) = refl
-
-pub none_count : (table : TableId) → row_count (no_rows table) ≡ 0
-none_count (Hub n) = refl
-none_count (Link n) = refl
-none_count (Sat n) = refl
-none_count (Multi n) = refl
-none_count (Status n) = refl
-none_count (Effect n) = refl
-
-pub no_page : (table : TableId) (rows : Rows) → is_of_kind table rows ≡ true → no_rows table ≡ page 0 0 rows
-no_page (Hub n) (Hubs rows) k = refl
-no_page (Link n) (Links rows) k = refl
-no_page (Sat n) (Sats rows) k = refl
-no_page (Multi n) (Multis rows) k = refl
-no_page (Status n) (Statuses rows) k = refl
-no_page (Effect n) (Effects rows) k = refl
-no_page table rows k = cc
+none_kind : (table : TableId) → is_of_kind table (no_rows table) ≡ true
+none_kind table = search rules
 
 -- a table of a well-formed store has rows of its kind, or some of another one
 pub kind_in : (table : TableId) (tables : List TableRows) → have_kinds tables ≡ true → row_count (rows_in table tables) ≡ 0 → is_of_kind table (rows_in table tables) ≡ true

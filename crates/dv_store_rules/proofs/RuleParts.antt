@@ -1,36 +1,7 @@
 -- The rules of a row in their parts: those for a row by itself, that of the turns, and that of the weight.
-use Rattle.dv_store_rules.proofs.Vocabulary.{◌≡◌, ℕ, Bool, true, false, not, List, [], ◌∷◌, ◌++◌, Option, Some, None, map, refl, sym, ◌∙◌, ap, option_or, option_or-none, or_none, find, reverse, is_none, list_any, list_any-map, bytes_eq, first_of, if_broken, source_by, false≢true, found_member, none_found_at, none_passes, reverse_member, some_passes}
+use Rattle.dv_store_rules.proofs.Vocabulary.{◌≡◌, ℕ, Bool, true, false, not, List, Option, Some, None, map, refl, sym, ◌∙◌, or_none, find, reverse, is_none, list_any, list_any-map, bytes_eq, if_broken, source_by, false≢true, found_member, none_found_at, none_passes, reverse_member, some_passes}
 use Rattle.dv_store_rules.proofs.Vocabulary.{AreClear, FeedDef, Mapping, Ordering, Place, is_source, own_rule, plain_rule, turn_rule, turning_rule}
 use Rattle.dv_store_rules.specs.OwnRules.{is_among}
-
--- ---- the first of tests
-
-pub first_append : {R : Type 0} (xs ys : List (Option R)) → first_of (xs ++ ys) ≡ option_or (first_of xs) (first_of ys)
-first_append [] ys = refl
-first_append (None ∷ xs) ys = first_append xs ys
-first_append (Some x ∷ xs) ys = refl
-
-or_assoc : {R : Type 0} (a b c : Option R) → option_or (option_or a b) c ≡ option_or a (option_or b c)
-or_assoc None b c = refl
-or_assoc (Some x) b c = refl
-
--- the rules before that of the hash, that, those behind it, that of the turns, and that of the weight
-pub in_parts : {R : Type 0} (early : List (Option R)) (hash : Option R) (late : List (Option R)) (turn weight : Option R)
-    → first_of (early ++ hash ∷ (late ++ turn ∷ weight ∷ [])) ≡ option_or (option_or (first_of early) (option_or hash (first_of late))) (option_or turn weight)
-in_parts early hash late turn weight =
-    first_append early (hash ∷ (late ++ turn ∷ weight ∷ []))
-    ∙ ap (λ rest. option_or (first_of early) (option_or hash rest)) (first_append late (turn ∷ weight ∷ []) ∙ ap (λ rest. option_or (first_of late) (option_or turn rest)) (option_or-none weight))
-    ∙ ap (option_or (first_of early)) (sym (or_assoc hash (first_of late) (option_or turn weight)))
-    ∙ sym (or_assoc (first_of early) (option_or hash (first_of late)) (option_or turn weight))
-
--- the same without a rule of turns
-pub in_plain_parts : {R : Type 0} (early : List (Option R)) (hash : Option R) (late : List (Option R)) (weight : Option R)
-    → first_of (early ++ hash ∷ (late ++ weight ∷ [])) ≡ option_or (option_or (first_of early) (option_or hash (first_of late))) weight
-in_plain_parts early hash late weight =
-    first_append early (hash ∷ (late ++ weight ∷ []))
-    ∙ ap (λ rest. option_or (first_of early) (option_or hash rest)) (first_append late (weight ∷ []) ∙ ap (option_or (first_of late)) (option_or-none weight))
-    ∙ ap (option_or (first_of early)) (sym (or_assoc hash (first_of late) weight))
-    ∙ sym (or_assoc (first_of early) (option_or hash (first_of late)) weight)
 
 -- ---- record sources
 

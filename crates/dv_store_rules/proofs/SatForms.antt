@@ -1,15 +1,14 @@
 -- The rules of a row of a satellite are those of a row by itself, and of the weight.
-use Rattle.dv_store_rules.proofs.Vocabulary.{◌≡◌, ℕ, ◌+◌, ◌≤◌, Bool, true, List, [], ◌∷◌, ◌++◌, Option, Some, None, length, map, nat_le, refl, sym, ◌∙◌, subst, sum_by, first_of, first_flaw, flaw_in, follows, if_broken, source_by, most_weight, slice_get, option_map, or_none, on_total, has_number, has_parent, is_delivered, is_light}
-use Rattle.dv_store_rules.proofs.Vocabulary.{AreClear, Fault, Hashes, IsKnown, IsStrictlySortedBy, Known, KnownTables, SatRow, Sats, TellsFlaw, is_under, nat_list_cmp_total, own_of, plain_rule, sat_cmp, sat_place, sat_rule, text_weight, texts_weight}
+use Rattle.dv_store_rules.proofs.Vocabulary.{rules}
+use Rattle.dv_store_rules.proofs.Vocabulary.{◌≡◌, ℕ, ◌+◌, ◌≤◌, Bool, true, List, Option, None, length, or_none, on_total}
+use Rattle.dv_store_rules.proofs.Vocabulary.{AreClear, Hashes, IsKnown, IsStrictlySortedBy, Known, KnownTables, SatRow, nat_list_cmp_total, own_of, plain_rule, sat_cmp, sat_place, sat_rule, text_weight, texts_weight}
 use Rattle.dv_store_rules.proofs.Chains.{all_ascend}
-use Rattle.dv_store_rules.proofs.FeedForms.{delivered_told, parent_told, source_is_told}
-use Rattle.dv_store_rules.proofs.FirstFlaws.{no_flaw}
-use Rattle.dv_store_rules.proofs.RuleParts.{in_plain_parts, plain_owns_clear}
+use Rattle.dv_store_rules.proofs.FeedForms.{LooksUp}
+use Rattle.dv_store_rules.proofs.RuleParts.{plain_owns_clear}
 use Rattle.dv_store_rules.proofs.FeedForms.{texts_fit}
-use Rattle.dv_store_rules.specs.FormRules.{are_texts, attr_count, is_diff_of, is_sat_row}
-use Rattle.dv_store_rules.specs.OwnRules.{first_stands, is_among, sat_early, sat_form, sat_hashed, sat_late, unbroken}
+use Rattle.dv_store_rules.specs.FormRules.{are_texts, attr_count}
+use Rattle.dv_store_rules.specs.OwnRules.{first_stands, sat_early, sat_form, sat_hashed, sat_late, unbroken}
 use Rattle.dv_store_rules.proofs.Vocabulary.{and_parts, attrs_fit}
-use Rattle.dv_catalog.specs.declared.tables.TableId.TheVariants.{Sat}
 use Rattle.dv_sat.specs.SatRows.{sat_order}
 
 -- the attributes of a row that breaks none of the first rules fit a room
@@ -32,33 +31,10 @@ sat_own hashes width attrs loads sources under = own_of (sat_early attrs loads) 
 abbrev pub sat_told : Hashes → ℕ → ℕ → ℕ → List ℕ → List (List ℕ) → (List ℕ → Bool) → List SatRow → SatRow → Option ℕ
 sat_told hashes width weight attrs loads sources under = plain_rule sat_place sat_cmp (sat_own hashes width attrs loads sources under) sat_weight weight
 
-module _ (hashes : Hashes) (width : ℕ) (known : KnownTables) (read : Known) (is : IsKnown hashes width known read) (feed : ℕ) (attrs : ℕ) (counted : attrs ≡ attr_count known.catalog.now feed) (loads : List ℕ) (sources : List (List ℕ)) (under : List ℕ → Bool)
-    (told : (load : ℕ) → has_number loads load ≡ is_delivered known.heads.now feed load) (from : sources ≡ map (λ feed. source_by (Some feed)) known.catalog.now.feeds)
-    (beneath : (digest : List ℕ) → under digest ≡ is_under known.hubs.now known.links.now (option_map (λ def. def.parent) (slice_get known.catalog.now.feeds feed)) digest) where
-  rule_is : (before : List SatRow) (row : SatRow) → sat_told hashes width known.weight attrs loads sources under before row ≡ sat_rule read feed before row
-  rule_is before row =
-      let behind = follows (λ (other : SatRow). other.load) sat_cmp before row in
-      let heavy = nat_le (known.weight + sum_by sat_weight (before ++ row ∷ [])) most_weight in
-      let form : is_sat_row read feed row ≡ sat_form attrs width row = rw (is.width, is.mapping, counted) refl in
-      let loaded = delivered_told hashes width known read is feed loads row.load (told row.load) in
-      let hashed : is_diff_of read.hashes row.diff row.attrs ≡ sat_hashed hashes row = rw is.hashes refl in
-      let source = source_is_told hashes width known read is feed sources row.source from in
-      let parent : has_parent read feed row.parent ≡ under row.parent = parent_told hashes width known read is feed row.parent ∙ sym (beneath row.parent) in
-      let light : is_light read (Sats (before ++ row ∷ [])) ≡ heavy = rw is.weight refl in
-      sym (
-      (λ i. first_of (
-      if_broken 4 (form i) ∷ if_broken 5 (loaded i) ∷ if_broken 6 behind ∷ if_broken 7 (hashed i) ∷ if_broken 8 (source i) ∷ if_broken 9 (parent i) ∷ if_broken 13 (light i) ∷ []))
-      ∙ in_plain_parts (if_broken 4 (sat_form attrs width row) ∷ if_broken 5 (has_number loads row.load) ∷ if_broken 6 behind ∷ []) (if_broken 7 (sat_hashed hashes row))
-      (if_broken 8 (is_among sources row.source) ∷ if_broken 9 (under row.parent) ∷ []) (if_broken 13 heavy))
-
-  flaw_is_told : (rows : List SatRow) → first_flaw (sat_told hashes width known.weight attrs loads sources under) rows ≡ first_flaw (sat_rule read feed) rows
-  flaw_is_told rows = λ i. first_flaw (λ before row. rule_is before row i) rows
-
-  pub sat_clear : (rows : List SatRow) → AreClear (sat_told hashes width known.weight attrs loads sources under) rows (length rows) → flaw_in read (Sat feed) (Sats rows) ≡ None
-  sat_clear rows clear = sym (flaw_is_told rows) ∙ no_flaw (sat_told hashes width known.weight attrs loads sources under) rows clear
-
-  pub sat_flawed : (rows : List SatRow) (fault : Fault) → TellsFlaw fault (first_flaw (sat_told hashes width known.weight attrs loads sources under) rows) → TellsFlaw fault (flaw_in read (Sat feed) (Sats rows))
-  sat_flawed rows fault tells = subst (TellsFlaw fault) (flaw_is_told rows) tells
+module _ (hashes : Hashes) (width : ℕ) (known : KnownTables) (read : Known) (is : IsKnown hashes width known read) (feed : ℕ) (attrs : ℕ) (counted : attrs ≡ attr_count known.catalog.now feed)
+    (loads : List ℕ) (sources : List (List ℕ)) (under : List ℕ → Bool) (of : LooksUp read feed loads sources under) where
+  pub sat_same : (before : List SatRow) (row : SatRow) → sat_told hashes width known.weight attrs loads sources under before row ≡ sat_rule read feed before row
+  sat_same before row = rw (of.parent row.parent, of.loaded row.load, of.source row.source, is.width, is.mapping, is.hashes, is.weight, counted) (search rules)
 
 -- where no row breaks a rule, the rows are such as a table has
 pub sat_ascends : (hashes : Hashes) (width weight attrs : ℕ) (loads : List ℕ) (sources : List (List ℕ)) (under : List ℕ → Bool) (rows : List SatRow)

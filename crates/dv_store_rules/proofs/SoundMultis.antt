@@ -1,93 +1,53 @@
 -- The rows of a feed's multi-active satellite after valid windows break no rule of form.
-use Rattle.dv_store_rules.proofs.Vocabulary.{Bool, Contains, Contains-append_right, Contains-map, Extract, Key, List, Multi, NRow, None, Option, Some, Window, [], all_refs, and_from, ap, appended, appended-history, bytes_eq-Decides, false, feed_batch, history}
-use Rattle.dv_store_rules.proofs.Vocabulary.{is_changed, length, most_weight, multi_batch, multi_cmp, multi_row, newest_rows, refl, reverse, source, subst, sym, tables_weight, text_weight, texts_weight, true, ℕ, ◌++◌, ◌+◌, ◌∙◌, ◌∷◌, ◌≡◌}
-use Rattle.dv_store_rules.specs.FormRules.{Known, are_texts, attr_count, follows, has_parent, is_delivered, is_diff_of, is_light, is_multi_row, is_source, sub_count}
+use Rattle.dv_store_rules.proofs.Vocabulary.{FeedDef, option_map_or}
+use Rattle.dv_store_rules.proofs.Vocabulary.{multi_place}
+use Rattle.dv_sat.proofs.SatFollowing.{if_so}
+use Rattle.dv_store_rules.proofs.Vocabulary.{Contains, Contains-append_right, Contains-map, Extract, List, Multi, NRow, None, Option, Some, Window, [], all_refs, and_from, ap, appended-history, bytes_eq-Decides, history}
+use Rattle.dv_store_rules.proofs.Vocabulary.{is_changed, length, multi_batch, multi_cmp, multi_row, newest_rows, refl, reverse, source, subst, sym, true, ℕ, ◌++◌, ◌+◌, ◌∙◌, ◌∷◌, ◌≡◌}
+use Rattle.dv_store_rules.specs.FormRules.{Known, are_texts, attr_count, is_diff_of, is_light, is_multi_row, sub_count}
 use Rattle.dv_store_rules.specs.StoredRows.{multi_rule}
 use Rattle.dv_records.specs.Ranks.{multi_total}
 use Rattle.dv_records.specs.declared.raw_rows.MultiRow.{MultiRow}
 use Rattle.dv_records.specs.declared.stores.Rows.TheVariants.{Multis}
 use Rattle.dv_store_rules.proofs.Around.{Around, HaveParents, IsFlawless, fields_fit, is_wide}
 use Rattle.dv_store_rules.proofs.BatchRows.{IsOfBatch}
-use Rattle.dv_store_rules.proofs.FeedRows.{FeedFacts, IsFeedMade, feed_facts, its_feed, rows_formed}
-use Rattle.dv_store_rules.proofs.Flawless.{unbroken}
+use Rattle.dv_store_rules.proofs.FeedRows.{IsFeedMade, feed_facts, its_feed, rows_formed}
 use Rattle.dv_store_rules.proofs.SoundRows.{sound_rows}
 
 module _ (known : Known) (feed : ℕ) where
-  abbrev parent_of : MultiRow → List ℕ
-  parent_of row = row.parent
-
-  abbrev load_of : MultiRow → ℕ
-  load_of row = row.load
-
-  abbrev source_of : MultiRow → List ℕ
-  source_of row = row.source
-
-  abbrev refs_of : NRow → List Key
-  refs_of row = row.refs
-
-  abbrev things : List Extract → Extract → List NRow
-  things older newest = newest.rows
-
   abbrev row_of : List Extract → Extract → NRow → Option MultiRow
   row_of = multi_row known.hashes (source known.mapping feed)
 
   -- what a row has of the extract's row that it is made of
-  multi_made : (older : List Extract) (newest : Extract) (thing : NRow) (row : MultiRow) → row_of older newest thing ≡ Some row
-      → IsFeedMade known feed multi_cmp parent_of load_of source_of refs_of newest thing row × (row.diff ≡ known.hashes.diff thing.attrs) × (row.sub ≡ thing.sub) × (row.attrs ≡ thing.attrs)
-  multi_made older newest thing row gives = by (is_changed older newest thing.refs) refl
-    where
-      by : (b : Bool) → is_changed older newest thing.refs ≡ b → IsFeedMade known feed multi_cmp parent_of load_of source_of refs_of newest thing row × (row.diff ≡ known.hashes.diff thing.attrs) × (row.sub ≡ thing.sub) × (row.attrs ≡ thing.attrs)
-      by false e = let no : None ≡ Some row = rw e at gives in cc
-      by true e =
-          let same : Some (record { parent = known.hashes.hash thing.refs; load = newest.load; source = source known.mapping feed; diff = known.hashes.diff thing.attrs; sub = thing.sub; attrs = thing.attrs }) ≡ Some row = rw e at gives in
-          let is : row ≡ record { parent = known.hashes.hash thing.refs; load = newest.load; source = source known.mapping feed; diff = known.hashes.diff thing.attrs; sub = thing.sub; attrs = thing.attrs } = cc in
-          (record { parent = ap parent_of is; load = ap load_of is; source = ap source_of is }, ap (λ (r : MultiRow). r.diff) is, ap (λ (r : MultiRow). r.sub) is, ap (λ (r : MultiRow). r.attrs) is)
+  abbrev Own : List Extract → Extract → NRow → MultiRow → Type 0
+  Own older newest thing row = (row.diff ≡ known.hashes.diff thing.attrs) × (row.sub ≡ thing.sub) × (row.attrs ≡ thing.attrs)
 
-  made : (older : List Extract) (newest : Extract) (thing : NRow) (row : MultiRow) → row_of older newest thing ≡ Some row → IsFeedMade known feed multi_cmp parent_of load_of source_of refs_of newest thing row
-  made older newest thing row gives = (multi_made older newest thing row gives).0
+  made : (older : List Extract) (newest : Extract) (thing : NRow) (row : MultiRow) → row_of older newest thing ≡ Some row → IsFeedMade known feed multi_cmp multi_place (λ row. row.source) (λ (thing : NRow). thing.refs) Own older newest thing row
+  made older newest thing row gives =
+      let is = sym (if_so (is_changed older newest thing.refs) _ row gives) in
+      record { parent = ap (λ (r : MultiRow). r.parent) is; load = ap (λ (r : MultiRow). r.load) is; source = ap (λ (r : MultiRow). r.source) is; own = (ap (λ (r : MultiRow). r.diff) is, ap (λ (r : MultiRow). r.sub) is, ap (λ (r : MultiRow). r.attrs) is) }
 
   listed : (older : List Extract) (newest : Extract) (thing : NRow) → Contains newest.rows thing → Contains (all_refs (newest_rows older) ++ all_refs newest.rows) thing.refs
-  listed older newest thing has = Contains-append_right (all_refs (newest_rows older)) (all_refs newest.rows) thing.refs (Contains-map refs_of newest.rows thing has)
+  listed older newest thing has = Contains-append_right (all_refs (newest_rows older)) (all_refs newest.rows) thing.refs (Contains-map (λ (thing : NRow). thing.refs) newest.rows thing has)
 
-  module _ (windows : List Window) (around : Around known windows) (parents : HaveParents known windows) (before : List MultiRow) (row : MultiRow)
-      (is : IsOfBatch (multi_batch known.hashes (source known.mapping feed)) (history feed (reverse windows)) before row) where
-    facts : FeedFacts known feed multi_cmp parent_of load_of source_of refs_of multi_total things row_of made listed windows around parents before row is
-    facts = feed_facts known feed multi_cmp parent_of load_of source_of refs_of multi_total things row_of made listed windows around parents before row is
-
-    described : (row.diff ≡ known.hashes.diff facts.thing.attrs) × (row.sub ≡ facts.thing.sub) × (row.attrs ≡ facts.thing.attrs)
-    described = let of = multi_made is.older is.newest facts.thing row facts.gives in (of.1, of.2, of.3)
-
-    formed : is_multi_row known feed row ≡ true
-    formed =
-        let found = its_feed known windows around feed is.newest facts.extract_in in
-        let form = rows_formed known windows around feed is.newest facts.extract_in facts.thing facts.thing_in in
-        let count : attr_count known.mapping feed ≡ length found.definition.attrs = rw found.got in
-        let texts = fields_fit (attr_count known.mapping feed) facts.thing.attrs (form.attributes ∙ sym count) form.attr_fields in
-        let subs : sub_count known.mapping feed ≡ length found.definition.sub = rw found.got in
-        let sub_texts = fields_fit (sub_count known.mapping feed) facts.thing.sub (form.subs ∙ sym subs) form.sub_fields in
-        and_from _ _ (and_from _ _ (and_from _ _ facts.wide (is_wide known.width row.diff (ap length described.0 ∙ around.wide.diff facts.thing.attrs)))
-        (subst (λ sub. are_texts (sub_count known.mapping feed) sub ≡ true) (sym described.1) sub_texts))
-        (subst (λ attrs. are_texts (attr_count known.mapping feed) attrs ≡ true) (sym described.2) texts)
-
-    differs : is_diff_of known.hashes row.diff row.attrs ≡ true
-    differs = (bytes_eq-Decides row.diff (known.hashes.diff row.attrs)).1 (described.0 ∙ ap known.hashes.diff (sym described.2))
-
-    sound_row : is_light known (Multis (before ++ row ∷ [])) ≡ true → multi_rule known feed before row ≡ None
-    sound_row light =
-        unbroken
-        ((4, is_multi_row known feed row)
-        ∷ (5, is_delivered known.heads feed row.load)
-        ∷ (6, follows load_of multi_cmp before row)
-        ∷ (7, is_diff_of known.hashes row.diff row.attrs)
-        ∷ (8, is_source known.mapping row.source)
-        ∷ (9, has_parent known feed row.parent)
-        ∷ (13, is_light known (Multis (before ++ row ∷ [])))
-        ∷ [])
-        (formed, (facts.loaded, (facts.ordered, (differs, (facts.sourced, (facts.parented, (light, tt)))))))
+  sound_row : (windows : List Window) → Around known windows → HaveParents known windows → (before : List MultiRow) (row : MultiRow) → IsOfBatch (multi_batch known.hashes (source known.mapping feed)) (history feed (reverse windows)) before row
+      → is_light known (Multis (before ++ row ∷ [])) ≡ true → multi_rule known feed before row ≡ None
+  sound_row windows around parents before row is light =
+      let facts = feed_facts known feed multi_cmp multi_place (λ row. row.source) (λ (thing : NRow). thing.refs) Own multi_total (λ older newest. newest.rows) row_of made listed windows around parents before row is in
+      let (diff, sub, attrs) = facts.row_is.own in
+      let found = its_feed known windows around feed is.newest facts.extract_in in
+      let form = rows_formed known windows around feed is.newest facts.extract_in facts.thing facts.thing_in in
+      let count : attr_count known.mapping feed ≡ length found.definition.attrs = ap (λ (o : Option FeedDef). option_map_or (λ (def : FeedDef). length def.attrs) o 0) found.got in
+      let subs : sub_count known.mapping feed ≡ length found.definition.sub = ap (λ (o : Option FeedDef). option_map_or (λ (def : FeedDef). length def.sub) o 0) found.got in
+      let texts = fields_fit (attr_count known.mapping feed) facts.thing.attrs (form.attributes ∙ sym count) form.attr_fields in
+      let sub_texts = fields_fit (sub_count known.mapping feed) facts.thing.sub (form.subs ∙ sym subs) form.sub_fields in
+      let wide = is_wide known.width row.diff (ap length diff ∙ around.wide.diff facts.thing.attrs) in
+      let formed : is_multi_row known feed row ≡ true = and_from _ _ (and_from _ _ (and_from _ _ facts.wide wide) (subst (λ sub. are_texts (sub_count known.mapping feed) sub ≡ true) (sym sub) sub_texts)) (subst (λ attrs. are_texts (attr_count known.mapping feed) attrs ≡ true) (sym attrs) texts) in
+      let differs : is_diff_of known.hashes row.diff row.attrs ≡ true = (bytes_eq-Decides row.diff (known.hashes.diff row.attrs)).1 (diff ∙ ap known.hashes.diff (sym attrs)) in
+      rw (formed, facts.loaded, facts.ordered, differs, facts.sourced, facts.parented, light) refl
 
   -- no row of the table breaks a rule
   pub sound_multi : (windows : List Window) → Around known windows → HaveParents known windows → IsFlawless known windows (Multi feed)
   sound_multi windows around parents light =
       let batch = multi_batch known.hashes (source known.mapping feed) in
-      sound_rows batch (history feed (reverse windows)) (multi_rule known feed) (λ (row : MultiRow). 128 + text_weight row.source + 32 + texts_weight row.sub + texts_weight row.attrs) (tables_weight known.tables) most_weight (appended (feed_batch feed batch) (reverse windows))
-      (appended-history feed batch (reverse windows)) light (sound_row windows around parents)
+      sound_rows batch (history feed (reverse windows)) (multi_rule known feed) _ _ _ _ (appended-history feed batch (reverse windows)) light (sound_row windows around parents)

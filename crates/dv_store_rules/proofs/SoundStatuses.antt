@@ -1,8 +1,10 @@
 -- The rows of a feed's status table after valid windows break no rule of form.
+use Rattle.dv_store_rules.proofs.Vocabulary.{refl}
+use Rattle.dv_store_rules.proofs.Vocabulary.{status_place}
 use Rattle.dv_store_rules.proofs.Vocabulary.{Contains, Contains-append_right, Extract, IsApart, IsStrictlySortedBy, IsTotalOrder, Key, List, None, Option, Some, Status, StatusRow, Window, [], all_refs, ap, appended, appended-history, ascending-sorted_by}
-use Rattle.dv_store_rules.proofs.Vocabulary.{code_of, feed_batch, filter_map, history, lists_of, made_of, most_weight, nat_list_cmp_total, newest_rows, on_total, reverse, source, status_batch, status_cmp, status_row, subst, sym, tables_weight, text_weight, true}
+use Rattle.dv_store_rules.proofs.Vocabulary.{code_of, filter_map, history, lists_of, made_of, nat_list_cmp_total, newest_rows, on_total, reverse, source, status_batch, status_cmp, status_row, subst, sym, true}
 use Rattle.dv_store_rules.proofs.Vocabulary.{ℕ, ◌++◌, ◌+◌, ◌∙◌, ◌∷◌, ◌≡◌}
-use Rattle.dv_store_rules.specs.FormRules.{Known, follows, has_parent, is_delivered, is_digest, is_light, is_source, last_code, takes_turn}
+use Rattle.dv_store_rules.specs.FormRules.{Known, is_light, last_code, takes_turn}
 use Rattle.dv_store_rules.specs.StoredRows.{status_rule}
 use Rattle.dv_records.proofs.FeedContents.{feed_apart}
 use Rattle.dv_records.proofs.LastChange.{lists_reversed}
@@ -11,25 +13,12 @@ use Rattle.dv_records.specs.declared.stores.Rows.TheVariants.{Statuses}
 use Rattle.dv_store_rules.proofs.Around.{Around, HaveParents, IsFlawless}
 use Rattle.dv_store_rules.proofs.BatchRows.{IsOfBatch}
 use Rattle.dv_store_rules.proofs.FeedRows.{FeedFacts, IsFeedMade, feed_facts, its_feed}
-use Rattle.dv_store_rules.proofs.Flawless.{unbroken}
 use Rattle.dv_store_rules.proofs.KeyRows.{digests_differ}
 use Rattle.dv_store_rules.proofs.SoundRows.{sound_rows}
 use Rattle.dv_store_rules.proofs.Splits.{less_before}
 use Rattle.dv_store_rules.proofs.CodeTurns.{lists_of_more, turn_taken}
 
 module _ (known : Known) (feed : ℕ) where
-  abbrev parent_of : StatusRow → List ℕ
-  parent_of row = row.parent
-
-  abbrev load_of : StatusRow → ℕ
-  load_of row = row.load
-
-  abbrev source_of : StatusRow → List ℕ
-  source_of row = row.source
-
-  abbrev refs_of : List Key → List Key
-  refs_of refs = refs
-
   abbrev things : List Extract → Extract → List (List Key)
   things older newest = all_refs (newest_rows older) ++ all_refs newest.rows
 
@@ -37,28 +26,21 @@ module _ (known : Known) (feed : ℕ) where
   row_of = status_row known.hashes (source known.mapping feed)
 
   -- a row has the code that the list got
-  status_made : (older : List Extract) (newest : Extract) (refs : List Key) (row : StatusRow) → row_of older newest refs ≡ Some row
-      → IsFeedMade known feed status_cmp parent_of load_of source_of refs_of newest refs row × (code_of older newest refs ≡ Some row.code)
-  status_made older newest refs row gives =
+  abbrev Own : List Extract → Extract → List Key → StatusRow → Type 0
+  Own older newest refs row = code_of older newest refs ≡ Some row.code
+
+  made : (older : List Extract) (newest : Extract) (refs : List Key) (row : StatusRow) → row_of older newest refs ≡ Some row → IsFeedMade known feed status_cmp status_place (λ row. row.source) (λ (refs : List Key). refs) Own older newest refs row
+  made older newest refs row gives =
       let (code, found, is) = made_of _ (code_of older newest refs) row gives in
-      (record { parent = ap parent_of (sym is); load = ap load_of (sym is); source = ap source_of (sym is) }, found ∙ ap (λ (r : StatusRow). Some r.code) is)
-
-  made : (older : List Extract) (newest : Extract) (refs : List Key) (row : StatusRow) → row_of older newest refs ≡ Some row → IsFeedMade known feed status_cmp parent_of load_of source_of refs_of newest refs row
-  made older newest refs row gives = (status_made older newest refs row gives).0
-
-  listed : (older : List Extract) (newest : Extract) (refs : List Key) → Contains (things older newest) refs → Contains (things older newest) refs
-  listed older newest refs has = has
+      record { parent = ap (λ (r : StatusRow). r.parent) (sym is); load = ap (λ (r : StatusRow). r.load) (sym is); source = ap (λ (r : StatusRow). r.source) (sym is); own = found ∙ ap (λ (r : StatusRow). Some r.code) is }
 
   total : IsTotalOrder status_cmp
-  total = on_total parent_of nat_list_cmp_total
+  total = on_total (λ (row : StatusRow). row.parent) nat_list_cmp_total
 
   module _ (windows : List Window) (around : Around known windows) (parents : HaveParents known windows) (before : List StatusRow) (row : StatusRow)
       (is : IsOfBatch (status_batch known.hashes (source known.mapping feed)) (history feed (reverse windows)) before row) where
-    facts : FeedFacts known feed status_cmp parent_of load_of source_of refs_of total things row_of made listed windows around parents before row is
-    facts = feed_facts known feed status_cmp parent_of load_of source_of refs_of total things row_of made listed windows around parents before row is
-
-    hashed : row.parent ≡ known.hashes.hash facts.thing
-    hashed = (made is.older is.newest facts.thing row facts.gives).parent
+    facts : FeedFacts known feed status_cmp status_place (λ row. row.source) (λ (refs : List Key). refs) Own total things row_of made (λ older newest refs has. has) windows around parents before row is
+    facts = feed_facts known feed status_cmp status_place (λ row. row.source) (λ (refs : List Key). refs) Own total things row_of made (λ older newest refs has. has) windows around parents before row is
 
     -- no two lists of the feed's extracts up to the row's have one hash key
     apart : IsApart known.hashes (lists_of (is.newest ∷ is.older))
@@ -74,31 +56,20 @@ module _ (known : Known) (feed : ℕ) where
     others other has same =
         let up = ascending-sorted_by status_cmp total (filter_map (row_of is.older is.newest) (things is.older is.newest)) in
         let less = less_before status_cmp is.between row is.after (subst (IsStrictlySortedBy status_cmp) is.batch_is up) other has in
-        digests_differ other.parent row.parent less (same ∙ sym hashed)
+        digests_differ other.parent row.parent less (same ∙ sym facts.row_is.parent)
 
     turns : takes_turn (last_code before row.parent) row.code ≡ true
     turns =
         let in_lists = both_lists is.newest is.older facts.thing facts.thing_in in
-        let taken = turn_taken known.hashes (source known.mapping feed) is.newest is.older facts.order apart facts.thing in_lists is.between others row.code (status_made is.older is.newest facts.thing row facts.gives).1 in
+        let taken = turn_taken known.hashes (source known.mapping feed) is.newest is.older facts.order apart facts.thing in_lists is.between others row.code facts.row_is.own in
         subst (λ rows. takes_turn (last_code rows row.parent) row.code ≡ true) (sym is.before_are)
-        (subst (λ parent. takes_turn (last_code (appended (status_batch known.hashes (source known.mapping feed)) is.older ++ is.between) parent) row.code ≡ true) (sym hashed) taken)
+        (subst (λ parent. takes_turn (last_code (appended (status_batch known.hashes (source known.mapping feed)) is.older ++ is.between) parent) row.code ≡ true) (sym facts.row_is.parent) taken)
 
     sound_row : is_light known (Statuses (before ++ row ∷ [])) ≡ true → status_rule known feed before row ≡ None
-    sound_row light =
-        unbroken
-        ((4, is_digest known.width row.parent)
-        ∷ (5, is_delivered known.heads feed row.load)
-        ∷ (6, follows load_of status_cmp before row)
-        ∷ (8, is_source known.mapping row.source)
-        ∷ (9, has_parent known feed row.parent)
-        ∷ (11, takes_turn (last_code before row.parent) row.code)
-        ∷ (13, is_light known (Statuses (before ++ row ∷ [])))
-        ∷ [])
-        (facts.wide, (facts.loaded, (facts.ordered, (facts.sourced, (facts.parented, (turns, (light, tt)))))))
+    sound_row light = rw (facts.wide, facts.loaded, facts.ordered, facts.sourced, facts.parented, turns, light) refl
 
   -- no row of the table breaks a rule
   pub sound_status : (windows : List Window) → Around known windows → HaveParents known windows → IsFlawless known windows (Status feed)
   sound_status windows around parents light =
       let batch = status_batch known.hashes (source known.mapping feed) in
-      sound_rows batch (history feed (reverse windows)) (status_rule known feed) (λ (row : StatusRow). 128 + text_weight row.source) (tables_weight known.tables) most_weight (appended (feed_batch feed batch) (reverse windows))
-      (appended-history feed batch (reverse windows)) light (sound_row windows around parents)
+      sound_rows batch (history feed (reverse windows)) (status_rule known feed) _ _ _ _ (appended-history feed batch (reverse windows)) light (sound_row windows around parents)

@@ -1,4 +1,5 @@
 -- What stands before an item of a list, where the list is parted there.
+use Rattle.dv_store_rules.proofs.Vocabulary.{rules}
 use Rattle.dv_store_rules.proofs.Vocabulary.{Contains, Contains-append_left, Contains-append_right, Contains-cons_cases, Contains-cons_here, Contains-cons_there, Contains-nil, IsStrictlySortedBy, Less, List, None, Option, Ordering, Some, [], ap, inl, inr}
 use Rattle.dv_store_rules.proofs.Vocabulary.{last_or, lt-ltb, member_of_all, nat_lt, option_map_or, refl, true, ℕ, ◌<◌, subst, sym, ◌++◌, ◌∷◌, ◌≡◌, ◌⊎◌}
 
@@ -58,11 +59,7 @@ module _ {X : Type 0} where
 
   last_cases : (xs : List X) (o : Option X) (x : X) → last_or o xs ≡ Some x → (o ≡ Some x) ⊎ Contains xs x
   last_cases [] o x e = inl e
-  last_cases (first ∷ xs) o x e =
-      elim (last_cases xs (Some first) x e) [
-        | inl is ↦ let same : first ≡ x = cc in inr (subst (Contains (first ∷ xs)) same (Contains-cons_here first xs))
-        | inr rest ↦ inr (Contains-cons_there first xs x rest)
-      ]
+  last_cases (first ∷ xs) o x e = search (rules, Contains-cons_here, Contains-cons_there, last_cases xs (Some first) x)
 
   -- the last item is one of the list
   pub last_in : (xs : List X) (x : X) → last_or None xs ≡ Some x → Contains xs x

@@ -1,5 +1,8 @@
 -- What a vault's own facts say of a window that breaks no rule before the vault is looked at.
 use Rattle.dv_window.proofs.Vocabulary.{List, None, Option, Some, [], ap, length, sym, true, ℕ, ◌==◌, ◌∙◌, ◌∷◌, ◌≡◌, nat_lt, list_all, option_map, option_or, Mapping, found_member, passes_at, is_valid, or_none, is_window, IfSome, if◌then◌else◌, is_some, RawVault, are_heads_of, last_head}
+use Rattle.dv_window.proofs.Vocabulary.{Contains-append_right, Contains-cons_here, and_parts, arith, ascends, false, map, nat_tests, refl, ◌++◌}
+use Rattle.dv_restore.specs.Restored.{are_in_order}
+use Rattle.dv_restore.proofs.HeadsInOrder.{later_ascends}
 use Rattle.dv_window.proofs.Vocabulary.{late_after, feed_twice, no_extracts, open_other, unknown_feed, too_long, first_of, window_of, window_rule, Rule, Window, WindowIn, window_of-is_window, WindowHead, IsNewWindow, early_rule, given_rules, head_at, late_by}
 
 -- ---- the early rules, one by one
@@ -47,3 +50,19 @@ pub head_feeds : {R : Type 0} (seen : R → WindowHead) (found : Option R) (mapp
 head_feeds seen None mapping heads load are is = tt
 head_feeds seen (Some head) mapping heads load are is =
     passes_at (λ head. list_all (λ feed. nat_lt feed (length mapping.feeds)) head.feeds) heads (seen head) are (found_member (λ head. head.load == load) heads (seen head) (sym is)).0
+
+-- no head has a load date that is later than the last one
+module _ (load : ℕ) where
+  is_other : (early : ℕ) → nat_lt early load ≡ true → (early == load) ≡ false
+  is_other early less = grind (arith, nat_tests)
+
+  none_among : (heads : List WindowHead) → ascends (map (λ head. head.load) heads ++ load ∷ []) ≡ true → head_at load heads ≡ None
+  none_among [] up = refl
+  none_among (head ∷ heads) up =
+      let loads : List ℕ = map (λ (head : WindowHead). head.load) heads ++ load ∷ [] in
+      let (all, rest) = and_parts (list_all (nat_lt head.load) loads) (ascends loads) up in
+      let less = passes_at (nat_lt head.load) loads load all (Contains-append_right (map (λ (head : WindowHead). head.load) heads) (load ∷ []) load (Contains-cons_here load [])) in
+      rw (is_other head.load less) (none_among heads rest)
+
+  pub none_later : (heads : List WindowHead) → are_in_order heads ≡ true → late_after (last_head heads) load ≡ None → head_at load heads ≡ None
+  none_later heads up late = none_among heads (later_ascends heads load up late)

@@ -64,7 +64,8 @@ pub use Rattle.dv_vault.proofs.Vocabulary.{AllZip, AllZip-long, Bor, Follow, has
 pub use Rattle.dv_records.proofs.Vocabulary.{by_place, is_placed, position}
 pub use Rattle.dv_restore.specs.Completions.{rows_there}
 pub use Rattle.std.proofs.Common.{length-take}
-pub use Rattle.dv_text.proofs.Vocabulary.{nat_tests, ◌+◌}
+pub use Rattle.dv_text.proofs.Vocabulary.{Contains-append_right, nat_tests, ◌+◌}
+pub use Rattle.dv_text.proofs.Options.{none_from}
 pub use Rattle.dv_catalog.specs.Readings.{read_by, reads, records_read, rule_or_rows, taken_count, two_drivers}
 pub use Rattle.dv_catalog.specs.Readings.Read.{Taken}
 pub use Rattle.dv_catalog.specs.Records.{record_rule, records_rule, row_of, ragged, not_utf8, field_long, empty_key, two_rows}

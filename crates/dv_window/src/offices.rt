@@ -5,6 +5,7 @@ ghost use Rattle.dv_records.specs.ReadBack.{any_content_read};
 ghost use Rattle.dv_records.specs.Stores.{is_of_kind, rows_in};
 ghost use Rattle.dv_vault.specs.Additions.{opened_in};
 ghost use Rattle.dv_restore.specs.Completions.{rows_there};
+ghost use Rattle.dv_restore.specs.Restored.{are_in_order};
 ghost use Rattle.dv_catalog.specs.Mappings.{is_valid};
 ghost use Rattle.dv_vault.specs.Vaults.{IsVaultOf, are_heads_of, last_head};
 ghost use Rattle.dv_window.specs.Offices as spec;
@@ -29,16 +30,17 @@ pub struct Office {
 }
 
 impl Model for Office {
-    ghost use Rattle.std.specs.Prelude.{IfSome};
+    ghost use Rattle.std.specs.Prelude.{IfSome, IsTrue};
     ghost use Rattle.dv_store_rules.specs.SnapshotHeads.{KeepLimits};
     ghost use Rattle.dv_vault.specs.Additions.{Fits};
+    ghost use Rattle.dv_restore.specs.Restored.{are_in_order};
     ghost use Rattle.dv_window.specs.Offices.{Held};
 
     ghost Value = { Held };
 
     ghost view = { λ o. record { vault = o.vault; begun = o.begun; snapshots = o.snapshots; stale = o.stale; width = o.width } };
 
-    ghost invariant = { λ o. KeepLimits o.snapshots × IfSome o.begun (Fits o.vault) };
+    ghost invariant = { λ o. KeepLimits o.snapshots × IfSome o.begun (Fits o.vault) × IsTrue (are_in_order o.vault.heads) };
 }
 
 // The rows that are there of a window in the table at a place; none past the last one.
@@ -77,10 +79,11 @@ impl Office {
         self.snapshots.allocator()
     }
 
-    /// The heads of the sealed windows, in order. Takes no memory.
+    /// The heads of the sealed windows, in order: their load dates ascend. Takes no memory.
     pub fn heads(&self) -> &List<WindowHead>
         ensures value { result.now ≡ self.now.vault.heads }
         ensures feeds { IsTrue (are_heads_of self.now.vault.mapping self.now.vault.heads) }
+        ensures order { IsTrue (are_in_order self.now.vault.heads) }
     {
         self.vault.heads()
     }

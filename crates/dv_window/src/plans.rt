@@ -1,11 +1,12 @@
 // What is decided of a window before a keeper hears of it.
-ghost use Rattle.std.specs.Prelude.{◌≡◌, ◌≤◌, IfErr, IfOk, IfSome, IsTrue, None, Some, length, nat_lt, option_map};
+ghost use Rattle.std.specs.Prelude.{◌≡◌, ◌≤◌, IfErr, IfOk, IfSome, IsTrue, None, Some, is_none, length, nat_lt, option_map};
 ghost use Rattle.std.specs.List.{list_all};
 ghost use Rattle.dv_text.specs.Keys.{hashes_of};
 ghost use Rattle.dv_catalog.specs.Windows.{window_of};
-ghost use Rattle.dv_records.specs.Outcomes.{differs_from, full_at};
+ghost use Rattle.dv_records.specs.Outcomes.{differs_from, full_at, late_after};
 ghost use Rattle.dv_records.specs.States.{is_window};
 ghost use Rattle.dv_catalog.specs.Mappings.{is_valid};
+ghost use Rattle.dv_vault.specs.Vaults.{last_head};
 ghost use Rattle.dv_window.specs.Plans as spec;
 ghost use Rattle.dv_window.specs.Offices.{staged};
 ghost use Rattle.dv_window.specs.Plans.{IsPlan, IsPlanned, Stops};
@@ -82,12 +83,23 @@ fn find_head(heads: &[WindowHead], load: Stamp) -> Option<&WindowHead>
 }
 
 impl Office {
+    // Whether a load date is later than those of all sealed windows: then no head has to be looked at.
+    fn is_later(&self, load: Stamp) -> bool
+        ensures { result ≡ is_none (late_after (last_head self.now.vault.heads) load) }
+    {
+        late(self.last(), false, load).is_none()
+    }
+
     // The head with a load date: its feeds are in the mapping.
     fn head_at(&self, load: Stamp) -> Option<&WindowHead>
         ensures head { option_map (λ head. head.now) result ≡ spec.head_at load self.now.vault.heads }
         ensures feeds { IfSome result (λ head. IsTrue (list_all (λ feed. nat_lt feed (length self.now.vault.mapping.feeds)) head.now.feeds)) }
     {
-        find_head(self.heads().items(), load)
+        let heads = self.heads().items();
+        if self.is_later(load) {
+            return None;
+        }
+        find_head(heads, load)
     }
 
     // The first rule, W1 to W6, that a window breaks as it is given.

@@ -1,5 +1,5 @@
 // The start of an office: over a mapping, and over a keeper that has one.
-ghost use Rattle.std.specs.Prelude.{◌≡◌, ◌≤◌, IfOk, IfSome, IsErrOf, None, Some, false};
+ghost use Rattle.std.specs.Prelude.{◌≡◌, ◌≤◌, IfOk, IfSome, IsErrOf, IsTrue, None, Some, false};
 ghost use Rattle.dv_text.specs.Causes.{Rose};
 ghost use Rattle.dv_text.specs.Keys.{Hashes, hashes_of};
 ghost use Rattle.dv_text.specs.Told.{Told};
@@ -11,6 +11,7 @@ ghost use Rattle.dv_records.specs.States.{State, beginning};
 ghost use Rattle.dv_store_rules.specs.SnapshotHeads.{KeepLimits};
 ghost use Rattle.dv_vault.specs.Additions.{Fits};
 ghost use Rattle.dv_restore.specs.Damages.{IsFirstDamage, IsInForm, IsNamedBySome};
+ghost use Rattle.dv_restore.specs.Restored.{are_in_order};
 ghost use Rattle.dv_restore.specs.declared.faults.StoreFault.TheVariants as unread;
 ghost use Rattle.dv_window.specs.Offices.{Agrees, StandsFor};
 
@@ -45,6 +46,7 @@ impl Office {
     pub(crate) fn of_restored(restored: Restored, width: u8) -> Office
         requires taken { IfSome restored.begun (Fits restored.vault) }
         requires limits { KeepLimits restored.snapshots }
+        requires order { IsTrue (are_in_order restored.vault.heads) }
         ensures { result ≡ record { vault = restored.vault; begun = restored.begun; snapshots = restored.snapshots; stale = false; width = width } }
     {
         Office {

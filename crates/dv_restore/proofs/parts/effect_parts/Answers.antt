@@ -1,23 +1,13 @@
-use Rattle.dv_records.proofs.Vocabulary.{List, are_in_load_order, arith, list_all, nat_le, subst, sym, true, ◌≡◌}
+use Rattle.dv_records.proofs.Vocabulary.{arith}
 use Rattle.dv_records.proofs.DatedRows.{in_load_order}
 use Rattle.dv_records.specs.Effects.{effect_cmp}
 use Rattle.dv_track.specs.EffectRows.{effect_order}
 use Rattle.dv_records.specs.EffectPlaces.{effect_place}
-use Rattle.dv_records.specs.declared.raw_rows.EffectRow.{EffectRow}
-use Rattle.dv_restore.proofs.RowHalves.{front_sorted, up_to_rows}
+use Rattle.dv_restore.proofs.RowHalves.{front_sorted}
 use Rattle.dv_restore.proofs.parts.effect_parts.Goals as goal
 
-pub ends_at-requires-clause-dated : goal.ends_at-requires-clause-dated
-ends_at-requires-clause-dated c =
-    subst (λ (rows : List EffectRow). list_all (λ row. nat_le (effect_place row).load c.args.load) rows ≡ true) (sym c.rows.ensures.value)
-    (up_to_rows (λ (row : EffectRow). row.load) c.args.load c.args.table.rows c.requires)
-
 pub halves-requires : goal.halves-requires
-halves-requires c =
-    let same = sym c.into_rows.ensures.value in
-    let order = in_load_order effect_place effect_cmp c.args.table.rows c.into_rows.ensures.kept in
-    let dated = up_to_rows (λ (row : EffectRow). row.load) c.args.load c.args.table.rows c.requires in
-    (omega arith, (subst (λ (rows : List EffectRow). are_in_load_order effect_place rows ≡ true) same order, subst (λ (rows : List EffectRow). list_all (λ row. nat_le (effect_place row).load c.args.load) rows ≡ true) same dated))
+halves-requires c = (omega arith, (rw c.into_rows.ensures.value (in_load_order effect_place effect_cmp c.args.table.rows c.into_rows.ensures.kept), rw c.into_rows.ensures.value c.requires))
 
 pub from_rows-requires : goal.from_rows-requires
 from_rows-requires c =

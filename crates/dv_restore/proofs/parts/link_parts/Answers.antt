@@ -1,21 +1,12 @@
-use Rattle.dv_records.proofs.Vocabulary.{List, and_parts, are_in_load_order, arith, list_all, nat_le, subst, sym, true, ◌≡◌}
+use Rattle.dv_records.proofs.Vocabulary.{arith}
+use Rattle.dv_records.proofs.Vocabulary.{and_parts, are_in_load_order}
 use Rattle.dv_hub_link.specs.PlacedRows.{are_parents_apart}
 use Rattle.dv_records.specs.LinkPlaces.{link_place}
-use Rattle.dv_records.specs.declared.raw_rows.LinkRow.{LinkRow}
-use Rattle.dv_restore.proofs.RowHalves.{front_placed, up_to_rows}
+use Rattle.dv_restore.proofs.RowHalves.{front_placed}
 use Rattle.dv_restore.proofs.parts.link_parts.Goals as goal
 
-pub ends_at-requires-clause-dated : goal.ends_at-requires-clause-dated
-ends_at-requires-clause-dated c =
-    subst (λ (rows : List LinkRow). list_all (λ row. nat_le (link_place row).load c.args.load) rows ≡ true) (sym c.rows.ensures.value)
-    (up_to_rows (λ (row : LinkRow). row.load) c.args.load c.args.table.rows c.requires)
-
 pub halves-requires : goal.halves-requires
-halves-requires c =
-    let same = sym c.into_rows.ensures.value in
-    let order = (and_parts (are_parents_apart link_place c.args.table.rows) (are_in_load_order link_place c.args.table.rows) c.into_rows.ensures.kept).1 in
-    let dated = up_to_rows (λ (row : LinkRow). row.load) c.args.load c.args.table.rows c.requires in
-    (omega arith, (subst (λ (rows : List LinkRow). are_in_load_order link_place rows ≡ true) same order, subst (λ (rows : List LinkRow). list_all (λ row. nat_le (link_place row).load c.args.load) rows ≡ true) same dated))
+halves-requires c = (omega arith, (rw c.into_rows.ensures.value ((and_parts (are_parents_apart link_place c.args.table.rows) (are_in_load_order link_place c.args.table.rows) c.into_rows.ensures.kept).1), rw c.into_rows.ensures.value c.requires))
 
 pub from_rows-requires : goal.from_rows-requires
 from_rows-requires c =

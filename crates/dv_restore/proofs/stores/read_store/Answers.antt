@@ -4,6 +4,8 @@ use Rattle.dv_store_rules.proofs.LightSnapshots.{keep_limits}
 use Rattle.dv_store_rules.specs.StoredHeads.{is_stage}
 use Rattle.dv_vault.specs.Vaults.{RawVault, entry_of}
 use Rattle.dv_restore.specs.Completions.{IsBegunAs, rows_there}
+use Rattle.dv_restore.specs.Restored.{are_in_order}
+use Rattle.dv_restore.proofs.HeadsInOrder.{in_order}
 use Rattle.dv_restore.proofs.StandingStores.{keeps_f15, none_broken, of_state}
 use Rattle.dv_restore.proofs.StoreReads.{goes_on, head_first, heads_are, rows_damaged, sealed_is, snapshots_damaged, stage_damaged, staged_is}
 use Rattle.dv_restore.proofs.StoredTables.{rows_read}
@@ -107,3 +109,7 @@ pub returns-clause-begun : goal.returns-clause-begun
 returns-clause-begun g c = λ store at.
     let staged = c.in_ok-stage.ensures.told store (c.stored_heads.ensures.store ∙ at) in
     subst (λ (stage : Option Window). IsBegunAs (hashes_of g.H.KeyDigest.function) c.in_ok-reopened.reopened.vault stage c.in_ok-reopened.reopened.begun) staged c.in_ok-reopened.ensures.begun
+
+pub returns-clause-order : goal.returns-clause-order
+returns-clause-order g c =
+    subst (λ (raw : RawVault). are_in_order raw.heads ≡ true) (sym c.in_ok-reopened.ensures.vault) (in_order c.args.catalog c.in_ok-heads.heads c.in_ok-heads.ensures.clear)

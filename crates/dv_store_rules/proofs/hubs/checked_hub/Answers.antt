@@ -1,5 +1,6 @@
 use Rattle.dv_store_rules.proofs.Vocabulary.{err_from_is_err_and, hashes_of}
-use Rattle.dv_store_rules.proofs.HubForms.{hub_clear, hub_placed, hub_flawed}
+use Rattle.dv_store_rules.proofs.FirstFlaws.{first_told, none_flawed}
+use Rattle.dv_store_rules.proofs.HubForms.{hub_same, hub_placed}
 use Rattle.dv_store_rules.proofs.hubs.checked_hub.Goals as goal
 
 pub returns-in_err-made-clause-flawed : goal.returns-in_err-made-clause-flawed
@@ -8,8 +9,7 @@ returns-in_err-made-clause-flawed g c read is =
     let told = c.in_ok-rules.ensures in
     let p = err_from_is_err_and c.from_residual-in_err-made.result c.from_residual-in_err-made.ensures.1 in
     rw (p.1, p.2)
-    (hub_flawed (hashes_of g.H.KeyDigest.function) g.H.KeyDigest.function.width c.args.known.now read is c.args.hub rules.parts rules.frame.loads rules.frame.sources told.parts told.loads told.sources c.args.rows
-    c.in_err-made.field-0.0 c.in_err-made.ensures.flawed)
+    (first_told _ _ (hub_same (hashes_of g.H.KeyDigest.function) g.H.KeyDigest.function.width c.args.known.now read is c.args.hub rules.parts rules.frame.loads rules.frame.sources told.parts told.loads told.sources) c.args.rows c.in_err-made.field-0.0 c.in_err-made.ensures.flawed)
 
 pub from_indexed-requires : goal.from_indexed-requires
 from_indexed-requires g c =
@@ -21,5 +21,4 @@ pub returns-clause-clear : goal.returns-clause-clear
 returns-clause-clear g c read is =
     let rules = c.in_ok-rules.rules in
     let told = c.in_ok-rules.ensures in
-    hub_clear (hashes_of g.H.KeyDigest.function) g.H.KeyDigest.function.width c.args.known.now read is c.args.hub rules.parts rules.frame.loads rules.frame.sources told.parts told.loads told.sources c.args.rows
-    c.in_ok-made.ensures.clear
+    none_flawed _ _ (hub_same (hashes_of g.H.KeyDigest.function) g.H.KeyDigest.function.width c.args.known.now read is c.args.hub rules.parts rules.frame.loads rules.frame.sources told.parts told.loads told.sources) c.args.rows c.in_ok-made.ensures.clear
