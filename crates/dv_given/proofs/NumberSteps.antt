@@ -1,6 +1,5 @@
 -- The number that a word says, as it is read.
 use Rattle.std.specs.Char.{is_ascii_digit}
-use Rattle.std.specs.Int.{IsInRange}
 use Rattle.std.specs.List.{list_all}
 use Rattle.std.specs.Prelude.{◌≡◌, ℕ, ◌<◌, ◌≤◌, ◌^◌, ◌==◌, nat_le, not, true, false, List, [], ◌∷◌, length, None}
 use Rattle.std.specs.Str.{IsUtf8}
@@ -9,25 +8,19 @@ use Rattle.std.proofs.Common.{◌∙◌, ap, arith, refl}
 use Rattle.std.proofs.lemmas.Bool.{and_parts}
 use Rattle.std.proofs.lemmas.Fmt.{IsAscii-from_digits}
 use Rattle.std.proofs.lemmas.Str.{IsUtf8-from_ascii, digit_value_digit}
-use Rattle.std.proofs.lemmas.Str.Parse.{digits_value-take-le}
+use Rattle.std.proofs.lemmas.Str.Parse.{IsDigitsTest, digit_at, digits_value-take-le, numerals_by_value, without_leading_plus_none}
 use Rattle.dv_given.specs.Numbers.{is_number, number_in}
 
-digit_within : (b : ℕ) → is_ascii_digit b ≡ true → IsInRange 48 57 b
-digit_within b is = grind (arith, is)
+-- what all bytes of a number pass is a test of digits
+told : IsDigitsTest (λ word. list_all is_ascii_digit word ≡ true)
+told = record {
+  empty = refl;
+  parts = λ b word all. let parts = and_parts (is_ascii_digit b) (list_all is_ascii_digit word) all in (grind (arith, parts.0), parts.1);
+  more = λ b word within all. let digit : is_ascii_digit b ≡ true = grind (arith, within) in rw digit all;
+}
 
 all_digits : (word : List ℕ) → list_all is_ascii_digit word ≡ true → AllDigits 10 word
-all_digits [] all = tt
-all_digits (b ∷ word) all =
-    let parts = and_parts (is_ascii_digit b) (list_all is_ascii_digit word) all in
-    let within = digit_within b parts.0 in
-    (omega (arith, digit_value_digit b within, within.1), all_digits word parts.1)
-
-no_plus : (word : List ℕ) → list_all is_ascii_digit word ≡ true → without_leading_plus word ≡ word
-no_plus [] all = refl
-no_plus (b ∷ word) all =
-    let within = digit_within b (and_parts (is_ascii_digit b) (list_all is_ascii_digit word) all).0 in
-    let other : (b == 43) ≡ false = grind (arith, within) in
-    rw other refl
+all_digits = (numerals_by_value (λ word. list_all is_ascii_digit word ≡ true) told).to
 
 are_digits : (word : List ℕ) → is_number word ≡ true → list_all is_ascii_digit word ≡ true
 are_digits [] is = cc
@@ -41,9 +34,14 @@ some_number : (word : List ℕ) → is_number word ≡ true → 1 ≤ digits_val
 some_number [] is = cc
 some_number (digit ∷ digits) is =
     let parts = and_parts (not (digit == 48)) (list_all is_ascii_digit (digit ∷ digits)) is in
-    let within = digit_within digit (and_parts (is_ascii_digit digit) (list_all is_ascii_digit digits) parts.1).0 in
+    let within = digit_at (digit ∷ digits) 0 (all_digits (digit ∷ digits) parts.1) (omega arith) in
     let above : 48 < digit = grind (arith, within, parts.0) in
     omega (arith, digits_value-take-le 10 (digit ∷ digits) 1 (omega arith), digit_value_digit digit within, above)
+
+no_plus : (word : List ℕ) → is_number word ≡ true → without_leading_plus word ≡ word
+no_plus word is =
+    let within = digit_at word 0 (all_digits word (are_digits word is)) (some_digit word is) in
+    without_leading_plus_none word (λ plus. absurd (omega (arith, plus, within.0)))
 
 -- what is no number says none
 pub no_number : (most : ℕ) (word : List ℕ) → is_number word ≡ false → None ≡ number_in most word
@@ -56,7 +54,7 @@ module _ (most : ℕ) (word : List ℕ) (is : is_number word ≡ true) where
 
   -- which is read as its value
   value : (text : List ℕ) → text ≡ word → digits_value 10 (without_leading_plus text) ≡ digits_value 10 word
-  value text same = ap (λ t. digits_value 10 (without_leading_plus t)) same ∙ ap (digits_value 10) (no_plus word (are_digits word is))
+  value text same = ap (λ t. digits_value 10 (without_leading_plus t)) same ∙ ap (digits_value 10) (no_plus word is)
 
   -- that is no zero
   pub some_value : (text : List ℕ) → text ≡ word → (number : ℕ) → number ≡ digits_value 10 (without_leading_plus text) → 1 ≤ number
@@ -65,7 +63,7 @@ module _ (most : ℕ) (word : List ℕ) (is : is_number word ≡ true) where
   -- one that is not read is past 32 bits
   pub unread : (text : List ℕ) → text ≡ word → most < 2 ^ 32 → (IsNumeral 10 (without_leading_plus text) × (digits_value 10 (without_leading_plus text) < 2 ^ 32) → ⊥) → None ≡ number_in most word
   unread text same fits not_read =
-      let plain : without_leading_plus text ≡ word = ap without_leading_plus same ∙ no_plus word (are_digits word is) in
+      let plain : without_leading_plus text ≡ word = ap without_leading_plus same ∙ no_plus word is in
       let past : digits_value 10 word < 2 ^ 32 → ⊥ = λ under. not_read (rw plain ((some_digit word is, all_digits word (are_digits word is)), under)) in
       let over : nat_le (digits_value 10 word) most ≡ false = grind (arith, past, fits) in
       rw is (rw over refl)

@@ -1,8 +1,8 @@
 -- The rows of a content beside keys, found one after another as both ascend.
-use Rattle.std.proofs.Common.{◌≡◌, ◌∙◌, ◌+◌, ◌<◌, ◌++◌, ◌∷◌, [], List, ℕ, ap, append_assoc, arith, get_or, length, map, refl, sym, drop, take}
+use Rattle.std.proofs.Common.{◌≡◌, ◌∙◌, ◌+◌, ◌<◌, ◌++◌, ◌∷◌, [], List, ℕ, ap, append_assoc, get_or, length, map, refl, sym, drop, take}
 use Rattle.std.proofs.lemmas.List.{drop_more, length-drop, map-append, take_more}
 use Rattle.std.proofs.Math.Seq.{take-length}
-use Rattle.std.specs.Prelude.{◌-◌, Bool, true, false, Option, Some, None, Contains, cond, find, if◌then◌else◌, not, option_map, position, slice_get, suc}
+use Rattle.std.specs.Prelude.{◌-◌, Bool, true, false, Option, Some, None, cond, find, if◌then◌else◌, not, option_map, position, slice_get, suc}
 use Rattle.std.specs.declared.cmp.Ordering.{Ordering}
 use Rattle.std.specs.declared.cmp.Ordering.TheVariants.{Less, Equal, Greater}
 use Rattle.std.specs.Ordering.{is_eq, is_lt, ordering_reverse, ordering_then}
@@ -13,7 +13,7 @@ use Rattle.dv_text.specs.Keys.{refs_eq}
 use Rattle.dv_text.specs.Orders.{key_cmp, refs_cmp, row_cmp, text_cmp}
 use Rattle.std.specs.Cmp.Lexicographic.{slice_cmp}
 use Rattle.dv_text.proofs.Deciding.{refs-tie, refs_total}
-use Rattle.dv_text.proofs.Members.{member_of_all, Contains-cons_here, Contains-cons_there}
+use Rattle.dv_text.proofs.Members.{member_of_all}
 use Rattle.dv_text.proofs.Orderings.{turned}
 use Rattle.dv_text.proofs.Passing.{find_none}
 use Rattle.dv_text.proofs.Places.{position-cons}

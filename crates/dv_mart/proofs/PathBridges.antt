@@ -1,14 +1,13 @@
 -- The bridge over the first feeds of a path: over one, over one more, and over all.
 use Rattle.std.proofs.Common.{◌≡◌, ◌∙◌, ◌+◌, ◌-◌, ◌<◌, ◌≤◌, ◌++◌, ◌∷◌, [], List, ℕ, ap, append_assoc, arith, inl, inr, length, map, subst, sym, take}
 use Rattle.std.proofs.lemmas.Bool.{cases_lt, le-ltb, lt-ltb}
-use Rattle.std.proofs.lemmas.List.{length-append, length-map, length-take-le, take-append-drop}
-use Rattle.std.proofs.lemmas.List.Elements.{Contains-append_left}
+use Rattle.std.proofs.lemmas.List.{length-append, length-map, length-take-le}
 use Rattle.std.proofs.lemmas.List.FromFn.{get_or-range_with_len, length-range_with_len}
 use Rattle.std.proofs.lemmas.Option.{slice_get_within}
 use Rattle.std.proofs.Math.Seq.{take-length}
 use Rattle.std.specs.List.{range_with_len}
 use Rattle.std.specs.Option.{option_map_or}
-use Rattle.std.specs.Prelude.{Bool, Contains, Err, IfOk, Ok, Result, Some, drop, false, nat_lt, slice_get, sum_by, true}
+use Rattle.std.specs.Prelude.{Bool, Contains, Err, IfOk, Ok, Result, Some, false, nat_lt, slice_get, sum_by, true}
 use Rattle.dv_text.proofs.Options.{take_got}
 use Rattle.dv_text.proofs.Passing.{none_pass, passes_at, some_passes_at}
 use Rattle.dv_text.specs.declared.rows.Window.{Window}
@@ -25,6 +24,7 @@ use Rattle.dv_records.specs.Limits.{most_path_rows}
 use Rattle.dv_records.specs.Marts.{contents, prefix_rows}
 use Rattle.dv_records.specs.Snapshots.{bridge}
 use Rattle.dv_records.specs.Steps.{is_too_large}
+use Rattle.dv_vault.proofs.TaskFacts.{Contains-take}
 use Rattle.dv_vault.specs.Vaults.{HasSealed, RawVault}
 use Rattle.dv_bridge.proofs.BridgesTell.{bridges_tell, prefixes_tell}
 use Rattle.dv_bridge.proofs.FeedLinks.{feed_links_tell, link_feed}
@@ -40,9 +40,6 @@ use Rattle.dv_mart.proofs.PathFeeds.{path_facts}
 
 take_one : {X : Type 0} (xs : List X) (x : X) → slice_get xs 0 ≡ Some x → take 1 xs ≡ x ∷ []
 take_one xs x at = take_got xs 0 x at
-
-take_member : {X : Type 0} (n : ℕ) (xs : List X) (x : X) → Contains (take n xs) x → Contains xs x
-take_member n xs x has = subst (λ all. Contains all x) (take-append-drop n xs) (Contains-append_left (take n xs) (drop n xs) x has)
 
 counted : (count k : ℕ) → Contains (range_with_len 1 count) k → (1 ≤ k) × (k ≤ count)
 counted count k has =
@@ -129,7 +126,7 @@ module _ (raw : RawVault) (date : ℕ) (path : PathDef) (hashes : Hashes) (seale
 
   of_link : (f : ℕ) → Contains (take place path.feeds ++ last ∷ []) f → is_link_feed (slice_get raw.mapping.feeds f) ≡ true
   of_link f f_in =
-      let among : Contains path.feeds f = take_member (place + 1) path.feeds f (subst (λ feeds. Contains feeds f) (sym feeds_before) f_in) in
+      let among : Contains path.feeds f = Contains-take (place + 1) path.feeds f (subst (λ feeds. Contains feeds f) (sym feeds_before) f_in) in
       passes_at (λ feed. is_link_feed (slice_get raw.mapping.feeds feed)) path.feeds f (path_facts raw.mapping valid path declared).of_links among
 
   -- the rows of a link have as many hash keys as the link has hubs

@@ -1,38 +1,15 @@
-//! The texts of hub marts.
+//! The headers of the texts of hub marts.
 
-ghost use Rattle.std.specs.Prelude.{◌≡◌, ◌<◌, ◌∷◌, ◌++◌, flat_map, length, map, IfOk, OnOk};
+ghost use Rattle.std.specs.Prelude.{◌≡◌, ◌<◌, ◌++◌, flat_map, length, map, IfOk, OnOk};
 ghost use Rattle.dv_print.specs.HubFeeds.{told};
 ghost use Rattle.dv_print.specs.Texts as spec;
 
 use crate::columns::{push_dotted, push_parts};
-use crate::csv_texts::rows_text;
 use crate::fields::Fields;
 use crate::hub_feeds::{HubFeed, feeds_of};
-use crate::recorded::Recorded;
 use dv_catalog::{Catalog, FeedDef};
-use dv_records::{HubCell, HubMartRow};
-use dv_text::{Memory, Text};
+use dv_text::Memory;
 use std::alloc::Global;
-
-// Puts the cells of a row at the end: for each whether the key is present, and its attributes.
-fn push_cells(fields: &mut Fields, cells: &[HubCell]) -> Result<(), Memory>
-    ensures { OnOk result (fields.new ≡ fields.old ++ flat_map (λ cell. spec.yes_or_no cell.present ∷ cell.attrs) cells.now) }
-{
-    for cell in cells {
-        fields.push_yes_or_no(cell.present)?;
-        fields.push_texts(cell.attrs.items())?;
-    }
-    Ok(())
-}
-
-impl Recorded for HubMartRow {
-    ghost record_of = { spec.hub_record };
-
-    fn put(&self, fields: &mut Fields) -> Result<(), Memory> {
-        fields.push_texts(self.key.parts.items())?;
-        push_cells(fields, self.cells.items())
-    }
-}
 
 // Puts a column at the end for each attribute of a feed.
 fn push_attrs(alloc: Global, header: &mut Fields, feed: &FeedDef) -> Result<(), Memory>
@@ -65,7 +42,8 @@ fn push_feeds(alloc: Global, header: &mut Fields, feeds: &[HubFeed<'_>]) -> Resu
     Ok(())
 }
 
-/// The header of the text of a hub's mart. Condition: the hub is in the mapping.
+/// The header of the text of a hub's mart: a column for each part of its keys, and for each feed of the hub its name and
+/// its attributes unless it has a sub. Condition: the hub is in the mapping.
 pub fn hub_header(alloc: Global, catalog: &Catalog, hub: u32) -> Result<Fields, Memory>
     requires { hub < length catalog.now.hubs }
     ensures { IfOk result (λ header. header ≡ spec.hub_header catalog.now hub) }
@@ -81,19 +59,4 @@ pub fn hub_header(alloc: Global, catalog: &Catalog, hub: u32) -> Result<Fields, 
     )?;
     push_feeds(alloc, &mut header, feeds.as_slice())?;
     Ok(header)
-}
-
-/// The text of a hub's mart with these rows: a header, and for each row the parts of its key, and for each feed
-/// of the hub `Y` or `N` for whether the key is present, and its attributes unless the feed has a sub. Condition:
-/// the hub is in the mapping.
-pub fn hub_text(
-    alloc: Global,
-    catalog: &Catalog,
-    hub: u32,
-    rows: &[HubMartRow],
-) -> Result<Text, Memory>
-    requires { hub < length catalog.now.hubs }
-    ensures { IfOk result (λ text. text ≡ spec.hub_text catalog.now hub rows.now) }
-{
-    rows_text(alloc, hub_header(alloc, catalog, hub)?, rows)
 }

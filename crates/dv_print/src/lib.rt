@@ -20,10 +20,10 @@ mod windows_texts;
 
 pub use bridge_texts::bridge_text;
 pub use csv_texts::{new_writer, put_record, put_row, put_rows, text_of};
-pub use feed_texts::{feed_header, feed_text};
+pub use feed_texts::feed_header;
 pub use fields::Fields;
 pub use hub_feeds::{HubFeed, feed_hubs, feeds_of};
-pub use hub_texts::{hub_header, hub_text};
+pub use hub_texts::hub_header;
 pub use path_texts::path_text;
 pub use period_texts::period_text;
 pub use pit_texts::pit_text;

@@ -1,4 +1,4 @@
-use Rattle.dv_mart.proofs.Vocabulary.{◌≡◌, ◌++◌, ◌∷◌, [], ◌∙◌, List, Option, append-nil, ap, length, map, option_map, sym}
+use Rattle.dv_mart.proofs.Vocabulary.{◌++◌, ◌∷◌, [], ◌∙◌, List, Option, append-nil, ap, map, option_map, sym}
 use Rattle.std.proofs.lemmas.List.{drop_all, map-append}
 use Rattle.std.specs.Borrow.{Bor}
 use Rattle.dv_text.specs.declared.rows.NRow.{NRow}

@@ -1,4 +1,4 @@
-use Rattle.std.proofs.Common.{◌∷◌, ◌∙◌, List, ap, map, subst, sym, ℕ}
+use Rattle.std.proofs.Common.{◌∙◌, List, ap, map, subst, sym, ℕ}
 use Rattle.std.proofs.lemmas.Result.{IfOk-weaker}
 use Rattle.dv_catalog.specs.Entries.{Mapping}
 use Rattle.dv_text.specs.declared.rows.NRow.{NRow}

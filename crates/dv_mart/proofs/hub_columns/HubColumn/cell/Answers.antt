@@ -1,4 +1,4 @@
-use Rattle.dv_mart.proofs.Vocabulary.{◌∙◌, ap, option_map}
+use Rattle.dv_mart.proofs.Vocabulary.{◌∙◌, ap}
 use Rattle.std.specs.Borrow.{Bor}
 use Rattle.std.specs.Option.{is_some}
 use Rattle.dv_text.specs.declared.rows.NRow.{NRow}

@@ -1,6 +1,0 @@
-use Rattle.dv_print.proofs.Vocabulary.{◌≡◌, ◌++◌, ◌∷◌, take, flat_map}
-use Rattle.dv_print.specs.Texts.{yes_or_no}
-use Rattle.dv_print.proofs.hub_texts.push_cells.Given as goal
-
-abbrev pub invariant-loop-cell : goal.invariant-loop-cell
-invariant-loop-cell l = l.fields ≡ l.initial.fields ++ flat_map (λ cell. yes_or_no cell.present ∷ cell.attrs) (take l.cell-index l.cells)
