@@ -1,7 +1,6 @@
 -- What is said of a query, and what comes of a command that writes its text.
 use Rattle.std.specs.Prelude.{◌≡◌, ℕ, true, List, Option, Some, None, Result, Ok, Err, IfOk, IfErr, option_map, option_to_list}
-use Rattle.std.specs.List.{Contains}
-use Rattle.std.proofs.Common.{ap, arith, inl, refl, subst, sym, ◌∙◌}
+use Rattle.std.proofs.Common.{ap, arith, inl, subst, sym, ◌∙◌}
 use Rattle.dv_text.specs.Keys.{DigestFunction, Hashes, hashes_of}
 use Rattle.dv_text.specs.Stamps.{stamp_of}
 use Rattle.dv_catalog.specs.Entries.{Mapping}
@@ -9,22 +8,17 @@ use Rattle.dv_catalog.specs.Tables.{tables}
 use Rattle.dv_catalog.specs.declared.tables.TableId.{TableId}
 use Rattle.dv_mart.specs.declared.query_rules.QueryRule.{QueryRule}
 use Rattle.dv_mart.specs.declared.whats.What.{What}
-use Rattle.dv_mart.specs.MartTexts.{mart_text, rows_behind as behind_in_marts}
+use Rattle.dv_mart.specs.MartTexts.{mart_text}
 use Rattle.dv_mart.specs.Whats.{offered_mart, table_named}
 use Rattle.dv_print.specs.TableTexts.{table_text}
 use Rattle.dv_print.specs.Texts.{windows_text}
-use Rattle.dv_records.specs.declared.stores.Rows.{Rows}
 use Rattle.dv_records.specs.declared.stores.Store.{Store}
 use Rattle.dv_records.specs.Standing.{Stands}
 use Rattle.dv_records.specs.States.{State, head_of}
 use Rattle.dv_records.specs.Stores.{rows_in}
 use Rattle.dv_restore.specs.Completions.{rows_there}
-use Rattle.dv_vault.specs.declared.begun.Begun.{Begun}
-use Rattle.dv_vault.specs.Additions.{opened_in}
-use Rattle.dv_vault.specs.Vaults.{HasSealed, IsVaultOf, RawVault, has_table}
-use Rattle.dv_vault.proofs.OtherTables.{with_has}
-use Rattle.dv_vault.proofs.VaultFacts.{vault_has}
-use Rattle.dv_window.specs.Offices.{Held, StandsFor, rows_behind as behind_in_windows, staged}
+use Rattle.dv_vault.specs.Vaults.{HasSealed, RawVault, has_table}
+use Rattle.dv_window.specs.Offices.{Held, StandsFor, staged}
 use Rattle.dv_given.specs.declared.endings.Ending.{Ending}
 use Rattle.dv_given.specs.declared.endings.Ending.TheVariants as endings
 use Rattle.dv_given.specs.Endings.{DateEnds, IsTextFor, IsTextOf, QueryEnds, TextEnds}

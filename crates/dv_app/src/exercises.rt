@@ -9,18 +9,15 @@ ghost use Rattle.dv_app.specs.Exercised.{ExerciseSays, HasTaken, exercised};
 
 use crate::counts::counts_text;
 use crate::generated::{WINDOWS, generated_catalog, generated_window, load_date};
-use crate::load_options::LoadOptions;
 use crate::loadings::{Tools, begin_loading, load_window};
 use dv_given::MEMORY;
 use dv_outside::{Failed, Gate, Sink, Status, end, write_all};
 use dv_text::{KeyDigest, Memory, Text};
 use dv_window::Office;
-use std::alloc::Global;
 use std::thread::Threads;
 
 // Makes a window, and gives it to the office.
 fn load_generated<R: Threads + Sync, H: KeyDigest, G: Gate>(
-    alloc: Global,
     office: &mut Office,
     items: u32,
     window: u32,
@@ -30,14 +27,13 @@ fn load_generated<R: Threads + Sync, H: KeyDigest, G: Gate>(
     requires before { HasTaken (hashes_of H.function) items window office.old }
     ensures { OnOk result (HasTaken (hashes_of H.function) items (window + 1) office.new) }
 {
-    let given = generated_window(alloc, items, window)?;
+    let given = generated_window(tools.alloc, items, window)?;
     load_window(office, &given, tools)?;
     Ok(())
 }
 
 // Gives all windows to the office, one after another.
 fn load_all<R: Threads + Sync, H: KeyDigest, G: Gate>(
-    alloc: Global,
     office: &mut Office,
     items: u32,
     tools: &Tools<'_, '_, '_, R, H, G>,
@@ -46,14 +42,13 @@ fn load_all<R: Threads + Sync, H: KeyDigest, G: Gate>(
     ensures { OnOk result (HasTaken (hashes_of H.function) items 4 office.new) }
 {
     for window in 0..WINDOWS {
-        load_generated(alloc, office, items, window, tools)?;
+        load_generated(office, items, window, tools)?;
     }
     Ok(())
 }
 
 // Loads all windows into the office, and counts what it has then.
 fn load_and_count<R: Threads + Sync, H: KeyDigest, G: Gate>(
-    alloc: Global,
     office: &mut Office,
     items: u32,
     tools: &Tools<'_, '_, '_, R, H, G>,
@@ -61,47 +56,36 @@ fn load_and_count<R: Threads + Sync, H: KeyDigest, G: Gate>(
     requires begun { HasTaken (hashes_of H.function) items 0 office.old }
     ensures { IfOk result (λ text. text ≡ exercised (hashes_of H.function) items) }
 {
-    load_all(alloc, office, items, tools)?;
-    counts_text(alloc, office.vault(), load_date(WINDOWS - 1))
+    load_all(office, items, tools)?;
+    counts_text(tools.alloc, office.vault(), load_date(WINDOWS - 1))
 }
 
 // All but the writing.
 fn exercise<R: Threads + Sync, H: KeyDigest, G: Gate>(
-    alloc: Global,
     items: u32,
     tools: &Tools<'_, '_, '_, R, H, G>,
 ) -> Result<Text, Memory>
     ensures { IfOk result (λ text. text ≡ exercised (hashes_of H.function) items) }
 {
-    let catalog = generated_catalog(alloc)?;
-    let mut loading = begin_loading(alloc, catalog, tools.digest.width())?;
-    let text = load_and_count(alloc, &mut loading.office, items, tools);
+    let catalog = generated_catalog(tools.alloc)?;
+    let mut loading = begin_loading(tools.alloc, catalog, tools.digest.width())?;
+    let text = load_and_count(&mut loading.office, items, tools);
     loading.office.close();
     text
 }
 
 /// The command `exercise`.
 pub(crate) fn exercise_command<R: Threads + Sync, O: Sink, E: Sink, H: KeyDigest, G: Gate>(
-    rt: &R,
-    alloc: Global,
     count: u32,
-    options: LoadOptions,
     out: &mut O,
     err: &mut E,
-    digest: &H,
-    gate: &G,
+    tools: &Tools<'_, '_, '_, R, H, G>,
 ) -> Status
     ensures says { ExerciseSays H.function count (seen O.contents O.faults out.old out.new) (seen E.contents E.faults err.old err.new) result }
     ensures causes { (folder : Seen (list_of NamedFile)) → IsCaused (record { folder = folder; out = seen O.contents O.faults out.old out.new; err = seen E.contents E.faults err.old err.new }) result }
     ensures later { (O.faults out.old ≤ O.faults out.new) × (E.faults err.old ≤ E.faults err.new) }
 {
-    let tools = Tools {
-        rt,
-        options,
-        digest,
-        gate,
-    };
-    match exercise(alloc, count, &tools) {
+    match exercise(count, tools) {
         Ok(text) => match write_all(out, text.bytes()) {
             Ok(()) => Status::Done,
             Err(Failed) => Status::WriteFault,

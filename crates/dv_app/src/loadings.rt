@@ -16,10 +16,11 @@ use dv_window::{Office, workers_for};
 use std::alloc::Global;
 use std::thread::Threads;
 
-/// What windows are loaded by: the runtime of their workers, how many these are and the order of tasks, how keys
-/// are hashed, and the gate between tasks.
+/// What windows are loaded by: memory, the runtime of their workers, how many these are and the order of tasks, how
+/// keys are hashed, and the gate between tasks.
 #[derive(Drop)]
 pub(crate) struct Tools<'r, 'd, 'g, R, H: KeyDigest, G: Gate> {
+    pub alloc: Global,
     pub rt: &'r R,
     pub options: LoadOptions,
     pub digest: &'d H,
@@ -90,7 +91,6 @@ fn load_arrived<R: Threads + Sync, H: KeyDigest, G: Gate>(
 
 /// Takes what a manifest brought, and makes its line.
 pub(crate) fn take<R: Threads + Sync, H: KeyDigest, G: Gate>(
-    alloc: Global,
     loading: &mut Loading,
     name: &Text,
     arrived: Arrived,
@@ -100,7 +100,7 @@ pub(crate) fn take<R: Threads + Sync, H: KeyDigest, G: Gate>(
     ensures { IfOk result (TookLine (hashes_of H.function) name.now (arrival_of arrived) loading.old loading.new) }
 {
     let taken = load_arrived(&mut loading.office, arrived, tools)?;
-    let line = window_line(alloc, name, &taken)?;
+    let line = window_line(tools.alloc, name, &taken)?;
     loading.refused |= is_refusal(&taken);
     Ok(line)
 }

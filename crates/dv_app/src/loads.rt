@@ -95,6 +95,7 @@ where
     {
         let arrived = bring(alloc, self.folder, name)?;
         let tools = Tools {
+            alloc,
             rt: self.rt,
             options,
             digest: self.digest,

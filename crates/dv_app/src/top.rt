@@ -9,6 +9,7 @@ ghost use Rattle.dv_app.specs.Run.{ChangesAsSaid, DamageIsNamed, IsApart, IsRunC
 ghost use Rattle.dv_app.specs.Words.{asked_of};
 
 use crate::exercises::exercise_command;
+use crate::loadings::Tools;
 use crate::replies::say;
 use crate::tries::try_command;
 use crate::words::{Command, asked_command, parts_of};
@@ -43,26 +44,26 @@ where
         };
         match asked_command(&parts) {
             None => end(err, USAGE, Status::Usage),
-            Some(Command::Try(asked)) => try_command(
-                self.rt,
-                alloc,
-                &asked,
-                self.folder,
-                out,
-                err,
-                self.digest,
-                self.gate,
-            ),
-            Some(Command::Exercise { count, options }) => exercise_command(
-                self.rt,
-                alloc,
-                count,
-                options,
-                out,
-                err,
-                self.digest,
-                self.gate,
-            ),
+            Some(Command::Try(asked)) => {
+                let tools = Tools {
+                    alloc,
+                    rt: self.rt,
+                    options: asked.options,
+                    digest: self.digest,
+                    gate: self.gate,
+                };
+                try_command(&asked, self.folder, out, err, &tools)
+            }
+            Some(Command::Exercise { count, options }) => {
+                let tools = Tools {
+                    alloc,
+                    rt: self.rt,
+                    options,
+                    digest: self.digest,
+                    gate: self.gate,
+                };
+                exercise_command(count, out, err, &tools)
+            }
             Some(Command::OnKeeper(command)) => {
                 let reply = self.reply_to(alloc, &command);
                 say(&reply, out, err)

@@ -29,7 +29,6 @@ struct Readied {
 
 // A manifest is read and taken, and its line is written.
 fn load_one<R: Threads + Sync, F: Folder, E: Sink, H: KeyDigest, G: Gate>(
-    alloc: Global,
     loading: &mut Loading,
     name: &Text,
     folder: &mut F,
@@ -40,8 +39,8 @@ fn load_one<R: Threads + Sync, F: Folder, E: Sink, H: KeyDigest, G: Gate>(
     ensures goes { Goes (hashes_of H.function) name.now loading.old loading.new (seen F.files F.faults folder.old folder.new) (seen E.contents E.faults err.old err.new) result }
     ensures leaves { Leaves (seen F.files F.faults folder.old folder.new) (seen E.contents E.faults err.old err.new) }
 {
-    let arrived = bring(alloc, folder, name)?;
-    let line = take(alloc, loading, name, arrived, tools)?;
+    let arrived = bring(tools.alloc, folder, name)?;
+    let line = take(loading, name, arrived, tools)?;
     match write_all(err, line.bytes()) {
         Ok(()) => Ok(()),
         Err(Failed) => Err(Ending::Unwritten),
@@ -50,7 +49,6 @@ fn load_one<R: Threads + Sync, F: Folder, E: Sink, H: KeyDigest, G: Gate>(
 
 // The manifests are taken one after another.
 fn load_all<R: Threads + Sync, F: Folder, E: Sink, H: KeyDigest, G: Gate>(
-    alloc: Global,
     loading: &mut Loading,
     names: &[Text],
     folder: &mut F,
@@ -62,7 +60,7 @@ fn load_all<R: Threads + Sync, F: Folder, E: Sink, H: KeyDigest, G: Gate>(
     ensures leaves { Leaves (seen F.files F.faults folder.old folder.new) (seen E.contents E.faults err.old err.new) }
 {
     for name in names {
-        load_one(alloc, loading, name, folder, err, tools)?;
+        load_one(loading, name, folder, err, tools)?;
     }
     Ok(())
 }
@@ -90,7 +88,6 @@ fn begin<F: Folder, H: KeyDigest>(
 
 // The manifests are taken, and the mart's text is written: whether a window was refused.
 fn try_readied<R: Threads + Sync, F: Folder, O: Sink, E: Sink, H: KeyDigest, G: Gate>(
-    alloc: Global,
     readied: &mut Readied,
     asked: &Asked<'_>,
     folder: &mut F,
@@ -103,16 +100,9 @@ fn try_readied<R: Threads + Sync, F: Folder, O: Sink, E: Sink, H: KeyDigest, G: 
     ensures leaves { Leaves (seen F.files F.faults folder.old folder.new) (seen E.contents E.faults err.old err.new) }
     ensures out_later { O.faults out.old ≤ O.faults out.new }
 {
-    load_all(
-        alloc,
-        &mut readied.loading,
-        asked.manifests,
-        folder,
-        err,
-        tools,
-    )?;
+    load_all(&mut readied.loading, asked.manifests, folder, err, tools)?;
     let vault = readied.loading.office.vault();
-    let text = text_of(alloc, vault, &readied.what, readied.date)?;
+    let text = text_of(tools.alloc, vault, &readied.what, readied.date)?;
     match write_all(out, text.bytes()) {
         Ok(()) => Ok(readied.loading.refused),
         Err(Failed) => Err(Ending::Unwritten),
@@ -121,7 +111,6 @@ fn try_readied<R: Threads + Sync, F: Folder, O: Sink, E: Sink, H: KeyDigest, G: 
 
 // All but the last line and the status: whether a window was refused.
 fn try_all<R: Threads + Sync, F: Folder, O: Sink, E: Sink, H: KeyDigest, G: Gate>(
-    alloc: Global,
     asked: &Asked<'_>,
     folder: &mut F,
     out: &mut O,
@@ -132,36 +121,27 @@ fn try_all<R: Threads + Sync, F: Folder, O: Sink, E: Sink, H: KeyDigest, G: Gate
     ensures kept { F.files folder.new ≡ F.files folder.old }
     ensures later { (F.faults folder.old ≤ F.faults folder.new) × (O.faults out.old ≤ O.faults out.new) × (E.faults err.old ≤ E.faults err.new) }
 {
-    let mut readied = begin(alloc, asked, folder, tools.digest)?;
-    let tried = try_readied(alloc, &mut readied, asked, folder, out, err, tools);
+    let mut readied = begin(tools.alloc, asked, folder, tools.digest)?;
+    let tried = try_readied(&mut readied, asked, folder, out, err, tools);
     readied.loading.office.close();
     tried
 }
 
 /// The command `try`.
 pub(crate) fn try_command<R: Threads + Sync, F: Folder, O: Sink, E: Sink, H: KeyDigest, G: Gate>(
-    rt: &R,
-    alloc: Global,
     asked: &Asked<'_>,
     folder: &mut F,
     out: &mut O,
     err: &mut E,
-    digest: &H,
-    gate: &G,
+    tools: &Tools<'_, '_, '_, R, H, G>,
 ) -> Status
     ensures says { TrySays H.function (wanted asked.now) (sight F.Folder O.Sink E.Sink (folder.old, out.old, err.old) (folder.new, out.new, err.new)) result }
     ensures causes { IsCaused (sight F.Folder O.Sink E.Sink (folder.old, out.old, err.old) (folder.new, out.new, err.new)) result }
     ensures kept { F.files folder.new ≡ F.files folder.old }
     ensures later { (F.faults folder.old ≤ F.faults folder.new) × (O.faults out.old ≤ O.faults out.new) × (E.faults err.old ≤ E.faults err.new) }
 {
-    let tools = Tools {
-        rt,
-        options: asked.options,
-        digest,
-        gate,
-    };
-    match try_all(alloc, asked, folder, out, err, &tools) {
+    match try_all(asked, folder, out, err, tools) {
         Ok(refused) => status_of_windows(refused),
-        Err(ending) => end_command(alloc, err, &ending),
+        Err(ending) => end_command(tools.alloc, err, &ending),
     }
 }

@@ -9,7 +9,7 @@ use Rattle.dv_records.specs.declared.stores.Store.{Store}
 use Rattle.dv_records.specs.Standing.{Stands}
 use Rattle.dv_records.specs.States.{State}
 use Rattle.dv_window.specs.Offices.{IsIn}
-use Rattle.dv_serving.specs.Doors.{ServesDoors, ServesEach}
+use Rattle.dv_serving.specs.Doors.{ServesEach}
 use Rattle.dv_serving.specs.Exchanges.{Chain, Exchange}
 use Rattle.dv_desk.specs.Answers.{refusal}
 use Rattle.dv_desk.specs.Doors.{ServedDoors, ServesWith, Started, StandsThen, Tells}

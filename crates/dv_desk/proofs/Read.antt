@@ -15,7 +15,7 @@ use Rattle.dv_catalog.specs.Tables.{tables}
 use Rattle.dv_catalog.specs.declared.tables.TableId.{TableId}
 use Rattle.dv_store_rules.proofs.Widths.{of_width}
 use Rattle.dv_mart.proofs.OfferedTables.{named_among}
-use Rattle.dv_mart.specs.MartTexts.{mart_text, rows_behind as behind_in_marts}
+use Rattle.dv_mart.specs.MartTexts.{mart_text}
 use Rattle.dv_mart.specs.Whats.{hub_place, offered_mart, table_named}
 use Rattle.dv_mart.specs.declared.query_rules.QueryRule.{QueryRule}
 use Rattle.dv_mart.specs.declared.whats.What.{What}
@@ -23,7 +23,6 @@ use Rattle.dv_records.specs.declared.snapshots.SnapHead.{SnapHead}
 use Rattle.dv_records.specs.declared.answers.Damage.{Damage}
 use Rattle.dv_records.specs.declared.snapshots.SnapId.{SnapId}
 use Rattle.dv_records.specs.declared.snapshots.SnapId.TheVariants.{Pit}
-use Rattle.dv_records.specs.declared.stores.Rows.{Rows as TableRows}
 use Rattle.dv_records.specs.declared.stores.Store.{Store}
 use Rattle.dv_records.specs.Snapshots.{pit, snapshot}
 use Rattle.dv_records.specs.States.{State}
@@ -32,16 +31,12 @@ use Rattle.dv_snapshots.specs.declared.stored.StoredFault.{StoredFault}
 use Rattle.dv_snapshots.specs.declared.stored.StoredFault.TheVariants as stored
 use Rattle.dv_snapshots.specs.StoredRows.{head_at}
 use Rattle.dv_snapshots.specs.StoredTexts.{AreInNoState, IsRowOf, IsStoredDamage, table_text as snap_text}
-use Rattle.dv_vault.specs.declared.begun.Begun.{Begun}
-use Rattle.dv_vault.specs.Additions.{opened_in}
 use Rattle.dv_restore.specs.Completions.{rows_there}
 use Rattle.dv_print.specs.TableTexts.{table_text}
 use Rattle.dv_print.specs.Texts.{pit_text}
-use Rattle.dv_vault.proofs.OtherTables.{with_has}
-use Rattle.dv_vault.proofs.VaultFacts.{vault_has}
-use Rattle.dv_vault.specs.Vaults.{HasSealed, IsVaultOf, RawVault, has_table}
+use Rattle.dv_vault.specs.Vaults.{HasSealed, RawVault, has_table}
 pub use Rattle.dv_window.proofs.StartFacts.{none_of}
-use Rattle.dv_window.specs.Offices.{Held, IsIn, made_stale, rows_behind as behind_in_windows, staged}
+use Rattle.dv_window.specs.Offices.{Held, IsIn, made_stale, staged}
 use Rattle.dv_desk.specs.declared.answers.Answer.{Answer}
 use Rattle.dv_desk.specs.declared.answers.Answer.TheVariants as answers
 use Rattle.dv_desk.specs.Bodies.{heads_body}

@@ -6,7 +6,9 @@ use Rattle.dv_text.specs.Told.{Told}
 use Rattle.dv_outside.specs.Ends.{Ends, line_of}
 use Rattle.dv_outside.specs.Lines.{Lines}
 use Rattle.dv_outside.specs.Seen.{NoFault, Seen}
+use Rattle.dv_outside.specs.declared.doors.Doors.{Ghosts as OfDoors}
 use Rattle.dv_outside.specs.declared.folders.Failed.{Failed}
+use Rattle.dv_outside.specs.declared.links.Link.{Ghosts as OfLink}
 use Rattle.dv_outside.specs.declared.statuses.Status.{Status}
 use Rattle.dv_outside.specs.declared.statuses.Status.TheVariants as statuses
 use Rattle.dv_catalog.specs.Entries.{Mapping}
@@ -71,6 +73,11 @@ pub record ServesWith {L : Type 0} (function : DigestFunction) (tells : Tells L)
   pub serves : ServesDoors (IsReplied function) refusal tells old new began after ended
   pub cause : HasCause before now ended
   pub ends : EndsAs ended err result
+
+-- the same, by what doors and the connections that come through them tell
+abbrev pub ServesBy : {D L : Type 0} → DigestFunction → OfDoors D L → OfLink L → D → D → Moment → Moment → Seen (List ℕ) → Status → Type 0
+ServesBy function doors links old new began after err result =
+    ServesWith function (tells links) (doors.lines old) (doors.lines new) (doors.faults old) (doors.faults new) began after err result
 
 -- the store stands for a state
 abbrev pub StandsThen : Mapping → Hashes → Option Store → Type 0

@@ -9,7 +9,7 @@ ghost use Rattle.dv_records.specs.States.{State};
 ghost use Rattle.dv_records.specs.declared.stores.Store.{Store};
 ghost use Rattle.dv_window.specs.Offices.{AgreesUnlessStale};
 ghost use Rattle.dv_given.specs.Endings.{EndsBy, ending_of_start};
-ghost use Rattle.dv_desk.specs.Doors.{IsServeCause, ServeCompletes, ServeSays, ServesWith, tells};
+ghost use Rattle.dv_desk.specs.Doors.{EndsAs, IsServeCause, ServeCompletes, ServeSays, ServesBy, tells};
 ghost use Rattle.dv_desk.specs.Turns.{moment};
 
 use crate::desks::{Desk, Loading};
@@ -65,6 +65,17 @@ pub fn serve<R: Threads + Sync, D: Doors, K: Keeper, E: Sink, H: KeyDigest, G: G
     serve_by(alloc, doors, keeper, err, loading)
 }
 
+// Says how the serving of doors ended.
+fn end_doors<E: Sink>(err: &mut E, ended: Result<(), Failed>) -> Status
+    ensures ends { EndsAs ended (seen E.contents E.faults err.old err.new) result }
+    ensures later { E.faults err.old ≤ E.faults err.new }
+{
+    match ended {
+        Ok(()) => Status::Done,
+        Err(Failed) => end_named(err, READ_FAULT, b"doors", Status::ReadFault),
+    }
+}
+
 // The connections of the doors are served with an office that was started.
 fn serve_with<R: Threads + Sync, D: Doors, K: Keeper, E: Sink, H: KeyDigest, G: Gate>(
     alloc: Global,
@@ -75,8 +86,8 @@ fn serve_with<R: Threads + Sync, D: Doors, K: Keeper, E: Sink, H: KeyDigest, G: 
     loading: Loading<'_, '_, '_, R, H, G>,
 ) -> Status
     requires agrees { AgreesUnlessStale office.old (K.store keeper.old) }
-    ensures serves { ServesWith H.function (tells D.Line.Link) (D.lines doors.old) (D.lines doors.new) (D.faults doors.old) (D.faults doors.new)
-        (moment K.store K.faults office.old keeper.old) (moment K.store K.faults office.new keeper.new) (seen E.contents E.faults err.old err.new) result }
+    ensures serves { ServesBy H.function D.Doors D.Line.Link doors.old doors.new (moment K.store K.faults office.old keeper.old)
+        (moment K.store K.faults office.new keeper.new) (seen E.contents E.faults err.old err.new) result }
     ensures port { D.named doors.new ≡ D.named doors.old }
     ensures later { E.faults err.old ≤ E.faults err.new }
 {
@@ -85,10 +96,8 @@ fn serve_with<R: Threads + Sync, D: Doors, K: Keeper, E: Sink, H: KeyDigest, G: 
         keeper,
         loading,
     };
-    match desk.serve_doors(alloc, doors) {
-        Ok(()) => Status::Done,
-        Err(Failed) => end_named(err, READ_FAULT, b"doors", Status::ReadFault),
-    }
+    let ended = desk.serve_doors(alloc, doors);
+    end_doors(err, ended)
 }
 
 // Says why no office could be started.

@@ -1,5 +1,5 @@
 /// How the serving of a connection ended, and how many replies were written whole.
-#[derive(Clone, Copy, Debug, PartialEq, Eq)]
+#[derive(Clone, Copy)]
 pub enum Served {
     /// The input ended between requests.
     Ended { requests: u32 },
