@@ -4,6 +4,10 @@ from typing import NamedTuple
 FIRST, SECOND = "2024-03-01T02:00:00", "2024-03-02T02:00:00"
 
 
+LOADING = ("load", "try")  # commands that take workers
+WORTH_WORKERS = 16_384  # bytes of a window's extracts, from which on it is loaded by more than one
+
+
 class Step(NamedTuple):
     """A command that ends with status 0: its words, its line, its line where all was done before, and its text. Where it
     loads a window, `rows` is how many rows that adds."""
@@ -13,6 +17,10 @@ class Step(NamedTuple):
     again: str = ""
     text: str = ""
     rows: int = 0
+
+    def has_workers(self):
+        """Whether it loads windows, with as many workers as it is told."""
+        return self.words.split()[0] in LOADING
 
 
 class History(NamedTuple):
@@ -25,6 +33,14 @@ class History(NamedTuple):
     def write(self, vault):
         for name, text in self.files.items():
             vault.write(name, text)
+
+    def by(self, options):
+        """The same, whose windows are loaded with options of workers. Blank lines, which are no records, stand behind each
+        extract, so that it is worth more than one."""
+        blank = "\n" * WORTH_WORKERS
+        files = {name: text + blank if name.endswith(".csv") else text for name, text in self.files.items()}
+        steps = (step._replace(words=f"{step.words} {options}") if step.has_workers() else step for step in self.steps)
+        return self._replace(files=files, steps=tuple(steps))
 
 
 def manifest(load, *feeds):

@@ -2,7 +2,7 @@
 """Refuses the program memory: each request of a command in turn, once, over some small histories.
 
 Usage: python3 bench/memory/run.py [--program FILE] [--history NAME [--command N [--nth N[-M]]]] [--every K] [--lasting]
-                                   [--minutes N]
+                                   [--workers N [--order ORDER]] [--minutes N]
 
 FILE, or what the environment's VAULTDESK names, is a built vaultdesk; where none is named, the script vaultdesk builds the
 repository's. Each command has to end with status 7 and the line `vaultdesk: out of memory`, or as it does where nothing is
@@ -11,6 +11,7 @@ marts are those of a run without a refusal. Prints a row for each command, and w
 it; the exit status is 1 where something did. Where no compiler of C is there, all is left out.
 """
 import argparse
+import itertools
 import os
 import pathlib
 import sys
@@ -32,6 +33,7 @@ from trials import MEMORY, OTHER, OWN, Trial  # noqa: E402
 # A command waits for the disk several times, of which nothing is asked here.
 IN_MEMORY = pathlib.Path("/dev/shm")
 SHOWN = 40  # what went wrong, at most
+MOST_WORKERS = 64
 COLUMNS = ["history", "command", "requests", "refused", "status 7", "as without", "other", "stores left", "seconds"]
 
 
@@ -44,10 +46,13 @@ class Wrong(NamedTuple):
 
 
 def tried(given, trial):
-    """What comes of the requests that are refused one after another: one alone in a process of its own, and else each in a
-    copy of one process."""
+    """What comes of the requests that are refused one after another: one alone, and each of several workers, whose threads a
+    copy has not, in a process of its own; and else each in a copy of one process."""
     first, last = given.nth or (1, trial.asked)
-    return trial.one(first) if first == last else trial.each(range(first, last + 1, given.every))
+    numbers = range(first, last + 1, given.every)
+    if given.workers or first == last:
+        return itertools.chain.from_iterable(map(trial.one, numbers))
+    return trial.each(numbers)
 
 
 def told(answer):
@@ -80,10 +85,20 @@ def note(wrong, what, number, step):
         wrong.append(Wrong(what, number, number))
 
 
+def options_of(given):
+    """The words by which workers are asked for; none where none are."""
+    return f"--workers {given.workers} --order {given.order}" if given.workers else ""
+
+
+def history_of(name, given):
+    """A history, of which the windows are loaded by workers where some are asked for."""
+    return HISTORIES[name].by(options_of(given)) if given.workers else HISTORIES[name]
+
+
 def show_trial(name, number, given, made, refusing, ends):
     """Tries a command, and prints its row; what went wrong, and whether time was up."""
     begun = time.monotonic()
-    trial = Trial(made, refusing, HISTORIES[name], number, given.lasting)
+    trial = Trial(made, refusing, history_of(name, given), number, given.lasting)
     if not trial.asked:
         raise SystemExit("the program asks the C library for no memory: nothing can be refused it so")
     counts, wrong, left = try_all(trial, given, ends)
@@ -92,7 +107,7 @@ def show_trial(name, number, given, made, refusing, ends):
          *(f"{count:,}" for count in counts.values()), str(stores), f"{time.monotonic() - begun:.0f}"])
     sys.stdout.flush()
     made.drop(trial.vault, trial.after)
-    again = f"--history {name} --command {number}{' --lasting' if given.lasting else ''} --nth"
+    again = " ".join(filter(None, [f"--history {name} --command {number}", options_of(given), "--lasting" * given.lasting, "--nth"]))
     found = [f"{each.what}\n  at {each.first} to {each.last}; repeat the first: {again} {each.first}" for each in wrong]
     if left is not None and left <= trial.asked:
         found.append(f"time was up: go on by {again} {left}-{trial.asked}")
@@ -100,10 +115,11 @@ def show_trial(name, number, given, made, refusing, ends):
 
 
 def chosen(given):
-    """The histories and their commands that are tried."""
+    """The histories and their commands that are tried: where workers are asked for, those that have them."""
     for name in [given.history] if given.history else HISTORIES:
-        count = len(HISTORIES[name].steps)
-        yield from ((name, number) for number in ([given.command] if given.command else range(1, count + 1)))
+        for number, step in enumerate(HISTORIES[name].steps, 1):
+            if given.command in (None, number) and (step.has_workers() or not given.workers):
+                yield name, number
 
 
 def span(text):
@@ -119,10 +135,14 @@ def arguments():
     parser.add_argument("--nth", type=span, help="this request of it alone, or those from one to another")
     parser.add_argument("--every", type=int, default=1, help="each K-th request alone")
     parser.add_argument("--lasting", action="store_true", help="all requests behind a refused one are refused too")
+    parser.add_argument("--workers", type=int, help="windows are loaded by so many, and their commands alone are tried")
+    parser.add_argument("--order", choices=("declared", "reverse"), default="declared", help="that in which they begin tasks")
     parser.add_argument("--minutes", type=float, default=600, help="at most so long")
     given = parser.parse_args()
     if given.command and not given.history or given.nth and not given.command or given.every < 1:
         parser.error("a command needs a history, and a request needs both; --every is 1 at least")
+    if given.workers is not None and not 1 <= given.workers <= MOST_WORKERS:
+        parser.error(f"--workers is 1 to {MOST_WORKERS}")
     if given.command and not 1 <= given.command <= len(HISTORIES[given.history].steps):
         parser.error(f"{given.history} has commands from 1 to {len(HISTORIES[given.history].steps)}")
     return given
