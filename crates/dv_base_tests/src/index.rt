@@ -353,3 +353,55 @@ fn far_and_near_parents_are_found_from_one_another(rt: HostRuntime) {
     let table = table(alloc, &even()).expect(&rt, "a table");
     assert!(rt; are_latest(alloc, &table, FAR_AND_NEAR, 1, NUMBERS) == Ok(true));
 }
+
+// Load dates of three rows each, which come behind the hundred: of a parent between them, of one of them, and of one
+// behind them. After each the number of the last row of the one of them, and those of `ASKED_LATER`.
+const LATER: &[(i64, Option<u64>, &[Option<u64>])] = &[
+    (
+        2,
+        Some(101),
+        &[Some(102), Some(100), Some(96), Some(101), None],
+    ),
+    (
+        3,
+        Some(104),
+        &[Some(105), Some(103), Some(96), Some(104), None],
+    ),
+    (
+        4,
+        Some(107),
+        &[Some(108), Some(106), Some(96), Some(107), None],
+    ),
+    (
+        5,
+        Some(110),
+        &[Some(111), Some(109), Some(96), Some(110), None],
+    ),
+];
+
+const ASKED_LATER: &[Name] = &[[255; 3], [7; 3], [6; 3], [40; 3], [41; 3]];
+
+fn parent_count(table: &IndexedRows<Row>, date: i64) -> Result<usize, Memory> {
+    let found = table.latest_of_each(day(date))?;
+    Ok(found.len())
+}
+
+#[test]
+fn a_few_rows_behind_many_are_found(rt: HostRuntime) {
+    let alloc = rt.alloc();
+    let mut table = table(alloc, &even()).expect(&rt, "a table");
+    for (load, number, numbers) in LATER {
+        let rows = [([7; 3], *load), ([40; 3], *load), ([255; 3], *load)];
+        assert!(rt; append(alloc, &mut table, &rows).is_some());
+        assert!(rt;
+            are_latest(alloc, &table, ASKED_LATER, *load, numbers) == Ok(true),
+            "{load}"
+        );
+        assert!(rt; latest(&table, [40; 3], *load) == *number, "{load}");
+        assert!(rt; latest(&table, [40; 3], 1) == Some(79), "{load}");
+        assert!(rt; latest(&table, [7; 3], 1).is_none(), "{load}");
+        assert!(rt; parent_count(&table, *load) == Ok(102), "{load}");
+        assert!(rt; parent_count(&table, 1) == Ok(100), "{load}");
+        assert!(rt; table.fit_count(&Once) == 101, "{load}");
+    }
+}

@@ -1,9 +1,8 @@
 -- Entries stand in the order of their rows.
-use Rattle.dv_index.proofs.Vocabulary.{◌≡◌, ℕ, ◌+◌, ◌-◌, ◌<◌, ◌≤◌, Bool, List, [], ◌∷◌, ◌++◌, length, get_or, map, take, refl, ap, subst, sym, ◌∙◌, arith, All, All-append, All-get_or, All-permutation, IsPermutation, IsSorted, IsStrictWeakOrder, IsTotalOrder, Ordering, Less, Equal, Greater, is_lt}
-use Rattle.dv_index.proofs.Vocabulary.{ordering_then, then_total, on_total, nat_cmp_total, ranks_by, get_or-map, get_or-take, length-append, length-map, length-take-le, map-append, IsPermutation-map, range_with_len, IsDigest, digest_prefix, prefix_first}
-use Rattle.dv_index.proofs.Vocabulary.{AreEntries, Entry, IsEntry, IsIndex, Place, entry_at, entry_cmp, is_entry_reached, is_reached, is_reached_by, number_cmp, numbers_of, parent_at, parents_of, take_at}
-use Rattle.dv_index.proofs.Grown.{grown_numbers, index_length, still_sorted}
-use Rattle.dv_index.proofs.Order.{number_total, within}
+use Rattle.dv_index.proofs.Vocabulary.{All, All-append, All-get_or, All-permutation, AreEntries, Bool, Entry, Equal, Greater, IsDigest, IsEntry, IsIndex, IsPermutation, IsPermutation-map, IsSorted, IsStrictWeakOrder, IsTotalOrder, Less, List, Ordering, Place, [], ap, arith, digest_prefix}
+use Rattle.dv_index.proofs.Vocabulary.{entry_at, entry_cmp, get_or, get_or-map, get_or-take, is_entry_reached, is_lt, is_reached, is_reached_by, length, length-append, length-map, length-take-le, map, map-append, nat_cmp_total, number_cmp, numbers_of, on_total, ordering_then, parent_at}
+use Rattle.dv_index.proofs.Vocabulary.{parents_of, prefix_first, range_with_len, ranks_by, refl, subst, sym, take, take_at, then_total, ℕ, ◌++◌, ◌+◌, ◌-◌, ◌<◌, ◌∙◌, ◌∷◌, ◌≡◌, ◌≤◌}
+use Rattle.dv_index.proofs.{Grown.grown_numbers, Grown.index_length, Grown.still_sorted, Order.number_total, Order.within}
 
 -- the entry that is read where there is none
 abbrev pub no_entry : Entry
@@ -113,7 +112,7 @@ module _ (parents : List (List ℕ)) where
         }
 
 -- there are as many entries as rows
-entries_length : (parents : List (List ℕ)) (index : List Entry) → AreEntries parents index → length index ≡ length parents
+pub entries_length : (parents : List (List ℕ)) (index : List Entry) → AreEntries parents index → length index ≡ length parents
 entries_length parents index is = sym (length-map index (λ entry. entry.number)) ∙ index_length parents (numbers_of index) is.index
 
 -- the index of some rows is one of the first of these and others

@@ -1,8 +1,7 @@
 -- An index of the first rows and the numbers of the others are the numbers of all rows.
-use Rattle.dv_index.proofs.Vocabulary.{◌≡◌, ℕ, ◌+◌, ◌-◌, ◌≤◌, List, [], ◌++◌, length, get_or, take, arith, ap, subst, ◌∙◌, range_with_len, IsPermutation, IsSorted, get_or-take, length-take-le, length-range_with_len, IsPermutation-append_left}
-use Rattle.dv_index.proofs.Vocabulary.{IsPermutation-append_right, IsPermutation-trans, length_permutation, IsIndex, number_cmp}
-use Rattle.dv_index.proofs.Order.{within}
-use Rattle.dv_index.proofs.Ranges.{range_split}
+use Rattle.dv_index.proofs.Vocabulary.{IsIndex, IsPermutation, IsPermutation-append_left, IsPermutation-append_right, IsPermutation-trans, IsSorted, List, [], ap, arith, get_or, get_or-take, length, length-range_with_len, length-take-le, length_permutation, number_cmp, range_with_len, subst}
+use Rattle.dv_index.proofs.Vocabulary.{take, ℕ, ◌++◌, ◌+◌, ◌-◌, ◌∙◌, ◌≡◌, ◌≤◌}
+use Rattle.dv_index.proofs.{Order.within, Ranges.range_split}
 
 pub all_numbers : (parents : List (List ℕ)) (index more sorted : List ℕ) → length index ≤ length parents → IsIndex (take (length index) parents) index
     → more ≡ index ++ range_with_len (length index) (length parents - length index) → IsPermutation more sorted → IsPermutation (range_with_len 0 (length parents)) sorted

@@ -1,5 +1,5 @@
 -- The last item of a list that passes a test.
-use Rattle.dv_index.proofs.Vocabulary.{◌≡◌, ℕ, zero, suc, ◌<◌, Bool, true, false, List, [], ◌∷◌, Some, None, length, get_or, refl, arith, reverse, find, option_or, reverse-append, find-append}
+use Rattle.dv_index.proofs.Vocabulary.{Bool, List, None, Some, [], arith, false, find, find-append, get_or, length, option_or, refl, reverse, reverse-append, suc, true, zero, ℕ, ◌<◌, ◌∷◌, ◌≡◌}
 
 module _ {X : Type 0} (p : X → Bool) where
   -- the last one is that of the rest, and else the first item

@@ -1,8 +1,8 @@
 -- The row before the point up to which an index is reached is a parent's latest one, where it is the parent's.
-use Rattle.dv_index.proofs.Vocabulary.{◌≡◌, ℕ, ◌-◌, ◌<◌, ◌≤◌, inl, inr, Bool, true, false, ◌&&◌, List, Some, None, length, get_or, refl, sym, ◌∙◌, arith, nat_le, Ordering, Less, Equal, Greater, IsPartitionPoint, bytes_eq, and_from, and_parts, cases_lt, false_from_ne_true, false≢true, le-leb}
-use Rattle.dv_index.proofs.Vocabulary.{◌∷◌, [], ◌==◌, ◌⊎◌, nat_tests, row_before, slice_get, slice_get-get_or, leb-true, nat_list_cmp_total, tied_itself, get_or_default, get_or-map, length-map, bytes_eq-Decides, text_cmp-IsAntisymmetric, text_cmp, Place, latest_at, IsIndex, is_reached, is_reached_by, load_at, loads_of, parent_at, parents_of}
-use Rattle.dv_index.proofs.LastFound.{last_none, last_found}
-use Rattle.dv_index.proofs.Order.{in_order, le_from_not_lt, number_there, within}
+use Rattle.dv_index.proofs.Vocabulary.{Bool, Equal, Greater, IsIndex, IsPartitionPoint, Less, List, None, Ordering, Place, Some, [], and_from, and_parts, arith, bytes_eq, bytes_eq-Decides, cases_lt, false, false_from_ne_true, false≢true, get_or, get_or-map, get_or_default, inl, inr, is_reached}
+use Rattle.dv_index.proofs.Vocabulary.{is_reached_by, latest_at, le-leb, leb-true, length, length-map, load_at, loads_of, nat_le, nat_list_cmp_total, nat_tests, parent_at, parents_of, refl, row_before, slice_get, slice_get-get_or, sym, text_cmp, text_cmp-IsAntisymmetric, tied_itself, true, ℕ}
+use Rattle.dv_index.proofs.Vocabulary.{◌&&◌, ◌-◌, ◌<◌, ◌==◌, ◌∙◌, ◌∷◌, ◌≡◌, ◌≤◌, ◌⊎◌}
+use Rattle.dv_index.proofs.{LastFound.last_none, LastFound.last_found, Order.in_order, Order.le_from_not_lt, Order.number_there, Order.within}
 
 pub same_cmp : (a b : List ℕ) → a ≡ b → text_cmp a b ≡ Equal
 same_cmp a b same = rw same (tied_itself nat_list_cmp_total b)
@@ -21,6 +21,11 @@ reached_lesser p parent early differs reached = by (text_cmp p parent) refl
     by Less e = e
     by Equal e = absurd (differs (text_cmp-IsAntisymmetric p parent e))
     by Greater e = absurd (false≢true (rw e at reached))
+
+-- there is a row where there is a number of one
+pub some_row : {X : Type 0} (rows : List X) (n : ℕ) → n < length rows → X
+some_row [] n under = absurd (omega arith)
+some_row (row ∷ rows) n under = row
 
 module _ {X : Type 0} (place : X → Place) (rows : List X) (index : List ℕ) (is : IsIndex (parents_of place rows) index) (parent : List ℕ) (date count : ℕ) (bound : count ≤ length index)
     (point : IsPartitionPoint (λ number. is_reached (parents_of place rows) (loads_of place rows) parent date number ≡ true) (λ number. is_reached (parents_of place rows) (loads_of place rows) parent date number ≡ false) index count) where
@@ -90,11 +95,6 @@ module _ {X : Type 0} (place : X → Place) (rows : List X) (index : List ℕ) (
         let ordered = rw here at (in_order (parents_of place rows) index is k (count - 1) 0 (omega arith) (omega arith)) in
         let lesser : text_cmp (parent_at (parents_of place rows) (get_or index (count - 1) 0)) (parent_at (parents_of place rows) j) ≡ Less = rw (of_parent j d under pass) less in
         false≢true (sym (rw lesser at ordered))))
-
-  -- there is a row where there is a number of one
-  some_row : (rows : List X) (n : ℕ) → n < length rows → X
-  some_row [] n under = absurd (omega arith)
-  some_row (row ∷ rows) n under = row
 
   -- the row with the last number that is reached is the latest one, if it is of the parent
   pub latest_is : row_before place rows index parent count ≡ latest_at place rows parent date

@@ -8,6 +8,7 @@ pub mod Order
 pub mod Ranges
 pub mod Reached
 pub mod RowsBefore
+pub mod Runs
 pub mod Scattered
 pub mod Vocabulary
 pub mod Walk

@@ -1,9 +1,8 @@
 -- Merging from the back: what was moved so far, and that it stands in order.
-use Rattle.dv_index.proofs.Vocabulary.{◌≡◌, ℕ, ◌+◌, ◌<◌, ◌≤◌, inl, inr, Bool, true, false, List, [], ◌∷◌, ◌++◌, length, get_or, take, drop, refl, sym, ◌∙◌, ap, subst, arith, append_assoc, append-nil, length-append, Contains, not, IsStrictWeakOrder, AllPairs, IsPartitionPoint, IsPartitionedBy}
-use Rattle.dv_index.proofs.Vocabulary.{IsPermutation, IsSortedBy, not_from_false, not-false, not-true, drop_all, drop-append-le, drop_more, get_or-append-add, get_or_append_left, get_or-take, get_or-drop, length-drop, get_or_default, length-take-le, take-append-drop, take-take, take_all, take_at}
-use Rattle.dv_index.proofs.Vocabulary.{take_more, Contains-append_cases}
-use Rattle.dv_index.proofs.Vocabulary.{Contains-append_left, Contains-append_right, Contains-get_or, AllPairs-cons, IsPermutation-append_right, IsPermutation-cons, IsPermutation-middle, IsPermutation-refl, IsPermutation-trans, sorted_far, Contains-cons_cases, Contains-cons_here}
-use Rattle.dv_index.proofs.Vocabulary.{Contains-cons_there}
+use Rattle.dv_index.proofs.Vocabulary.{AllPairs, AllPairs-cons, Bool, Contains, Contains-append_cases, Contains-append_left, Contains-append_right, Contains-cons_cases, Contains-cons_here, Contains-cons_there, Contains-get_or, IsPartitionPoint, IsPartitionedBy, IsPermutation}
+use Rattle.dv_index.proofs.Vocabulary.{IsPermutation-append_right, IsPermutation-cons, IsPermutation-middle, IsPermutation-refl, IsPermutation-trans, IsSortedBy, IsStrictWeakOrder, List, [], ap, append-nil, append_assoc, arith, drop, drop-append-le, drop_all, drop_more, false, get_or}
+use Rattle.dv_index.proofs.Vocabulary.{get_or-append-add, get_or-drop, get_or-take, get_or_append_left, get_or_default, inl, inr, length, length-append, length-drop, length-take-le, not, not-false, not-true, not_from_false, refl, sorted_far, subst, sym, take, take-append-drop, take-take}
+use Rattle.dv_index.proofs.Vocabulary.{take_all, take_at, take_more, true, ℕ, ◌++◌, ◌+◌, ◌<◌, ◌∙◌, ◌∷◌, ◌≡◌, ◌≤◌}
 
 -- no item stands behind one that comes after it
 abbrev pub Rising : {X : Type 0} → (X → X → Bool) → List X → Type 0

@@ -1,5 +1,5 @@
 -- A part of a list moved back, and an item put before it.
-use Rattle.dv_index.proofs.Vocabulary.{◌≡◌, ℕ, ◌+◌, ◌-◌, ◌<◌, ◌≤◌, List, ◌∷◌, ◌++◌, length, take, drop, set, refl, sym, ◌∙◌, ap, arith, append_assoc, paste, drop_at, drop-set, drop-take, length-drop, length-take-le, length-paste}
+use Rattle.dv_index.proofs.Vocabulary.{List, ap, append_assoc, arith, drop, drop-set, drop-take, drop_at, length, length-drop, length-paste, length-take-le, paste, refl, set, sym, take, ℕ, ◌++◌, ◌+◌, ◌-◌, ◌<◌, ◌∙◌, ◌∷◌, ◌≡◌, ◌≤◌}
 
 pub put_back : {X : Type 0} (xs ys : List X) (place end free : ℕ) (x : X) → place ≤ end → end + free < length xs → ys ≡ paste xs (place + free + 1) (drop place xs) (end - place)
     → drop (place + free) (set ys (place + free) x) ≡ x ∷ (drop place (take end xs) ++ drop (end + free + 1) xs)

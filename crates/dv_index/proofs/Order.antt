@@ -1,7 +1,7 @@
 -- The order of an index, and what it says of load dates.
-use Rattle.dv_index.proofs.Vocabulary.{◌≡◌, ℕ, zero, suc, ◌<◌, ◌≤◌, Bool, true, false, List, [], ◌∷◌, length, get_or, map, refl, sym, ◌∙◌, subst, arith, nat_le, Ordering, Less, Equal, Greater, IsStrictWeakOrder, IsTotalOrder, list_all, All, range_with_len, IsPartitionedBy, is_lt, nat_cmp}
-use Rattle.dv_index.proofs.Vocabulary.{ordering_then, Contains, and_parts, false≢true, le-leb, leb-true, nat_tests, then_total, on_total, nat_list_cmp_total, nat_cmp_total, length-map, All-get_or, All-from_get_or, Contains-get_or, length-range_with_len, get_or-range_with_len, All-permutation}
-use Rattle.dv_index.proofs.Vocabulary.{Contains-permutation, ranks_by, sorted_far, Contains-range, turned, passes_at, list_all-map, text_cmp-IsAntisymmetric, text_cmp, Place, are_in_load_order, IsIndex, is_reached, is_reached_by, load_at, loads_of, number_cmp, parent_at, parents_of}
+use Rattle.dv_index.proofs.Vocabulary.{All, All-from_get_or, All-get_or, All-permutation, Bool, Contains, Contains-get_or, Contains-permutation, Contains-range, Equal, Greater, IsIndex, IsPartitionedBy, IsStrictWeakOrder, IsTotalOrder, Less, List, Ordering, Place, [], and_parts}
+use Rattle.dv_index.proofs.Vocabulary.{are_in_load_order, arith, false, false≢true, get_or, get_or-range_with_len, is_lt, is_reached, is_reached_by, le-leb, leb-true, length, length-map, length-range_with_len, list_all, list_all-map, load_at, loads_of, map, nat_cmp, nat_cmp_total, nat_le}
+use Rattle.dv_index.proofs.Vocabulary.{nat_list_cmp_total, nat_tests, number_cmp, on_total, ordering_then, parent_at, parents_of, passes_at, range_with_len, ranks_by, refl, sorted_far, subst, suc, sym, text_cmp, text_cmp-IsAntisymmetric, then_total, true, turned, zero, ℕ, ◌<◌, ◌∙◌, ◌∷◌, ◌≡◌, ◌≤◌}
 
 module _ (parents : List (List ℕ)) where
   pub number_total : IsTotalOrder (number_cmp parents)

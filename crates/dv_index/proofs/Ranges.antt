@@ -1,5 +1,5 @@
 -- Ranges of numbers.
-use Rattle.dv_index.proofs.Vocabulary.{◌≡◌, ℕ, zero, suc, ◌+◌, [], ◌∷◌, ◌++◌, refl, ap, arith, range_with_len}
+use Rattle.dv_index.proofs.Vocabulary.{[], ap, arith, range_with_len, refl, suc, zero, ℕ, ◌++◌, ◌+◌, ◌∷◌, ◌≡◌}
 
 -- a range in two parts
 pub range_split : (a m n k b : ℕ) → k ≡ m + n → b ≡ a + m → range_with_len a k ≡ range_with_len a m ++ range_with_len b n

@@ -1,8 +1,7 @@
 -- What is reached of the entries of an index, and the search for how many are.
-use Rattle.dv_index.proofs.Vocabulary.{◌≡◌, ℕ, ◌+◌, ◌<◌, ◌≤◌, Bool, true, false, List, length, get_or, take, ◌-◌, sym, ◌∙◌, arith, All, All-get_or, get_or-take, get_or_default, length-take-le, IsPartitionPoint, IsPartitionedBy, length-map, false_from_ne_true, false≢true, are_in_load_order, IsDigest, digest_prefix, AreEntries, Entry, Place, is_entry_reached}
-use Rattle.dv_index.proofs.Vocabulary.{is_reached, loads_of, numbers_of, parents_of, IsEntry}
-use Rattle.dv_index.proofs.EntryOrder.{entry_reached, number_at}
-use Rattle.dv_index.proofs.Order.{reached_first}
+use Rattle.dv_index.proofs.Vocabulary.{All, All-get_or, AreEntries, Bool, Entry, IsDigest, IsEntry, IsPartitionPoint, IsPartitionedBy, List, Place, are_in_load_order, arith, digest_prefix, false, false_from_ne_true, false≢true, get_or, get_or-take, get_or_default, is_entry_reached, is_reached}
+use Rattle.dv_index.proofs.Vocabulary.{length, length-map, length-take-le, loads_of, numbers_of, parents_of, sym, take, true, ℕ, ◌+◌, ◌-◌, ◌<◌, ◌∙◌, ◌≡◌, ◌≤◌}
+use Rattle.dv_index.proofs.{EntryOrder.entry_reached, EntryOrder.number_at, Order.reached_first}
 
 module _ {X : Type 0} (p : X → Bool) (xs : List X) where
   -- all items before a place pass, and none from another place on

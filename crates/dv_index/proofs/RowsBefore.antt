@@ -1,10 +1,8 @@
 -- The row before another one of its parent in an index is the last one of the parent before it.
-use Rattle.dv_index.proofs.Vocabulary.{◌≡◌, ℕ, ◌+◌, ◌-◌, ◌<◌, ◌≤◌, ◌⊎◌, inl, inr, Bool, true, false, List, [], Option, Some, None, length, get_or, take, min, is_lt, nat_cmp, ordering_then, refl, sym, ◌∙◌, ap, arith, Ordering, Less, Equal, Greater, bytes_eq, cases_lt, false_from_ne_true, false≢true}
-use Rattle.dv_index.proofs.Vocabulary.{◌==◌, nat_tests, row_before, slice_get, slice_get-get_or, get_or-take, get_or_default, get_or-map, get_or-range_with_len, length-map, length-range_with_len, length-take-le, bytes_eq-Decides, text_cmp-IsAntisymmetric, text_cmp, nat_list_cmp_total, range_with_len, turned, Place, fits_at, IsIndex, last_of}
-use Rattle.dv_index.proofs.Vocabulary.{AllPairs, AllPairs-from_IsDistinct, Decides-eqb, IsDistinct-IsPermutation, IsDistinct-from_AllPairs, parent_at, parents_of}
-use Rattle.dv_index.proofs.LastFound.{last_none, last_found}
-use Rattle.dv_index.proofs.Latest.{same_cmp}
-use Rattle.dv_index.proofs.Order.{in_order, le_from_not_lt, number_there, within}
+use Rattle.dv_index.proofs.Vocabulary.{AllPairs, AllPairs-from_IsDistinct, Bool, Decides-eqb, Equal, Greater, IsDistinct-IsPermutation, IsDistinct-from_AllPairs, IsIndex, Less, List, None, Option, Ordering, Place, Some, [], ap, arith, bytes_eq, bytes_eq-Decides, cases_lt, false}
+use Rattle.dv_index.proofs.Vocabulary.{false_from_ne_true, false≢true, fits_at, get_or, get_or-map, get_or-range_with_len, get_or-take, get_or_default, inl, inr, is_lt, last_of, length, length-map, length-range_with_len, length-take-le, min, nat_cmp, nat_list_cmp_total, nat_tests, ordering_then}
+use Rattle.dv_index.proofs.Vocabulary.{parent_at, parents_of, range_with_len, refl, row_before, slice_get, slice_get-get_or, sym, take, text_cmp, text_cmp-IsAntisymmetric, true, turned, ℕ, ◌+◌, ◌-◌, ◌<◌, ◌==◌, ◌∙◌, ◌≡◌, ◌≤◌, ◌⊎◌}
+use Rattle.dv_index.proofs.{LastFound.last_none, LastFound.last_found, Latest.same_cmp, Order.in_order, Order.le_from_not_lt, Order.number_there, Order.within}
 
 -- ---- each number once
 

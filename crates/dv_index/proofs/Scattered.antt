@@ -1,11 +1,6 @@
 -- Answers that are written to their places in any order.
-use Rattle.dv_index.proofs.Vocabulary.{◌≡◌, ◌⊎◌, ℕ, ◌+◌, ◌<◌, ◌∷◌, ◌++◌, [], List, refl, sym, ◌∙◌, ap, arith, inl, inr, length, map, get_or, set, range_with_len, Contains, Contains-append_cases, Contains-cons_cases, Contains-permutation, Contains-range, IsPermutation}
-use Rattle.dv_index.proofs.Vocabulary.{get_or-map, get_or-range_with_len, length-map, length-range_with_len, numbers_of, take, take_more}
-use Rattle.dv_index.specs.declared.entries.Entry.{Entry}
-use Rattle.std.proofs.lemmas.Bool.{cases_eq}
-use Rattle.std.proofs.lemmas.List.{ext_get_or, get_or-set_other, get_or-set_same, get_or_default, length-set}
-use Rattle.std.proofs.lemmas.List.Sorted.{IsPermutation-sym}
-use Rattle.dv_text.proofs.Members.{Contains-nil}
+use Rattle.dv_index.proofs.Vocabulary.{Contains, Contains-append_cases, Contains-cons_cases, Contains-nil, Contains-permutation, Contains-range, Entry, IsPermutation, IsPermutation-sym, List, [], ap, arith, cases_eq, ext_get_or, get_or, get_or-map, get_or-range_with_len, get_or-set_other}
+use Rattle.dv_index.proofs.Vocabulary.{get_or-set_same, get_or_default, inl, inr, length, length-map, length-range_with_len, length-set, map, numbers_of, range_with_len, refl, set, sym, take, take_more, ℕ, ◌++◌, ◌+◌, ◌<◌, ◌∙◌, ◌∷◌, ◌≡◌, ◌⊎◌}
 
 module _ {X Y A : Type 0} (value : Y → A) (answer : X → A) (xs : List X) where
   -- the answer stands at each of these places

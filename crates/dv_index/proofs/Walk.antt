@@ -1,12 +1,10 @@
 -- The rows that a walk over an index finds are the latest ones of each parent.
-use Rattle.dv_index.proofs.Vocabulary.{◌≡◌, ℕ, zero, suc, ◌+◌, ◌-◌, ◌<◌, ◌≤◌, Bool, true, false, ◌&&◌, List, [], ◌++◌, Option, Some, None, length, get_or, refl, sym, ◌∙◌, ap, subst, arith, reverse, nat_le, Contains, not, slice_get, if◌then◌else◌, Ordering, Less, Equal, Greater, on_total}
-use Rattle.dv_index.proofs.Vocabulary.{nat_list_cmp_total, filter_map, prefix_len, range_with_len, IsPartitionPoint, IsPartitionedBy, IsStrictlySortedBy, option_to_list, bytes_eq, and_from, and_parts, false_from_ne_true, false≢true, not_from_false, not-true, get_or_default, get_or-map}
-use Rattle.dv_index.proofs.Vocabulary.{length-map, filter_map-append, length-range_with_len, get_or-range_with_len, prefix_len-le-length, prefix_len_passes, prefix_len_stops, get_or_from_slice_get, none-some, same_Some, slice_get-get_or, slice_get_within, bytes_eq-Decides}
-use Rattle.dv_index.proofs.Vocabulary.{text_cmp-IsAntisymmetric, text_cmp, sorted_by, turned, found_member, all_members, Contains-range, filter_map_member, member_of_filter_map, IsStrictlySortedBy-filter_map, ascending-sorted_by, member_after_sort, same_ascending, Place, are_in_load_order}
-use Rattle.dv_index.proofs.Vocabulary.{latest_at, latest_of_each, IsIndex, is_last, is_reached, is_reached_if, last_row, loads_of, parent_at, parents_of}
-use Rattle.dv_index.proofs.Latest.{latest_at_start, latest_found, latest_missing}
-use Rattle.dv_index.proofs.Order.{in_order, reached_first, within}
-use Rattle.dv_index.proofs.Ranges.{range_more}
+use Rattle.dv_index.proofs.Vocabulary.{Bool, Contains, Contains-range, Equal, Greater, IsIndex, IsPartitionPoint, IsPartitionedBy, IsStrictlySortedBy, IsStrictlySortedBy-filter_map, Less, List, None, Option, Ordering, Place, Some, [], all_members, and_from, and_parts, ap, are_in_load_order}
+use Rattle.dv_index.proofs.Vocabulary.{arith, ascending-sorted_by, bytes_eq, bytes_eq-Decides, false, false_from_ne_true, false≢true, filter_map, filter_map-append, filter_map_member, found_member, get_or, get_or-map, get_or-range_with_len, get_or_default, get_or_from_slice_get, if◌then◌else◌}
+use Rattle.dv_index.proofs.Vocabulary.{is_last, is_reached, is_reached_if, last_row, latest_at, latest_of_each, length, length-map, length-range_with_len, loads_of, member_after_sort, member_of_filter_map, nat_le, nat_list_cmp_total, none-some, not, not-true, not_from_false, on_total}
+use Rattle.dv_index.proofs.Vocabulary.{option_to_list, parent_at, parents_of, prefix_len, prefix_len-le-length, prefix_len_passes, prefix_len_stops, range_with_len, refl, reverse, same_Some, same_ascending, slice_get, slice_get-get_or, slice_get_within, sorted_by, subst, suc, sym, text_cmp}
+use Rattle.dv_index.proofs.Vocabulary.{text_cmp-IsAntisymmetric, true, turned, zero, ℕ, ◌&&◌, ◌++◌, ◌+◌, ◌-◌, ◌<◌, ◌∙◌, ◌≡◌, ◌≤◌}
+use Rattle.dv_index.proofs.{Latest.latest_at_start, Latest.latest_found, Latest.latest_missing, Order.in_order, Order.reached_first, Order.within, Ranges.range_more}
 
 -- one more place
 pub walk_more : {X : Type 0} (h : ℕ → Option X) (k : ℕ) (o : Option X) → h k ≡ o → filter_map h (range_with_len 0 (k + 1)) ≡ filter_map h (range_with_len 0 k) ++ option_to_list o

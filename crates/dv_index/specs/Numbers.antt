@@ -1,5 +1,5 @@
 -- The rows' numbers in the order of an index.
-use Rattle.std.specs.Prelude.{◌≡◌, ℕ, ◌+◌, ◌-◌, ◌==◌, nat_le, Bool, true, false, not, ◌&&◌, List, [], Option, Some, None, if◌then◌else◌, length, map, slice_get, slice_index, slice_index_or}
+use Rattle.std.specs.Prelude.{◌≡◌, ℕ, ◌+◌, ◌-◌, ◌==◌, nat_le, Bool, true, false, not, ◌&&◌, List, [], Option, Some, None, drop, if◌then◌else◌, length, map, slice_get, slice_index, slice_index_or, take}
 use Rattle.std.specs.List.{All, range_with_len}
 use Rattle.std.specs.Str.{bytes_eq}
 use Rattle.std.specs.List.Sorted.{IsPermutation, IsSorted}
@@ -57,6 +57,11 @@ entry_cmp parents a b = ordering_then (nat_cmp a.prefix b.prefix) (number_cmp pa
 pub record AreEntries (parents : List (List ℕ)) (entries : List Entry) : Type 0 where
   pub index : IsIndex parents (numbers_of entries)
   pub each : All (IsEntry parents) entries
+
+-- two indexes of rows: one of the first, as many as it has entries, and one of those behind them, which it numbers from 0
+pub record AreRuns {X : Type 0} (place : X → Place) (rows : List X) (index recent : List Entry) : Type 0 where
+  pub older : AreEntries (parents_of place (take (length index) rows)) index
+  pub newer : AreEntries (parents_of place (drop (length index) rows)) recent
 
 -- of a parent's order to another and of whether a load date is early enough
 abbrev pub is_reached_by : Ordering → Bool → Bool

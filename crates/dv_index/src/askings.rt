@@ -3,7 +3,7 @@ ghost use Rattle.std.specs.Prelude.{◌≡◌, ◌≤◌, All, IfOk, IsTrue, len
 ghost use Rattle.std.specs.List.{range_with_len};
 ghost use Rattle.std.specs.List.Sorted.{IsPartitionPoint, IsPermutation};
 ghost use Rattle.dv_text.specs.Digests.{IsDigest, digest_prefix};
-ghost use Rattle.dv_index.specs.Numbers.{AreEntries, is_entry_reached, is_reached, loads_of, numbers_of, parents_of};
+ghost use Rattle.dv_index.specs.Numbers.{AreEntries, AreRuns, is_entry_reached, is_reached, loads_of, numbers_of, parents_of};
 ghost use Rattle.dv_index.specs.Places.{are_in_load_order, latest_at};
 
 use crate::entries::Entry;
@@ -117,26 +117,34 @@ fn places_by_prefix(alloc: Global, parents: &[Digest]) -> Result<Vec<Entry>, Mem
 }
 
 // Of each parent its last row that is not later than the date, in their order, where their places are given in any
-// order. Each look-up goes on where the last one ended.
+// order: among the newer rows, and else among the older ones. Each look-up goes on where the last one ended.
 fn answers<'a, R: Placed>(
     alloc: Global,
     rows: &'a [R],
     index: &[Entry],
+    recent: &[Entry],
     parents: &[Digest],
     asked: &[Entry],
     date: Stamp,
 ) -> Result<Vec<Option<&'a R>>, Memory>
-    requires index { AreEntries (parents_of R.place rows.now) index.now }
+    requires runs { AreRuns R.place rows.now index.now recent.now }
     requires order { IsTrue (are_in_load_order R.place rows.now) }
     requires asked { IsPermutation (range_with_len 0 (length parents.now)) (numbers_of asked.now) }
     ensures { IfOk result (λ found. map (option_map (λ row. row.now)) found.items ≡ map (λ parent. latest_at R.place rows.now parent date) parents.now) }
 {
+    let (older, newer) = rows.split_at(index.len());
     let mut found = Vec::from_elem(alloc, None, parents.len())?;
-    let mut count = 0;
+    let (mut older_count, mut newer_count) = (0, 0);
     for entry in asked {
         let parent = &parents[entry.number];
-        count = count_near(rows, index, parent, date, count);
-        found[entry.number] = row_before(rows, index, parent, count);
+        older_count = count_near(older, index, parent, date, older_count);
+        newer_count = count_near(newer, recent, parent, date, newer_count);
+        found[entry.number] = row_before(newer, recent, parent, newer_count).or(row_before(
+            older,
+            index,
+            parent,
+            older_count,
+        ));
     }
     Ok(found)
 }
@@ -147,14 +155,15 @@ pub(crate) fn latest_of<'a, R: Placed>(
     alloc: Global,
     rows: &'a [R],
     index: &[Entry],
+    recent: &[Entry],
     parents: &[Digest],
     date: Stamp,
 ) -> Result<Vec<Option<&'a R>>, Memory>
-    requires index { AreEntries (parents_of R.place rows.now) index.now }
+    requires runs { AreRuns R.place rows.now index.now recent.now }
     requires order { IsTrue (are_in_load_order R.place rows.now) }
     ensures { IfOk result (λ found. map (option_map (λ row. row.now)) found.items ≡ map (λ parent. latest_at R.place rows.now parent date) parents.now) }
 {
     let asked = places_by_prefix(alloc, parents)?;
-    let found = answers(alloc, rows, index, parents, &asked, date)?;
+    let found = answers(alloc, rows, index, recent, parents, &asked, date)?;
     Ok(found)
 }

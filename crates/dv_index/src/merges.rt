@@ -2,7 +2,7 @@
 ghost use Rattle.std.specs.Prelude.{◌≡◌, ◌≤◌, ◌<◌, ◌+◌, [], ◌∷◌, ◌++◌, drop, false, length, not, take, true, vec_capacity};
 ghost use Rattle.std.specs.List.Sorted.{IsPartitionPoint, IsPermutation, IsSorted};
 ghost use Rattle.std.specs.Ordering.{is_lt};
-ghost use Rattle.dv_index.specs.Numbers.{entry_cmp, parents_of, AreEntries};
+ghost use Rattle.dv_index.specs.Numbers.{entry_cmp, parents_of, AreEntries, AreRuns};
 
 use crate::entries::Entry;
 use crate::numbers::{compared, put_entries, sort_entries};
@@ -90,4 +90,30 @@ pub(crate) fn grow<R: Placed>(rows: &[R], index: &mut Vec<Entry>, arrivals: &mut
     sort_entries(rows, arrivals);
     merge(rows, index, arrivals);
     arrivals.clear();
+}
+
+// Brings the indexes of the first rows up to all rows. The entries of the rows behind the older ones stand apart where
+// there is room for them, and else join the others, where there has to be. There is room for them among the arrivals,
+// which are none before and after. Takes no memory.
+pub(crate) fn grow_runs<R: Placed>(
+    rows: &[R],
+    index: &mut Vec<Entry>,
+    recent: &mut Vec<Entry>,
+    arrivals: &mut Vec<Entry>,
+)
+    requires fewer { length index.old.items + length recent.old.items ≤ length rows.now }
+    requires runs { AreRuns R.place (take (length index.old.items + length recent.old.items) rows.now) index.old.items recent.old.items }
+    requires room { length rows.now ≤ vec_capacity index.old }
+    requires none { arrivals.old.items ≡ [] }
+    requires arrivals_room { length rows.now ≤ length index.old.items + vec_capacity arrivals.old }
+    ensures runs { AreRuns R.place rows.now index.new.items recent.new.items }
+    ensures none { arrivals.new.items ≡ [] }
+{
+    let (_, newer) = rows.split_at(index.len());
+    if newer.len() <= recent.capacity() {
+        grow(newer, recent, arrivals);
+    } else {
+        recent.clear();
+        grow(rows, index, arrivals);
+    }
 }

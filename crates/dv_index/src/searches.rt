@@ -2,7 +2,7 @@
 ghost use Rattle.std.specs.Prelude.{◌≡◌, ◌≤◌, IsTrue, length, option_map, true, false};
 ghost use Rattle.std.specs.List.Sorted.{IsPartitionPoint};
 ghost use Rattle.std.specs.Str.{bytes_eq};
-ghost use Rattle.dv_index.specs.Numbers.{AreEntries, IsEntry, loads_of, numbers_of, parents_of};
+ghost use Rattle.dv_index.specs.Numbers.{AreEntries, AreRuns, IsEntry, loads_of, numbers_of, parents_of};
 ghost use Rattle.dv_index.specs.Numbers as spec;
 ghost use Rattle.dv_index.specs.Places.{are_in_load_order, latest_at};
 
@@ -84,8 +84,8 @@ pub(crate) fn row_before<'a, R: Placed>(
     }
 }
 
-// The parent's last row that is not later than the date.
-pub(crate) fn latest<'a, R: Placed>(
+// The parent's last row that is not later than the date, by an index of all rows.
+pub(crate) fn latest_in<'a, R: Placed>(
     rows: &'a [R],
     index: &[Entry],
     parent: &Digest,
@@ -101,4 +101,23 @@ pub(crate) fn latest<'a, R: Placed>(
         parent,
         reached_count(rows, index, parent, date),
     )
+}
+
+// The parent's last row that is not later than the date: among the newer rows, and else among the older ones.
+pub(crate) fn latest<'a, R: Placed>(
+    rows: &'a [R],
+    index: &[Entry],
+    recent: &[Entry],
+    parent: &Digest,
+    date: Stamp,
+) -> Option<&'a R>
+    requires runs { AreRuns R.place rows.now index.now recent.now }
+    requires order { IsTrue (are_in_load_order R.place rows.now) }
+    ensures { option_map (λ row. row.now) result ≡ latest_at R.place rows.now parent.now date }
+{
+    let (older, newer) = rows.split_at(index.len());
+    match latest_in(newer, recent, parent, date) {
+        Some(row) => Some(row),
+        None => latest_in(older, index, parent, date),
+    }
 }

@@ -1,12 +1,13 @@
 // One walk over an index.
 ghost use Rattle.std.specs.Prelude.{◌≡◌, ◌<◌, IfOk, IsTrue, length, map, option_map};
 ghost use Rattle.std.specs.List.{filter_map, range_with_len};
-ghost use Rattle.dv_index.specs.Numbers.{AreEntries, last_row, loads_of, numbers_of, parents_of};
+ghost use Rattle.dv_index.specs.Numbers.{AreEntries, AreRuns, last_row, loads_of, numbers_of, parents_of};
 ghost use Rattle.dv_index.specs.Numbers as spec;
 ghost use Rattle.dv_index.specs.Places.{are_in_load_order};
 ghost use Rattle.dv_index.specs.Places as places;
 
 use crate::entries::Entry;
+use crate::merges::grow;
 use crate::numbers::parent_at;
 use crate::placed::Placed;
 use crate::searches::is_reached;
@@ -51,8 +52,25 @@ fn last_rows<'a, R: Placed>(
     Ok(found)
 }
 
-// The last row of each parent that is not later than the date, by parent.
-pub(crate) fn latest_of_each<'a, R: Placed>(
+// The index of all rows. One walk over both.
+fn whole_index<R: Placed>(
+    alloc: Global,
+    rows: &[R],
+    index: &[Entry],
+    recent: &[Entry],
+) -> Result<Vec<Entry>, Memory>
+    requires { AreRuns R.place rows.now index.now recent.now }
+    ensures { IfOk result (λ whole. AreEntries (parents_of R.place rows.now) whole.items) }
+{
+    let mut whole = Vec::with_capacity(alloc, rows.len())?;
+    let mut arrivals = Vec::with_capacity(alloc, recent.len())?;
+    whole.extend_from_slice(index)?;
+    grow(rows, &mut whole, &mut arrivals);
+    Ok(whole)
+}
+
+// The last row of each parent that is not later than the date, by parent and by an index of all rows.
+fn latest_of_each_in<'a, R: Placed>(
     alloc: Global,
     rows: &'a [R],
     index: &[Entry],
@@ -64,4 +82,23 @@ pub(crate) fn latest_of_each<'a, R: Placed>(
 {
     let found = last_rows(alloc, rows, index, date)?;
     Ok(found)
+}
+
+// The last row of each parent that is not later than the date, by parent.
+pub(crate) fn latest_of_each<'a, R: Placed>(
+    alloc: Global,
+    rows: &'a [R],
+    index: &[Entry],
+    recent: &[Entry],
+    date: Stamp,
+) -> Result<Vec<&'a R>, Memory>
+    requires runs { AreRuns R.place rows.now index.now recent.now }
+    requires order { IsTrue (are_in_load_order R.place rows.now) }
+    ensures { IfOk result (λ found. map (λ row. row.now) found.items ≡ places.latest_of_each R.place rows.now date) }
+{
+    if index.len() == rows.len() {
+        return latest_of_each_in(alloc, rows, index, date);
+    }
+    let whole = whole_index(alloc, rows, index, recent)?;
+    latest_of_each_in(alloc, rows, &whole, date)
 }

@@ -1,6 +1,5 @@
-use Rattle.dv_index.proofs.Vocabulary.{◌+◌, ◌∙◌, sym, arith, is_entry_reached, loads_of, parents_of}
-use Rattle.dv_index.proofs.EntryOrder.{no_entry}
-use Rattle.dv_index.proofs.Reached.{entries_parted, narrowed_down, narrowed_first, narrowed_last, narrowed_up, numbers_point}
+use Rattle.dv_index.proofs.Vocabulary.{arith, is_entry_reached, loads_of, parents_of, sym, ◌+◌, ◌∙◌}
+use Rattle.dv_index.proofs.{EntryOrder.no_entry, Reached.entries_parted, Reached.narrowed_down, Reached.narrowed_first, Reached.narrowed_last, Reached.narrowed_up, Reached.numbers_point}
 use Rattle.dv_index.proofs.askings.count_from.Goals as goal
 
 pub loop-low-init : goal.loop-low-init

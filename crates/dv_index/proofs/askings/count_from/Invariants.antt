@@ -1,4 +1,4 @@
-use Rattle.dv_index.proofs.Vocabulary.{◌-◌, ◌≤◌, is_entry_reached, loads_of, parents_of}
+use Rattle.dv_index.proofs.Vocabulary.{is_entry_reached, loads_of, parents_of, ◌-◌, ◌≤◌}
 use Rattle.dv_index.proofs.Reached.{IsNarrowed}
 use Rattle.dv_index.proofs.askings.count_from.Given as goal
 

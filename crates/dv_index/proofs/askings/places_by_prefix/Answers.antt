@@ -1,5 +1,4 @@
-use Rattle.dv_index.proofs.Vocabulary.{IsPermutation-map}
-use Rattle.dv_index.specs.declared.entries.Entry.{Entry}
+use Rattle.dv_index.proofs.Vocabulary.{Entry, IsPermutation-map}
 use Rattle.dv_index.proofs.askings.places_by_prefix.Goals as goal
 
 pub returns : goal.returns

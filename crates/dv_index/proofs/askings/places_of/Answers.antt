@@ -1,4 +1,4 @@
-use Rattle.dv_index.proofs.Vocabulary.{◌+◌, arith, map_push, refl}
+use Rattle.dv_index.proofs.Vocabulary.{arith, map_push, refl, ◌+◌}
 use Rattle.dv_index.proofs.Ranges.{range_more}
 use Rattle.dv_index.proofs.askings.places_of.Goals as goal
 

@@ -1,4 +1,4 @@
-use Rattle.dv_index.proofs.Vocabulary.{◌≡◌, numbers_of, range_with_len}
+use Rattle.dv_index.proofs.Vocabulary.{numbers_of, range_with_len, ◌≡◌}
 use Rattle.dv_index.proofs.askings.places_of.Given as goal
 
 -- the places so far

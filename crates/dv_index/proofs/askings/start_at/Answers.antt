@@ -1,6 +1,5 @@
-use Rattle.dv_index.proofs.Vocabulary.{◌∙◌, sym, arith}
-use Rattle.dv_index.proofs.EntryOrder.{no_entry}
-use Rattle.dv_index.proofs.Reached.{reached_up_to}
+use Rattle.dv_index.proofs.Vocabulary.{arith, sym, ◌∙◌}
+use Rattle.dv_index.proofs.{EntryOrder.no_entry, Reached.reached_up_to}
 use Rattle.dv_index.proofs.askings.start_at.Goals as goal
 
 pub returns-then-is_entry_reached-clause-reached : goal.returns-then-is_entry_reached-clause-reached

@@ -1,7 +1,5 @@
-use Rattle.dv_index.proofs.Vocabulary.{◌-◌, ◌∙◌, arith, not, parents_of, sym}
-use Rattle.dv_index.proofs.EntryOrder.{entry_lt, entry_order, no_entry}
-use Rattle.dv_index.proofs.Merging.{up_to_first}
-use Rattle.dv_index.proofs.Reached.{narrowed_down, narrowed_first, narrowed_last, narrowed_up}
+use Rattle.dv_index.proofs.Vocabulary.{arith, not, parents_of, sym, ◌-◌, ◌∙◌}
+use Rattle.dv_index.proofs.{EntryOrder.entry_lt, EntryOrder.entry_order, EntryOrder.no_entry, Merging.up_to_first, Reached.narrowed_down, Reached.narrowed_first, Reached.narrowed_last, Reached.narrowed_up}
 use Rattle.dv_index.proofs.merges.count_up_to.Goals as goal
 
 pub loop-low-init : goal.loop-low-init

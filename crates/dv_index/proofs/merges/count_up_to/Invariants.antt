@@ -1,6 +1,5 @@
-use Rattle.dv_index.proofs.Vocabulary.{◌-◌, not, parents_of}
-use Rattle.dv_index.proofs.EntryOrder.{entry_lt}
-use Rattle.dv_index.proofs.Reached.{IsNarrowed}
+use Rattle.dv_index.proofs.Vocabulary.{not, parents_of, ◌-◌}
+use Rattle.dv_index.proofs.{EntryOrder.entry_lt, Reached.IsNarrowed}
 use Rattle.dv_index.proofs.merges.count_up_to.Given as goal
 
 -- all entries before `low` stand up to the entry, and none from `high` on

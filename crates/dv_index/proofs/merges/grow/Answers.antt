@@ -1,4 +1,4 @@
-use Rattle.dv_index.proofs.Vocabulary.{◌≡◌, ◌-◌, arith, length, length-map, length-range_with_len, length_permutation, parents_of}
+use Rattle.dv_index.proofs.Vocabulary.{arith, length, length-map, length-range_with_len, length_permutation, parents_of, ◌-◌, ◌≡◌}
 use Rattle.dv_index.proofs.EntryOrder.{grown, olds_sorted}
 use Rattle.dv_index.proofs.merges.grow.Goals as goal
 

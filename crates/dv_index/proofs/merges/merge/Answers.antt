@@ -1,6 +1,5 @@
-use Rattle.dv_index.proofs.Vocabulary.{◌≡◌, ◌-◌, ◌++◌, arith, ap, drop, get_or, length, refl, take, ◌∙◌, length-take-le, take_at, parents_of}
-use Rattle.dv_index.proofs.Merging.{begins, ends, goes_on}
-use Rattle.dv_index.proofs.EntryOrder.{entry_lt, entry_order, no_entry}
+use Rattle.dv_index.proofs.Vocabulary.{ap, arith, drop, get_or, length, length-take-le, parents_of, refl, take, take_at, ◌++◌, ◌-◌, ◌∙◌, ◌≡◌}
+use Rattle.dv_index.proofs.{Merging.begins, Merging.ends, Merging.goes_on, EntryOrder.entry_lt, EntryOrder.entry_order, EntryOrder.no_entry}
 use Rattle.dv_index.proofs.merges.merge.Goals as goal
 
 pub loop-left-init : goal.loop-left-init

@@ -1,6 +1,5 @@
 use Rattle.dv_index.proofs.Vocabulary.{parents_of}
-use Rattle.dv_index.proofs.EntryOrder.{entry_lt, entry_order}
-use Rattle.dv_index.proofs.Merging.{IsMerging}
+use Rattle.dv_index.proofs.{EntryOrder.entry_lt, EntryOrder.entry_order, Merging.IsMerging}
 use Rattle.dv_index.proofs.merges.merge.Given as goal
 
 -- what was moved so far

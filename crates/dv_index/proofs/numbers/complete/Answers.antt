@@ -1,4 +1,4 @@
-use Rattle.dv_index.proofs.Vocabulary.{◌≡◌, ◌-◌, arith, length, length-map, parents_of}
+use Rattle.dv_index.proofs.Vocabulary.{arith, length, length-map, parents_of, ◌-◌, ◌≡◌}
 use Rattle.dv_index.proofs.EntryOrder.{started}
 use Rattle.dv_index.proofs.numbers.complete.Goals as goal
 

@@ -1,4 +1,4 @@
-use Rattle.dv_index.proofs.Vocabulary.{◌+◌, ◌-◌, length, arith, ap, length-map, map_push, All-push, range_with_len, length-range_with_len, IsEntry, entry_at, parents_of}
+use Rattle.dv_index.proofs.Vocabulary.{All-push, IsEntry, ap, arith, entry_at, length, length-map, length-range_with_len, map_push, parents_of, range_with_len, ◌+◌, ◌-◌}
 use Rattle.dv_index.proofs.Ranges.{range_more}
 use Rattle.dv_index.proofs.numbers.put_entries.Goals as goal
 

@@ -1,4 +1,4 @@
-use Rattle.dv_index.proofs.Vocabulary.{◌≡◌, ◌≤◌, ◌-◌, All, map, vec_capacity, range_with_len, IsEntry, entry_at, parents_of}
+use Rattle.dv_index.proofs.Vocabulary.{All, IsEntry, entry_at, map, parents_of, range_with_len, vec_capacity, ◌-◌, ◌≡◌, ◌≤◌}
 use Rattle.dv_index.proofs.numbers.put_entries.Given as goal
 
 -- the entries so far

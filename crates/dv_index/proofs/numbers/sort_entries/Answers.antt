@@ -1,4 +1,4 @@
-use Rattle.dv_index.proofs.Vocabulary.{rules, always_returns_same, parents_of}
+use Rattle.dv_index.proofs.Vocabulary.{always_returns_same, parents_of, rules}
 use Rattle.dv_index.proofs.EntryOrder.{entry_lt, entry_order}
 use Rattle.dv_index.proofs.numbers.sort_entries.Goals as goal
 

@@ -1,4 +1,4 @@
-use Rattle.dv_index.proofs.Vocabulary.{rules, IsPartitionPoint-from_clause}
+use Rattle.dv_index.proofs.Vocabulary.{IsPartitionPoint-from_clause, rules}
 use Rattle.dv_index.proofs.Reached.{entries_parted, numbers_point, reach_entry}
 use Rattle.dv_index.proofs.searches.reached_count.Goals as goal
 

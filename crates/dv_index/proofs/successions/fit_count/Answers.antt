@@ -1,11 +1,32 @@
-use Rattle.dv_index.proofs.Vocabulary.{arith, fits_at, length-map, numbers_of, parents_of}
-use Rattle.dv_index.proofs.RowsBefore.{least_fit}
+use Rattle.dv_index.proofs.Vocabulary.{arith, length, sym, ◌+◌, ◌<◌, ◌∙◌, ◌≡◌}
+use Rattle.dv_index.proofs.Runs.{fit_parts, older_fits, order_older, runs_within}
 use Rattle.dv_index.proofs.successions.fit_count.Goals as goal
 
+pub split_at-requires : goal.split_at-requires
+split_at-requires g c = runs_within g.R.Placed.place c.args.rows.now c.args.index.now c.args.recent.now c.requires.runs
+
+pub newer_fit_count-count-requires-clause-order : goal.newer_fit_count-count-requires-clause-order
+newer_fit_count-count-requires-clause-order g c = order_older g.R.Placed.place c.split_at.result.1.now c.split_at.result.0.now (rw c.split_at.ensures.by_index.0 at c.requires.order)
+
+pub returns-then-count-older-clause-fit : goal.returns-then-count-older-clause-fit
+returns-then-count-older-clause-fit g c number under =
+    let fits = g.S.Succession.fits c.args.succession.now in
+    let small : number < length c.split_at.result.0.now = omega (arith, c.if-count-older.true) in
+    let from : 0 + number ≡ number = omega arith in
+    rw c.split_at.ensures.by_index.0 (sym (older_fits g.R.Placed.place fits c.split_at.result.0.now c.split_at.result.1.now number small) ∙ rw from at (c.newer_fit_count-count.ensures.fit number under))
+
+pub returns-then-count-older-clause-stops : goal.returns-then-count-older-clause-stops
+returns-then-count-older-clause-stops g c under =
+    let fits = g.S.Succession.fits c.args.succession.now in
+    let count = c.newer_fit_count-count in
+    let from : 0 + count.result ≡ count.result = omega arith in
+    rw c.split_at.ensures.by_index.0 (sym (older_fits g.R.Placed.place fits c.split_at.result.0.now c.split_at.result.1.now count.result c.if-count-older.true) ∙ rw from at (count.ensures.stops c.if-count-older.true))
+
 pub returns-clause-fit : goal.returns-clause-fit
-returns-clause-fit g c =
-    let place = g.R.Placed.place in
-    let rows = c.args.rows.now in
-    let index = c.args.index.now in
-    least_fit (parents_of place rows) (numbers_of index) c.requires.index (fits_at place (g.S.Succession.fits c.args.succession.now) rows) c.loop-place.place c.loop-place.least
-    (rw length-map c.loop-place.invariant) (omega (arith, length-map index (λ entry. entry.number), c.loop-place-test.false))
+returns-clause-fit g c number under =
+    let fits = g.S.Succession.fits c.args.succession.now in
+    let older = c.split_at.result.0.now in
+    let count = c.newer_fit_count-count in
+    let all : count.result ≡ length older = omega (arith, count.ensures.within, c.if-count-older.false) in
+    rw c.split_at.ensures.by_index.0
+    (fit_parts g.R.Placed.place fits older c.split_at.result.1.now c.newer_fit_count.result (λ k small. let from : 0 + k ≡ k = omega arith in rw from at (count.ensures.fit k (omega (arith, small, all)))) c.newer_fit_count.ensures.fit number (omega (arith, all)))

@@ -1,9 +1,6 @@
-use Rattle.dv_index.proofs.Vocabulary.{◌≡◌, ◌∙◌, Some, None, get_or, refl, arith, sym, append-nil, length-map, map_push, slice_get-get_or, last_row, numbers_of, parents_of}
-use Rattle.dv_index.proofs.EntryOrder.{no_entry, number_at}
-use Rattle.dv_index.proofs.Order.{within}
-use Rattle.dv_index.proofs.Walk.{walk_more}
+use Rattle.dv_index.proofs.Vocabulary.{None, Some, append-nil, arith, get_or, last_row, length-map, map_push, numbers_of, parents_of, refl, slice_get-get_or, sym, ◌∙◌, ◌≡◌}
+use Rattle.dv_index.proofs.{EntryOrder.no_entry, EntryOrder.number_at, Order.within, Walk.walk_more, walks.last_rows.Goals.then-is_last+in_ok-push, walks.last_rows.Goals.else-is_last}
 use Rattle.dv_index.proofs.walks.last_rows.Goals as goal
-use Rattle.dv_index.proofs.walks.last_rows.Goals.{then-is_last+in_ok-push, else-is_last}
 
 pub bounds-rows-index : goal.bounds-rows-index
 bounds-rows-index g c =

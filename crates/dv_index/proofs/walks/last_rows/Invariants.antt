@@ -1,4 +1,4 @@
-use Rattle.dv_index.proofs.Vocabulary.{◌≡◌, map, filter_map, range_with_len, last_row, numbers_of}
+use Rattle.dv_index.proofs.Vocabulary.{filter_map, last_row, map, numbers_of, range_with_len, ◌≡◌}
 use Rattle.dv_index.proofs.walks.last_rows.Given as goal
 
 -- those found so far

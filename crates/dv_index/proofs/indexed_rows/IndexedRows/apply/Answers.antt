@@ -1,21 +1,31 @@
-use Rattle.dv_index.proofs.Vocabulary.{◌∙◌, arith}
-use Rattle.dv_index.proofs.EntryOrder.{counted, kept_entries}
+use Rattle.dv_index.proofs.Vocabulary.{ap, arith, length, length-append, sym, take_at, ◌+◌, ◌∙◌}
+use Rattle.dv_index.proofs.Runs.{none_more, runs_length, some_more}
 use Rattle.dv_index.proofs.indexed_rows.IndexedRows.apply.Goals as goal
 
-pub grow-requires-clause-index : goal.grow-requires-clause-index
-grow-requires-clause-index g c =
-    kept_entries g.R.Placed.place c.self.inside.rows.items c.args.rows c.deref.result.now c.self.inside.index.items (c.deref.ensures.value ∙ c.append_within.ensures) c.self.invariant.0
+pub grow_runs-requires-clause-fewer : goal.grow_runs-requires-clause-fewer
+grow_runs-requires-clause-fewer g c =
+    let self = c.self.inside in
+    omega (arith, runs_length g.R.Placed.place self.rows.items self.index.items self.recent.items c.self.invariant.0, ap length (c.deref.ensures.value ∙ c.append_within.ensures), length-append self.rows.items c.args.rows)
 
-pub grow-requires-clause-fewer : goal.grow-requires-clause-fewer
-grow-requires-clause-fewer g c =
-    omega (arith, counted g.R.Placed.place c.self.inside.rows.items c.args.rows c.deref.result.now c.self.inside.index.items (c.deref.ensures.value ∙ c.append_within.ensures) c.self.invariant.0)
+pub grow_runs-requires-clause-runs : goal.grow_runs-requires-clause-runs
+grow_runs-requires-clause-runs g c =
+    let self = c.self.inside in
+    let long = runs_length g.R.Placed.place self.rows.items self.index.items self.recent.items c.self.invariant.0 in
+    rw (c.deref.ensures.value ∙ c.append_within.ensures, take_at self.rows.items c.args.rows (length self.index.items + length self.recent.items) (sym long)) c.self.invariant.0
 
-pub grow-requires-clause-room : goal.grow-requires-clause-room
-grow-requires-clause-room g c =
+pub grow_runs-requires-clause-room : goal.grow_runs-requires-clause-room
+grow_runs-requires-clause-room g c =
+    let self = c.self.inside in
     let room = rw (← c.self.view_is) at c.requires.room in
-    omega (arith, room, counted g.R.Placed.place c.self.inside.rows.items c.args.rows c.deref.result.now c.self.inside.index.items (c.deref.ensures.value ∙ c.append_within.ensures) c.self.invariant.0)
+    let some = some_more c.args.rows (rw c.items.ensures at (sym c.is_empty.ensures ∙ c.if-is_empty.false)) in
+    omega (arith, room, some, ap length (c.deref.ensures.value ∙ c.append_within.ensures), length-append self.rows.items c.args.rows)
 
-pub grow-requires-clause-arrivals_room : goal.grow-requires-clause-arrivals_room
-grow-requires-clause-arrivals_room g c =
+pub grow_runs-requires-clause-arrivals_room : goal.grow_runs-requires-clause-arrivals_room
+grow_runs-requires-clause-arrivals_room g c =
+    let self = c.self.inside in
     let room = rw (← c.self.view_is) at c.requires.room in
-    omega (arith, room, counted g.R.Placed.place c.self.inside.rows.items c.args.rows c.deref.result.now c.self.inside.index.items (c.deref.ensures.value ∙ c.append_within.ensures) c.self.invariant.0)
+    let some = some_more c.args.rows (rw c.items.ensures at (sym c.is_empty.ensures ∙ c.if-is_empty.false)) in
+    omega (arith, room, some, runs_length g.R.Placed.place self.rows.items self.index.items self.recent.items c.self.invariant.0, ap length (c.deref.ensures.value ∙ c.append_within.ensures), length-append self.rows.items c.args.rows)
+
+pub returns-then-is_empty : goal.returns-then-is_empty
+returns-then-is_empty g c = none_more c.args.self.now.rows c.args.rows (rw c.items.ensures at (sym c.is_empty.ensures ∙ c.if-is_empty.true))
