@@ -4,9 +4,9 @@
 Usage: python3 bench/workers/run.py [--program FILE] [--peer FILE] [--size N] [--repeat N] [--keep FOLDER]
 
 FILE, or what the environment's VAULTDESK names, is a built vaultdesk; where none is named, the script vaultdesk builds the
-repository's. `--peer` names another build, such as a release before there were workers, which is given no options. Loads four
-windows of SIZE customers by `try` and by `load`, 200 windows of ten records by `try`, and the generated load of `exercise`,
-REPEAT times in turn. Stops where a text, a line or a table is another one with other workers; prints the best times and the
+repository's. `--peer` names another build, such as the last release, which is given one worker. Loads four windows of SIZE
+customers by `try` and by `load`, 200 windows of ten records by `try`, and the generated load of `exercise`, REPEAT times in
+turn. Stops where a text, a line or a table is another one with other workers; prints the best times and the
 most memory, and how many times those of one worker and of the peer they are.
 """
 import argparse
@@ -40,14 +40,14 @@ SMALL_AIM = 1.0
 
 
 class Build(NamedTuple):
-    """A program and the options that it is given; the number of workers in them, or None where there are none."""
+    """A program, and the number of workers that it is given."""
 
     name: str
     program: pathlib.Path
-    workers: int | None
+    workers: int
 
     def options(self):
-        return ["--workers", str(self.workers)] if self.workers else []
+        return ["--workers", str(self.workers)]
 
 
 class Measured(NamedTuple):
@@ -59,14 +59,13 @@ class Measured(NamedTuple):
 
 
 class Work(NamedTuple):
-    """What is measured: its name, the builds that do it, how one does it in a folder of its own, how many rounds there are, and
-    whether the peer can do it. What is done answers what it took, and what has to be the same for all."""
+    """What is measured: its name, the numbers of workers that do it, how they do it in a folder of their own, and how many
+    rounds there are. What is done answers what it took, and what has to be the same for all."""
 
     name: str
     workers: tuple
     do: Callable
     rounds: int
-    has_peer: bool = True
 
 
 def fresh(folder):
@@ -176,7 +175,7 @@ def show_aims(found):
             continue
         for name, most in AIMS if what in LARGE else (("seconds", SMALL_AIM),):
             one, four = (getattr(by_name[f"workers_{count}"], name) for count in FEW_WORKERS)
-            row([what, name, f"{most:.2f}", f"{four / one:.2f}"])
+            row([what, name, f"{most:.2f}", f"{four / one:.2f}" if one else ""])
 
 
 def works(folder, size, repeat):
@@ -187,7 +186,7 @@ def works(folder, size, repeat):
             extracts.write(data[name], customers, windows)
     return [Work("try", WORKERS, tried(data[str(size)]), repeat), Work("load", WORKERS, loaded(data[str(size)]), repeat),
             Work("ten records", FEW_WORKERS, tried(data["small"]), 5 * repeat),
-            Work("exercise", FEW_WORKERS, exercised, repeat, has_peer=False)]
+            Work("exercise", FEW_WORKERS, exercised, repeat)]
 
 
 def arguments():
@@ -209,8 +208,8 @@ def main():
     found = {}
     for work in works(folder, given.size, given.repeat):
         builds = [Build(f"workers_{count}", program, count) for count in work.workers]
-        if given.peer and work.has_peer:
-            builds.append(Build("peer", given.peer.resolve(), None))
+        if given.peer:
+            builds.append(Build("peer", given.peer.resolve(), 1))
         found[work.name] = measure(work, builds, folder)
         if work.name == "load":
             same, compared = compare_vaults(builds, folder)

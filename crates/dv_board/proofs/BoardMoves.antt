@@ -1,7 +1,6 @@
 -- Each step keeps the rule.
-use Rattle.dv_board.proofs.Vocabulary.{◌≡◌, ◌≢◌, ℕ, ◌+◌, ◌-◌, ◌%◌, ◌^◌, ◌<◌, ◌≤◌, min, List, [], ◌∷◌, ◌++◌, length, set, Bool, true, false, cond, nat_lt, true≢false, false≢true, refl, sym, ap, ◌∙◌, subst, ⊎_elim, arith, slice_index, ◌||◌, some, some-ne-none, some-injective, get_elem?}
-use Rattle.dv_board.proofs.Vocabulary.{mod-eq_of_lt}
-use Rattle.dv_board.proofs.Vocabulary.{cases_Bool, or_cases, State, Me, Allows, Splits, Joins, keeps, at_set, total, times, once_below, Sizes, BoardView, nobody, noted, drawn, less, portion, both_of}
+use Rattle.dv_board.proofs.Vocabulary.{Allows, BoardView, Bool, Joins, List, Me, Sizes, Splits, State, [], ap, arith, at_set, both_of, cases_Bool, cond, drawn, false, false≢true, get_elem?, keeps, length, less, min, mod-eq_of_lt, nat_lt, nobody, noted, once_below, or_cases, portion, refl, set}
+use Rattle.dv_board.proofs.Vocabulary.{slice_index, some, some-injective, some-ne-none, subst, sym, times, total, true, true≢false, ℕ, ⊎_elim, ◌%◌, ◌++◌, ◌+◌, ◌-◌, ◌<◌, ◌^◌, ◌||◌, ◌∙◌, ◌∷◌, ◌≡◌, ◌≢◌, ◌≤◌}
 use Rattle.dv_board.proofs.Sums.{total_set, total_snoc, all_set, all_snoc, total_at, times-append, sole}
 use Rattle.dv_board.specs.BoardRule.{Fits, Holds}
 

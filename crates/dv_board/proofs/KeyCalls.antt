@@ -1,10 +1,9 @@
 -- What the steps of a key table ask: an exchange and a `fetch_min` of an offer, a split and a join.
-use Rattle.dv_board.proofs.Vocabulary.{◌≡◌, ◌≢◌, ◌⊎◌, ℕ, zero, suc, ◌+◌, ◌-◌, ◌*◌, ◌<◌, ◌≤◌, min, List, [], ◌∷◌, ◌++◌, length, replicate, set, get_or, Bool, true, false, cond, true≢false, false≢true, refl, sym, ap, ◌∙◌, subst, ⊎_elim, inl, inr, arith, eqb, ne_eqb, eq-eqb, some, some-injective}
-use Rattle.dv_board.proofs.Vocabulary.{get_elem?, either, set-get_or, cases_Bool, cases_eq, cases_lt, State, Me, Allows, Splits, Joins, keeps, at_set, at_longer, set_here, set_else, times, class_of, home_of, AreLawful, Keys, KeyView, word_at, AreOthers, IsOffered, HasSlot, Fits, IsUnderWay}
-use Rattle.dv_board.proofs.Vocabulary.{exchanged, Holds, IsKept, fresh_view, offered, begun, met_by, Tells}
-use Rattle.dv_board.proofs.Sums.{total_set, total_snoc, all_set, all_snoc, at_only, times-append}
-use Rattle.dv_board.proofs.KeyMoves.{in_range, offered_set, Stands, stands, views_change, wins, lowers, begins, SameBut}
-use Rattle.dv_board.proofs.KeyRoom.{room_left}
+use Rattle.dv_board.proofs.Vocabulary.{Allows, AreLawful, AreOthers, Bool, Fits, HasSlot, Holds, IsKept, IsOffered, IsUnderWay, Joins, KeyView, Keys, List, Me, Splits, State, Tells, [], ap, arith, at_longer, at_set, begun, cases_Bool, cases_eq, cases_lt, class_of, cond, either, eq-eqb, eqb}
+use Rattle.dv_board.proofs.Vocabulary.{exchanged, false, false≢true, fresh_view, get_elem?, get_or, home_of, inl, inr, keeps, length, met_by, min, ne_eqb, offered, refl, replicate, set, set-get_or, set_else, set_here, some, some-injective, subst, suc, sym, times, true, true≢false, word_at, zero}
+use Rattle.dv_board.proofs.Vocabulary.{ℕ, ⊎_elim, ◌*◌, ◌++◌, ◌+◌, ◌-◌, ◌<◌, ◌∙◌, ◌∷◌, ◌≡◌, ◌≢◌, ◌≤◌, ◌⊎◌}
+use Rattle.dv_board.proofs.{Sums.total_set, Sums.total_snoc, Sums.all_set, Sums.all_snoc, Sums.at_only, Sums.times-append, KeyMoves.in_range, KeyMoves.offered_set, KeyMoves.Stands, KeyMoves.stands, KeyMoves.views_change, KeyMoves.wins, KeyMoves.lowers, KeyMoves.begins, KeyMoves.SameBut}
+use Rattle.dv_board.proofs.{KeyRoom.room_left}
 use Rattle.dv_board.specs.KeyRule.{nobody, less, portion, both_of}
 
 set_set : (views : List KeyView) (i : ℕ) (a b : KeyView) → set (set views i a) i b ≡ set views i b
@@ -35,7 +34,7 @@ met_other : (b : KeyView) (n : ℕ) → n ≢ 0 → get_or b.classes (n - 1) 0 �
 met_other b n full apart = rw (ne_eqb n 0 full, ne_eqb (get_or b.classes (n - 1) 0) (get_or b.classes b.item 0) apart) refl
 
 pub meets : (k : Keys) → AreLawful k → (slots id : ℕ) (v : KeyView) (carried : List (ℕ × ℕ)) (p a : ℕ) → v.is_spent ≡ false → a < length k.classes → (begun v a).item ≡ a → (begun v a).has_met ≡ false
-    → p ≡ home_of k a + (begun v a).passed → p < 2 * length k.classes + 1
+    → p ≡ home_of k a + (begun v a).passed → p < 3 * length k.classes + 1
     → Allows (Holds k) slots id (v, carried) p (λ n. either (eqb n 0) (a + 1) n) (Tells v a carried)
 meets k law slots id v carried p a live below item fresh is room s h len at _ =
     let b = begun v a in
@@ -74,14 +73,14 @@ meets k law slots id v carried p a live below item fresh is room s h len at _ =
 
 -- the same, at the word that the code stores
 pub meets_as : (k : Keys) → AreLawful k → (slots id : ℕ) (me : Me ℕ KeyView) (p a x : ℕ) → x ≡ a → me.0.is_spent ≡ false → a < length k.classes → (begun me.0 a).item ≡ a → (begun me.0 a).has_met ≡ false
-    → p ≡ home_of k a + (begun me.0 a).passed → p < 2 * length k.classes + 1
+    → p ≡ home_of k a + (begun me.0 a).passed → p < 3 * length k.classes + 1
     → Allows (Holds k) slots id me p (λ n. either (eqb n 0) (x + 1) n) (Tells me.0 (x + 1 - 1) me.1)
 meets_as k law slots id me p a x same live below item fresh is room =
     let e : a ≡ x + 1 - 1 = omega (arith, same) in
     subst (λ (z : ℕ × ℕ). Allows (Holds k) slots id me p (λ n. either (eqb n 0) (z.0 + 1) n) (Tells me.0 z.1 me.1)) (λ i. (sym same i, e i)) (meets k law slots id me.0 me.1 p a live below item fresh is room)
 
 -- a lesser item is put into the word that was met
-pub lowers_as : (k : Keys) → AreLawful k → (slots id : ℕ) (me : Me ℕ KeyView) (p x : ℕ) → x ≡ me.0.item → me.0.is_spent ≡ false → me.0.is_probing ≡ true → me.0.has_met ≡ true → p ≡ home_of k me.0.item + me.0.passed → p < 2 * length k.classes + 1
+pub lowers_as : (k : Keys) → AreLawful k → (slots id : ℕ) (me : Me ℕ KeyView) (p x : ℕ) → x ≡ me.0.item → me.0.is_spent ≡ false → me.0.is_probing ≡ true → me.0.has_met ≡ true → p ≡ home_of k me.0.item + me.0.passed → p < 3 * length k.classes + 1
     → Allows (Holds k) slots id me p (λ n. min n (x + 1)) (λ n after. after ≡ (offered me.0, me.1))
 lowers_as k law slots id me p x same live on met is room s h len at _ =
     let n = word_at s.words p in

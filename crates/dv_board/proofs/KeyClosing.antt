@@ -1,31 +1,28 @@
 -- A key table at its beginning and at its end.
-use Rattle.dv_board.proofs.Vocabulary.{◌≡◌, ◌≢◌, ℕ, ◌+◌, ◌-◌, ◌*◌, ◌<◌, ◌≤◌, Bool, false≢true, List, [], ◌∷◌, length, set, replicate, refl, sym, ap, ◌∙◌, subst, ⊎_elim, inr, arith, Option, some, get_elem?, cases_Bool, cases_eq, cases_lt, get_or_past}
-use Rattle.dv_board.proofs.Vocabulary.{length-replicate, set-get_or, State, Me, Allows, keeps, times, class_of, AreLawful, IsLeastOffered, AreLeastOffered, AreMarked, marked, Keys, KeyView, word_at, IsOffered, Fits, Holds, IsKept, fresh_view, first_view, whole_share}
-use Rattle.dv_board.proofs.Sums.{total_at, sole, at_only}
-use Rattle.dv_board.proofs.KeyMoves.{Stands}
-use Rattle.dv_board.proofs.KeyRoom.{slots_apart}
-use Rattle.dv_board.proofs.Listed.{all_default, marked_ascends, is_marked, marked_has}
+use Rattle.dv_board.proofs.Vocabulary.{Allows, AreLawful, AreLeastOffered, AreMarked, Bool, Fits, Holds, IsKept, IsLeastOffered, IsOffered, KeyView, Keys, List, Me, Option, State, [], ap, arith, cases_Bool, cases_eq, cases_lt, class_of, false≢true, first_view, fresh_view, get_elem?, get_or_past}
+use Rattle.dv_board.proofs.Vocabulary.{inr, keeps, length, length-replicate, marked, refl, replicate, set, set-get_or, some, subst, sym, times, whole_share, word_at, ℕ, ⊎_elim, ◌*◌, ◌+◌, ◌-◌, ◌<◌, ◌∙◌, ◌∷◌, ◌≡◌, ◌≢◌, ◌≤◌}
+use Rattle.dv_board.proofs.{Sums.total_at, Sums.sole, Sums.at_only, KeyMoves.Stands, KeyRoom.slots_apart, Listed.all_default, Listed.marked_ascends, Listed.is_marked, Listed.marked_has}
 
 -- all slots are empty
-begins_with : (k : Keys) (words : List ℕ) (homes : List (Option ℕ)) → words ≡ replicate (2 * length k.classes + 1) 0 → Holds k record { words = words; homes = homes; views = first_view k ∷ [] }
+begins_with : (k : Keys) (words : List ℕ) (homes : List (Option ℕ)) → words ≡ replicate (3 * length k.classes + 1) 0 → Holds k record { words = words; homes = homes; views = first_view k ∷ [] }
 begins_with k words homes is =
     let v = first_view k in
     let fits : Fits k v = record { spent = λ e. absurd (false≢true e); keys = λ _. (refl, refl); some_share = λ _. omega arith } in
     let all : (j : ℕ) (u : KeyView) → get_elem? (v ∷ []) j ≡ some u → Stands k words u = λ j u e. subst (Stands k words) (at_only v u j e).1 (fits, (λ a none. absurd (omega (arith, none))), (λ on. absurd (false≢true on))) in record {
-      sized = ap length is ∙ length-replicate (2 * length k.classes + 1) 0;
+      sized = ap length is ∙ length-replicate (3 * length k.classes + 1) 0;
       each = λ j u e. (all j u e).0;
-      taken = λ slot full. absurd (full (ap (λ l. word_at l slot) is ∙ all_default 0 (2 * length k.classes + 1) slot));
+      taken = λ slot full. absurd (full (ap (λ l. word_at l slot) is ∙ all_default 0 (3 * length k.classes + 1) slot));
       finished = λ j u e. (all j u e).1;
       probing = λ j u e. (all j u e).2;
       shares = refl;
     }
 
 -- the load that tells the first seat what the items are
-pub begins_table : (size : ℕ) (k : Keys) (slots id : ℕ) (me : Me ℕ KeyView) → me ≡ (fresh_view, []) → size ≡ 2 * length k.classes + 1 → Allows (IsKept size) slots id me 0 (λ n. n) (λ n after. after ≡ (first_view k, me.1))
+pub begins_table : (size : ℕ) (k : Keys) (slots id : ℕ) (me : Me ℕ KeyView) → me ≡ (fresh_view, []) → size ≡ 3 * length k.classes + 1 → Allows (IsKept size) slots id me 0 (λ n. n) (λ n after. after ≡ (first_view k, me.1))
 begins_table size k slots id me is fits s kept len at _ =
     ⊎_elim
     (λ (new : (s.words ≡ replicate size 0) × (s.views ≡ fresh_view ∷ [])).
-    let words : set s.words 0 (word_at s.words 0) ≡ replicate (2 * length k.classes + 1) 0 = set-get_or s.words 0 0 ∙ (new.0 ∙ ap (λ n. replicate n 0) fits) in
+    let words : set s.words 0 (word_at s.words 0) ≡ replicate (3 * length k.classes + 1) 0 = set-get_or s.words 0 0 ∙ (new.0 ∙ ap (λ n. replicate n 0) fits) in
     let only = at_only fresh_view me.0 id (subst (λ l. get_elem? l id ≡ some me.0) new.1 at) in
     let views : set s.views id (first_view k) ≡ first_view k ∷ [] = λ i. set (new.1 i) (only.0 i) (first_view k) in
     (first_view k, keeps, tt, inr (k, subst (λ l. Holds k record { words = set s.words 0 (word_at s.words 0); homes = s.homes; views = l }) (sym views) (begins_with k (set s.words 0 (word_at s.words 0)) s.homes words)), refl))

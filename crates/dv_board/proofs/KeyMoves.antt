@@ -1,6 +1,6 @@
 -- The two steps of an offer keep the rule: it takes an empty slot, or lowers the slot that it met.
-use Rattle.dv_board.proofs.Vocabulary.{◌≡◌, ◌≢◌, ◌⊎◌, ℕ, zero, suc, ◌+◌, ◌-◌, ◌%◌, ◌<◌, ◌≤◌, List, [], ◌∷◌, length, length-set, set, true, false, false≢true, refl, sym, ap, ◌∙◌, subst, ⊎_elim, arith, some, some-ne-none, some-injective, get_elem?, get_or-set_same, get_or-set_other, cases_eq}
-use Rattle.dv_board.proofs.Vocabulary.{cases_lt, State, set_here, set_else, total, times, class_of, home_of, AreLawful, Keys, KeyView, word_at, AreOthers, IsOffered, HasSlot, Fits, IsTaken, IsUnderWay, Holds, offered}
+use Rattle.dv_board.proofs.Vocabulary.{AreLawful, AreOthers, Fits, HasSlot, Holds, IsOffered, IsTaken, IsUnderWay, KeyView, Keys, List, State, [], ap, arith, cases_eq, cases_lt, class_of, false, false≢true, get_elem?, get_or-set_other, get_or-set_same, home_of, length, length-set, offered, refl}
+use Rattle.dv_board.proofs.Vocabulary.{set, set_else, set_here, some, some-injective, some-ne-none, subst, suc, sym, times, total, true, word_at, zero, ℕ, ⊎_elim, ◌%◌, ◌*◌, ◌+◌, ◌-◌, ◌<◌, ◌∙◌, ◌∷◌, ◌≡◌, ◌≢◌, ◌≤◌, ◌⊎◌}
 use Rattle.dv_board.proofs.Sums.{total_set, all_set, times-append, times_last}
 
 pub times_miss : (x y : ℕ) → 1 ≤ times x (y ∷ []) → y ≡ x
@@ -12,7 +12,7 @@ in_range (x ∷ xs) zero v e = omega arith
 in_range (x ∷ xs) (suc id) v e = let t = in_range xs id v e in omega (arith, t)
 
 pub one_home : (k : Keys) → AreLawful k → (a b : ℕ) → a < length k.classes → b < length k.classes → class_of k a ≡ class_of k b → home_of k a ≡ home_of k b
-one_home k law a b below_a below_b same = ap (λ n. n % (length k.classes + 1)) (law.one_home a b below_a below_b same)
+one_home k law a b below_a below_b same = ap (λ n. n % (2 * length k.classes + 1)) (law.one_home a b below_a below_b same)
 
 pub class_below : (k : Keys) → AreLawful k → (a : ℕ) → a < length k.classes → class_of k a < length k.classes
 class_below k law a below = let t = law.least a below in omega (arith, t, below)

@@ -1,5 +1,5 @@
 -- What an exchange and a `fetch_min` leave of the seat that offers.
-use Rattle.dv_board.proofs.Vocabulary.{◌≡◌, ◌≢◌, ℕ, ◌-◌, List, get_or, true, false, refl, ap, ◌∙◌, eqb-true, ◌==◌, KeyView, begun, met_by}
+use Rattle.dv_board.proofs.Vocabulary.{KeyView, List, ap, begun, eqb-true, false, get_or, met_by, refl, true, ℕ, ◌-◌, ◌==◌, ◌∙◌, ◌≡◌, ◌≢◌}
 use Rattle.dv_board.proofs.KeyCalls.{begun_same, begun_on, met_same}
 
 -- the exchange met an item that is the same

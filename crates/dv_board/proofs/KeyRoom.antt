@@ -1,7 +1,6 @@
 -- A probe has passed fewer slots than there are items, since the slots that it passed are of different classes.
-use Rattle.dv_board.proofs.Vocabulary.{◌≡◌, ◌≢◌, ℕ, zero, suc, ◌+◌, ◌-◌, ◌<◌, ◌≤◌, List, [], ◌∷◌, length, true, false, false≢true, refl, sym, subst, ⊎_elim, arith, eqb, ne_eqb, cases_eq, list_any, IsDistinct, AllByRecursion, ◌||◌, length-le_from_distinct_below, State, class_of, home_of}
-use Rattle.dv_board.proofs.Vocabulary.{AreLawful, Keys}
-use Rattle.dv_board.proofs.Vocabulary.{KeyView, word_at, AreOthers, Holds}
+use Rattle.dv_board.proofs.Vocabulary.{AllByRecursion, AreLawful, AreOthers, Holds, IsDistinct, KeyView, Keys, List, State, [], arith, cases_eq, class_of, eqb, false, false≢true, home_of, length, length-le_from_distinct_below, list_any, ne_eqb, refl, subst, suc, sym, true, word_at, zero, ℕ}
+use Rattle.dv_board.proofs.Vocabulary.{⊎_elim, ◌+◌, ◌-◌, ◌<◌, ◌||◌, ◌∷◌, ◌≡◌, ◌≢◌, ◌≤◌}
 use Rattle.dv_board.proofs.KeyMoves.{one_home, class_below}
 
 -- the classes of m slots from one on

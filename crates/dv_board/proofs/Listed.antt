@@ -1,7 +1,7 @@
 -- Marks of numbers, and the list of the marked ones.
-use Rattle.dv_board.proofs.Vocabulary.{◌≡◌, ◌≢◌, ℕ, zero, suc, ◌+◌, ◌-◌, ◌<◌, ◌≤◌, Bool, true, false, cond, List, [], ◌∷◌, ◌++◌, length, get_or, set, take, replicate, filter, Contains, refl, sym, ap, ◌∙◌, subst, ⊎_elim, arith, some, some-ne-none, some-injective}
-use Rattle.dv_board.proofs.Vocabulary.{get_elem?, Less, range_with_len, IsStrictlySortedBy, nat_cmp, nat_cmp_is, nat_cmp_total, cases_eq, cases_lt, get_or-set_same, get_or-set_other, take_more_set, filter-append, IsStrictlySortedBy-filter, word_at, AreMarked, marked}
-use Rattle.dv_board.proofs.Vocabulary.{append-nil, sorted_from_all_adjacent, length-range_with_len, get_or-range_with_len, All-contains, filter_passes, Contains-append_left, Contains-append_right}
+use Rattle.dv_board.proofs.Vocabulary.{All-contains, AreMarked, Bool, Contains, Contains-append_left, Contains-append_right, IsStrictlySortedBy, IsStrictlySortedBy-filter, Less, List, [], ap, append-nil, arith, cases_eq, cases_lt, cond, false, filter, filter-append, filter_passes, get_elem?}
+use Rattle.dv_board.proofs.Vocabulary.{get_or, get_or-range_with_len, get_or-set_other, get_or-set_same, length, length-range_with_len, marked, nat_cmp, nat_cmp_is, nat_cmp_total, range_with_len, refl, replicate, set, some, some-injective, some-ne-none, sorted_from_all_adjacent, subst, suc, sym}
+use Rattle.dv_board.proofs.Vocabulary.{take, take_more_set, true, word_at, zero, ℕ, ⊎_elim, ◌++◌, ◌+◌, ◌-◌, ◌<◌, ◌∙◌, ◌∷◌, ◌≡◌, ◌≢◌, ◌≤◌}
 
 -- a default is read everywhere of a list of defaults
 pub all_default : {X : Type 0} (x : X) (n i : ℕ) → get_or (replicate n x) i x ≡ x

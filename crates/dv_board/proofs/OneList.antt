@@ -1,5 +1,5 @@
 -- Two ascending lists with the same numbers are one list.
-use Rattle.dv_board.proofs.Vocabulary.{◌≡◌, ◌⊎◌, ℕ, zero, suc, ◌<◌, List, [], ◌∷◌, Contains, Contains-append_right, refl, sym, subst, ⊎_elim, inl, inr, arith, Less, AllByRecursion, IsStrictlySortedBy, nat_cmp, AreLeastOffered, HasEach, LeastIsOneList, Keys}
+use Rattle.dv_board.proofs.Vocabulary.{AllByRecursion, AreLeastOffered, Contains, Contains-append_right, HasEach, IsStrictlySortedBy, Keys, LeastIsOneList, Less, List, [], arith, inl, inr, nat_cmp, refl, subst, suc, sym, zero, ℕ, ⊎_elim, ◌<◌, ◌∷◌, ◌≡◌, ◌⊎◌}
 
 less_below : (x y : ℕ) → nat_cmp x y ≡ Less → x < y
 less_below x y e = grind (arith, e)

@@ -1,5 +1,5 @@
 -- Sums over the views of seats, and counts of a number in a list.
-use Rattle.dv_board.proofs.Vocabulary.{◌≡◌, ◌≢◌, ℕ, zero, suc, ◌+◌, ◌≤◌, List, [], ◌∷◌, ◌++◌, set, refl, sym, ap, subst, ⊎_elim, at_set, at_snoc, arith, some, some-ne-none, some-injective, get_elem?, total, times}
+use Rattle.dv_board.proofs.Vocabulary.{List, [], ap, arith, at_set, at_snoc, get_elem?, refl, set, some, some-injective, some-ne-none, subst, suc, sym, times, total, zero, ℕ, ⊎_elim, ◌++◌, ◌+◌, ◌∷◌, ◌≡◌, ◌≢◌, ◌≤◌}
 
 module _ {V : Type 0} where
   pub total_set : (f : V → ℕ) (views : List V) (i : ℕ) (v w : V) → get_elem? views i ≡ some v → total f (set views i w) + f v ≡ total f views + f w

@@ -1,5 +1,5 @@
 -- The items of a key table, of which some are the same.
-use Rattle.std.specs.Prelude.{◌≡◌, ℕ, ◌+◌, ◌%◌, ◌<◌, ◌≤◌, slice_index_or, length}
+use Rattle.std.specs.Prelude.{◌≡◌, ℕ, ◌+◌, ◌*◌, ◌%◌, ◌<◌, ◌≤◌, slice_index_or, length}
 use Rattle.dv_board.specs.declared.views.Keys.{Keys}
 
 -- the class of an item: the least item that is the same
@@ -8,7 +8,7 @@ class_of k a = slice_index_or k.classes a 0
 
 -- the slot at which a probe for the item begins
 abbrev pub home_of : Keys → ℕ → ℕ
-home_of k a = slice_index_or k.homes a 0 % (length k.classes + 1)
+home_of k a = slice_index_or k.homes a 0 % (2 * length k.classes + 1)
 
 -- Two items are the same where they have one class, which is then the least item that is the same as they are; and items that are the same have one home.
 pub record AreLawful (k : Keys) : Type 0 where

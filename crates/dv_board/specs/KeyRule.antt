@@ -67,8 +67,8 @@ pub record IsUnderWay (k : Keys) (words : List ℕ) (v : KeyView) : Type 0 where
   pub met : v.has_met ≡ true → (word_at words (home_of k v.item + v.passed) ≢ 0) × (class_of k (word_at words (home_of k v.item + v.passed) - 1) ≡ class_of k v.item)
 
 pub record Holds (k : Keys) (s : State ℕ KeyView) : Type 0 where
-  -- There are 2 * count + 1 slots, and no step adds or takes one.
-  pub sized : length s.words ≡ 2 * length k.classes + 1
+  -- There are 3 * count + 1 slots, and no step adds or takes one.
+  pub sized : length s.words ≡ 3 * length k.classes + 1
   pub each : (id : ℕ) (v : KeyView) → get_elem? s.views id ≡ some v → Fits k v
   pub taken : (slot : ℕ) → word_at s.words slot ≢ 0 → IsTaken k s slot (word_at s.words slot - 1)
   -- Each finished offer has a slot whose item is the same and not greater, since the step that finishes an offer puts its item into a slot or lowers a slot of its class to it, and no step raises an item.

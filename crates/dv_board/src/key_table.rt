@@ -36,7 +36,7 @@ impl<I: KeyItems> Model for KeyTable<I> {
 
     ghost view = { λ t. record { table = t.table.shared.table_id; items = t.items } };
 
-    ghost invariant = { λ t. (t.table.shared.table_id.words ≡ 2 * length (I.keys t.items).classes + 1) × (t.table.shared.table_id.slots ≡ 0) × (length (I.keys t.items).classes ≤ 2000000) × (t.is_kept.items ≡ replicate (length (I.keys t.items).classes) false) × (length t.kept.items ≡ length (I.keys t.items).classes) };
+    ghost invariant = { λ t. (t.table.shared.table_id.words ≡ 3 * length (I.keys t.items).classes + 1) × (t.table.shared.table_id.slots ≡ 0) × (length (I.keys t.items).classes ≤ 2000000) × (t.is_kept.items ≡ replicate (length (I.keys t.items).classes) false) × (length t.kept.items ≡ length (I.keys t.items).classes) };
 }
 
 /// A worker's right to offer items to a table. Contracts see its table, what the items are, the items that it has
@@ -69,7 +69,7 @@ impl<I: KeyItems> KeyTable<I> {
         let count = items.count() as usize;
         let is_kept = vec![in alloc; false; count]?;
         let kept = vec![in alloc; 0u32; count]?;
-        let slots = 2 * count + 1;
+        let slots = 3 * count + 1;
         let empty = vec![in alloc; 0u64; slots]?;
         let (table, mut seat) = Table::of_words(alloc, &empty, &slots)?;
         begin::<Brand, I>(&table, &mut seat, &items);
@@ -89,7 +89,7 @@ impl<I: KeyItems> KeyTable<I> {
         ensures { seat.new ≡ record seat.old { offers = seat.old.offers ++ item ∷ [] } }
     {
         let count = self.items.count();
-        let home = self.items.home(item) % (u64::from(count) + 1);
+        let home = self.items.home(item) % (2 * u64::from(count) + 1);
         'probe: for passed in 0..count {
             let slot = (home + u64::from(passed)) as usize;
             if self.try_slot(&mut seat.seat, slot, item) {
@@ -195,7 +195,7 @@ fn begin<A: About, I: KeyItems>(
 )
     requires mine { seat.old.table_id ≡ table.now.shared.table_id }
     requires fresh { seat.old.me ≡ (fresh_view, []) }
-    requires size { (table.now.shared.key ≡ 2 * length A.keys.classes + 1) × (table.now.shared.table_id.words ≡ table.now.shared.key) }
+    requires size { (table.now.shared.key ≡ 3 * length A.keys.classes + 1) × (table.now.shared.table_id.words ≡ table.now.shared.key) }
     requires picked { A.keys ≡ I.keys items.now }
     ensures mine { seat.new.table_id ≡ seat.old.table_id }
     ensures told { seat.new.me ≡ (first_view (I.keys items.now), []) }

@@ -1,9 +1,6 @@
 -- The numbers of what was done, one taken out, and the tasks for which they stand.
-use Rattle.dv_crew.proofs.Vocabulary.{◌≡◌, ◌==◌, ◌∙◌, ◌+◌, ◌<◌, ◌∷◌, ◌++◌, [], ℕ, zero, suc, Bool, List, Some, None, Contains, refl, ap, arith, cond, drop, eqb-true, false, get_or, length, nat_eq, none_placed, position, position-Some, take}
-use Rattle.dv_crew.proofs.Vocabulary.{counterpart, numbers, once_below, times}
-use Rattle.dv_crew.specs.declared.crews.Done.{Done}
-use Rattle.dv_crew.specs.declared.orders.Order.{Order}
-use Rattle.dv_crew.specs.declared.orders.Order.TheVariants.{Declared, Reverse}
+use Rattle.dv_crew.proofs.Vocabulary.{Bool, Contains, Declared, Done, List, None, Order, Reverse, Some, [], ap, arith, cond, counterpart, drop, eqb-true, false, get_or, length, nat_eq, none_placed, numbers, once_below, position, position-Some, refl, suc, take, times, zero, ℕ, ◌++◌, ◌+◌, ◌<◌}
+use Rattle.dv_crew.proofs.Vocabulary.{◌==◌, ◌∙◌, ◌∷◌, ◌≡◌}
 
 module _ {T : Type 0} where
   pub times_cut : (x : ℕ) (done : List (Done T)) (place : ℕ) (one : Done T) → place < length done → one ≡ get_or done place one

@@ -1,5 +1,5 @@
 -- Results, one more at a time.
-use Rattle.dv_crew.proofs.Vocabulary.{◌≡◌, ◌∙◌, ◌+◌, ◌<◌, ◌≤◌, ◌∷◌, ◌++◌, [], ℕ, List, AreResults, ap, arith, cases_lt, get_or, get_or-append_seam, get_or_append_left, get_or_from_slice_get, length, length-append, slice_get-get_or, slice_get_within, subst, sym, ⊎_elim}
+use Rattle.dv_crew.proofs.Vocabulary.{AreResults, List, [], ap, arith, cases_lt, get_or, get_or-append_seam, get_or_append_left, get_or_from_slice_get, length, length-append, slice_get-get_or, slice_get_within, subst, sym, ℕ, ⊎_elim, ◌++◌, ◌+◌, ◌<◌, ◌∙◌, ◌∷◌, ◌≡◌, ◌≤◌}
 
 module _ {T : Type 0} (gives : ℕ → T → Type 0) where
   pub one_more : (tasks : ℕ) (results : List T) (out : T) → AreResults gives tasks results → gives tasks out → AreResults gives (tasks + 1) (results ++ out ∷ [])

@@ -2,11 +2,13 @@
 //! comes of it is the same whatever the workers and the order were.
 #![tactic(auto)]
 
+mod carried;
 mod crews;
 mod orders;
 mod results;
 
-pub use crews::run_tasks;
+pub use carried::Carrier;
+pub use crews::{run_tasks, run_tasks_with};
 pub use orders::Order;
 
 #[cfg(test)]

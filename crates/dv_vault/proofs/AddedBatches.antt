@@ -1,25 +1,12 @@
 -- What a window adds to each table of a vault, told from the rows alone, is its batch after the sealed windows.
-use Rattle.dv_vault.proofs.Vocabulary.{ltb-true, map-map, map_filter, filter_map_same, Contains, slice_get, List, None, Option, Some, [], ap, arith, inl, inr, length, map, refl, reverse, subst, sym, true, ℕ, ◌++◌, ◌+◌, ◌∙◌, ◌∷◌}
-use Rattle.dv_vault.proofs.Vocabulary.{◌≡◌, and_from, list_all, range_with_len, cons_option, delta, Contains-map, map_member, Contains-range, Hashes, all_refs, extract_of, AreNewestFirst, Extract, history, lists_of, appended}
-use Rattle.dv_vault.proofs.Vocabulary.{ascends, is_window, are_windows_valid, last_load, source, table_entry, vault, feed_batch, table_batch, batch_at, table_of, valid_feed, Mapping, feed_tables, tables, is_declared, is_valid, map-append}
-use Rattle.dv_vault.proofs.Vocabulary.{status_delta, sat_delta, IsPlain, FeedDef, Parent, Hub, Link, TableId, late_after, Rows, Hubs, Links, Sats, Statuses, NRow, Window, AreApart, all_added, HasSealed, RawVault, added_to}
-use Rattle.dv_vault.proofs.Vocabulary.{All-contains, Contains-append_cases, Contains-append_left, Contains-append_right, IsApart, collision, collision_in, parents, sat_batch, status_batch, next_delta as hub_delta_is, none_collide}
-use Rattle.dv_vault.proofs.Vocabulary.{appended-history, delta_is_batch as sat_delta_is, extract_added}
+use Rattle.dv_vault.proofs.Vocabulary.{All-contains, AreApart, AreNewestFirst, Contains, Contains-append_cases, Contains-append_left, Contains-append_right, Contains-map, Contains-range, Effects, Extract, FeedDef, HasSealed, Hashes, Hub, Hubs, IsApart, IsPlain, IsTold, Link, Links, List, Mapping}
+use Rattle.dv_vault.proofs.Vocabulary.{Multis, NRow, None, Option, Parent, RawVault, Rows, Sats, Some, Statuses, TableId, Window, [], added_to, all_added, all_refs, and_from, ap, appended, appended-history, are_windows_valid, arith, ascends, backwards, batch_at, collision, collision_in}
+use Rattle.dv_vault.proofs.Vocabulary.{cons_option, delta, effect_batch, effect_delta, effect_delta_is, extract_added, extract_of, feed_batch, feed_tables, filter_map_same, history, hub_delta_is, inl, inr, is_declared, is_valid, is_window, last_load, late_after, length, link_delta_is, list_all}
+use Rattle.dv_vault.proofs.Vocabulary.{lists_of, ltb-true, map, map-append, map-map, map_filter, map_member, multi_batch, multi_delta, multi_delta_is, none_collide, parents, range_with_len, refl, reverse, sat_batch, sat_delta, sat_delta_is, slice_get, source, status_batch, status_delta}
+use Rattle.dv_vault.proofs.Vocabulary.{status_delta_is, subst, sym, table_batch, table_entry, table_of, tables, true, valid_feed, vault, ℕ, ◌++◌, ◌+◌, ◌∙◌, ◌∷◌, ◌≡◌}
+use Rattle.dv_vault.proofs.{Afterwards.loads_ascend, FeedLists.feed_lists_apart, FeedLists.feed_newest_first, FeedLists.feed_plain, FeedLists.feed_told, FeedLists.reversed_whole, FeedTables.OfFeed, FeedTables.of_feeds, VaultCollisions.apart_is_free, VaultCollisions.parents_first}
+use Rattle.dv_vault.proofs.{VaultCollisions.sealed_parts, VaultCollisions.sealed_told, VaultCollisions.turned_back, VaultCollisions.unturned}
 use Rattle.dv_catalog.specs.declared.tables.TableId.TheVariants as ids
-use Rattle.dv_hub_link.proofs.LinkWindows.{next_delta as link_delta_is}
-use Rattle.dv_track.proofs.DeltaBatch.{delta_is_batch as status_delta_is}
-use Rattle.dv_track.proofs.EffectBatches.{delta_is_batch as effect_delta_is}
-use Rattle.dv_track.specs.EffectRows.{effect_delta}
-use Rattle.dv_vault.proofs.Afterwards.{loads_ascend}
-use Rattle.dv_sat.proofs.MultiHistories.{next_is_batch as multi_delta_is}
-use Rattle.dv_sat.specs.MultiRows.{multi_delta, IsTold}
-use Rattle.dv_records.specs.Effects.{effect_batch}
-use Rattle.dv_records.specs.Satellites.{multi_batch}
-use Rattle.dv_records.specs.declared.stores.Rows.TheVariants.{Effects, Multis}
-use Rattle.dv_vault.proofs.FeedLists.{feed_lists_apart, feed_newest_first, feed_plain, feed_told, reversed_whole}
-use Rattle.dv_vault.proofs.FeedTables.{OfFeed, of_feeds}
-use Rattle.dv_vault.proofs.VaultCollisions.{apart_is_free, parents_first, sealed_parts, sealed_told, turned_back, unturned}
-use Rattle.dv_records.specs.Backwards.{backwards}
 
 module _ (mapping : Mapping) (hashes : Hashes) (sealed : List Window) (window : Window) (valid : is_valid mapping ≡ true) (windows_valid : are_windows_valid mapping hashes sealed ≡ true) (whole : is_window mapping window ≡ true)
     (late : late_after (last_load sealed) window.load ≡ None) (free : collision mapping hashes (sealed ++ window ∷ []) ≡ None) where

@@ -1,16 +1,10 @@
 -- What a vault is with what a window adds: the vault of the sealed windows and the new one.
-use Rattle.dv_vault.proofs.Vocabulary.{map-map, slice_get-map, List, None, Option, [], ap, arith, length, map, refl, suc, sym, true, ℕ, ◌++◌, ◌+◌, ◌-◌, ◌∙◌, ◌∷◌, ◌≡◌, ◌≤◌, length-map, map-append, option_map, slice_get, sum_by}
-use Rattle.dv_vault.proofs.Vocabulary.{Hashes, Mapping, TableId, are_windows_valid, is_window, head_of, last_load, no_rows, row_count, rows_weight, table_entry, tables_weight, vault_weight, vault, table_batch, tables, Rule, late_after, full_at, Rows, TableRows, Window, WindowHead, AreApart}
-use Rattle.dv_vault.proofs.Vocabulary.{Begun, IsBegunBehind, IsLeftOf, Part, none_like, opened_in, parts_at, rest_in, tables_there, tables_whole, taken_first, whole_in, window_batches}
-use Rattle.dv_vault.proofs.Vocabulary.{raw_with, is_valid, IsAddition, all_added, weight_with, HasSealed, RawVault, entries_with, last_head}
+use Rattle.dv_vault.proofs.Vocabulary.{AreApart, Backwards, Begun, HasSealed, Hashes, IsAddition, IsBegunBehind, IsLeftOf, List, Mapping, None, Option, Part, RawVault, Rows, Rule, TableId, TableRows, Window, WindowHead, [], all_added, ap, are_windows_valid, arith, backwards, entries_with}
+use Rattle.dv_vault.proofs.Vocabulary.{full_at, head_of, is_valid, is_window, last_got, last_head, last_load, late_after, length, length-map, map, map-append, map-map, no_rows, none_like, opened_in, option_map, partial, parts_at, raw_with, refl, rest_in, row_count, rows_weight, slice_get}
+use Rattle.dv_vault.proofs.Vocabulary.{slice_get-map, suc, sum_by, sym, table_batch, table_entry, tables, tables_there, tables_weight, tables_whole, taken_first, true, vault, vault_weight, weight_with, whole_in, window_batches, ℕ, ◌++◌, ◌+◌, ◌-◌, ◌∙◌, ◌∷◌, ◌≡◌, ◌≤◌}
+use Rattle.dv_vault.proofs.{AddedBatches.added_is_batch, Afterwards.loaded_batches, Afterwards.vault_reached, Afterwards.vault_with, Afterwards.weight_with_batches, Afterwards.windows_still_valid, BegunParts.at_long, BegunParts.at_taken, BegunParts.at_there, BegunParts.at_whole}
+use Rattle.dv_vault.proofs.{BegunParts.lacking_opened, BegunParts.lacking_rest, BegunParts.same_parts, VaultCollisions.apart_is_free}
 use Rattle.dv_catalog.specs.declared.tables.TableId.TheVariants as ids
-use Rattle.dv_vault.proofs.AddedBatches.{added_is_batch}
-use Rattle.dv_vault.proofs.Afterwards.{loaded_batches, vault_reached, vault_with, weight_with_batches, windows_still_valid}
-use Rattle.dv_vault.proofs.BegunParts.{at_long, at_taken, at_there, at_whole, lacking_opened, lacking_rest, same_parts}
-use Rattle.dv_vault.proofs.VaultCollisions.{apart_is_free}
-use Rattle.dv_records.specs.Backwards.{Backwards, backwards}
-use Rattle.dv_records.specs.Vault.{partial}
-use Rattle.dv_text.proofs.Members.{last_got}
 
 -- the last load date of windows is that of their heads
 pub last_same : (windows : List Window) → last_load windows ≡ last_head (map head_of windows)
@@ -111,9 +105,6 @@ module _ (hashes : Hashes) (sealed : List Window) (raw : RawVault) (has : HasSea
       (λ i. entries_with (has.tables_are i) (opened_in (are i)))
       ∙ at_there far (vault raw.mapping hashes sealed) own_batches
       ∙ vault_reached raw.mapping hashes sealed window far
-
-  pub there_partly : tables_there raw.tables begun.parts.items ≡ partial raw.mapping hashes sealed window behind.there
-  there_partly = partly begun.parts.items behind.there behind.parts_are
 
   -- after some first tables got what they lacked
   pub taken_parts : (k : ℕ) → k ≤ length begun.parts.items → (far : ℕ) × (far ≤ length (tables raw.mapping)) × (taken_first k begun.parts.items ≡ parts_at far own_batches)

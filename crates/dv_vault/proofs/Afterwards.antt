@@ -1,12 +1,8 @@
 -- A vault with the batches of one more window, and the windows with it.
-use Rattle.dv_vault.proofs.Vocabulary.{Bool, List, None, Some, [], ap, arith, false, length, map, nat_le, refl, sym, true, ℕ, ◌++◌, ◌+◌, ◌∙◌, ◌∷◌, ◌≡◌, nat_lt, and_from, and_parts, list_all, last_or, nat_tests, ◌||◌, if◌then◌else◌, sum_by, Contains-cons_here, Hashes, ascends, is_window}
-use Rattle.dv_vault.proofs.Vocabulary.{are_windows_valid, last_load, length-append, map-append, row_count, rows_then, rows_weight, tables_weight, vault_weight, table_entry, vault, table_after, table_batch, Mapping, tables, Rule, TableId, late_after, full_at, TableRows, Window, entries_with}
-use Rattle.dv_vault.proofs.Vocabulary.{Contains-append_right, is_none, collision, passes_at, all_pass_both, vault-push, weight-push, loaded, fold-map, drop, suc, take, zero}
+use Rattle.dv_vault.proofs.Vocabulary.{Backwards, Bool, Contains-append_right, Contains-cons_here, Hashes, List, Mapping, None, Rows, Rule, Some, TableId, TableRows, Window, [], all_pass_both, and_from, and_parts, ap, are_windows_valid, arith, ascends, backwards, collision, drop, entries_with}
+use Rattle.dv_vault.proofs.Vocabulary.{false, fold-map, full_at, if◌then◌else◌, is_none, is_window, last_load, last_or, late_after, length, length-append, list_all, loaded, map, map-append, nat_le, nat_lt, nat_tests, partial, passes_at, refl, row_count, rows_then, rows_weight, suc, sum_by, sym}
+use Rattle.dv_vault.proofs.Vocabulary.{table_after, table_after-newest, table_batch, table_entry, tables, tables_weight, take, true, vault, vault-push, vault_weight, weight-push, with_newest, zero, ℕ, ◌++◌, ◌+◌, ◌||◌, ◌∙◌, ◌∷◌, ◌≡◌}
 use Rattle.dv_vault.proofs.VaultCollisions.{sealed_parts}
-use Rattle.dv_records.proofs.VaultSteps.{table_after-newest}
-use Rattle.dv_records.specs.Backwards.{Backwards, backwards, with_newest}
-use Rattle.dv_records.specs.Vault.{partial}
-use Rattle.dv_records.specs.declared.stores.Rows.{Rows}
 
 -- ---- the tables
 

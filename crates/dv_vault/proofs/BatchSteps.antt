@@ -1,8 +1,7 @@
 -- Tables and their batches, one table after the other.
-use Rattle.dv_vault.proofs.Vocabulary.{get_or-map, length-map, AllZip-long, ◌≡◌, ℕ, ◌+◌, ◌<◌, ◌≤◌, Bool, true, false, List, [], ◌∷◌, ◌++◌, refl, sym, ◌∙◌, ap, subst, arith, add-one, append-nil, drop, drop-cons, get_or}
-use Rattle.dv_vault.proofs.Vocabulary.{length, map, not, slice_set, suc, take, zero, if◌then◌else◌, AllZip, list_any, and_parts, none_passes, same_answer, not-true, false≢true, table_eq-itself, Contains, Contains-get_or, drop_all, take_all}
-use Rattle.dv_vault.proofs.Vocabulary.{nil_from_length, map-append, append_assoc, drop-set-lt, take_more, take_more_set, TableId, Rows, TableRows, appended_to, are_apart, is_of_kind, no_rows, row_count, rows_in, rows_then, table_eq, Table}
-use Rattle.dv_vault.proofs.Vocabulary.{HaveRoom, Follow, entry_of, spare_of, entries_with, has_table, same_table}
+use Rattle.dv_vault.proofs.Vocabulary.{AllZip, Bool, Contains, Contains-get_or, Follow, List, Rows, Table, TableId, TableRows, [], and_parts, ap, append-nil, append_assoc, appended_to, are_apart, arith, drop, entries_with, entry_of, false, false≢true, get_or, get_or-map, has_table, if◌then◌else◌}
+use Rattle.dv_vault.proofs.Vocabulary.{is_of_kind, length, length-map, list_any, map, map-append, nil_from_length, no_rows, none_passes, not, not-true, refl, row_count, rows_in, rows_then, same_answer, same_table, slice_set, spare_of, subst, suc, sym, table_eq, table_eq-itself, take, take_more}
+use Rattle.dv_vault.proofs.Vocabulary.{take_more_set, true, zero, ℕ, ◌++◌, ◌+◌, ◌<◌, ◌∙◌, ◌∷◌, ◌≡◌, ◌≤◌}
 use Rattle.dv_catalog.specs.declared.tables.TableId.TheVariants as ids
 use Rattle.dv_records.specs.declared.stores.Rows.TheVariants as of
 
@@ -46,11 +45,6 @@ pub record IsUnder (first : List Table) (all : List Rows) (now : List Table) (i 
   pub follow : AllZip Follow (map (λ table. (entry_of table).rows) (drop i now)) left
   pub result : map entry_of (take i now) ++ entries_with (map entry_of (drop i now)) left ≡ entries_with (map entry_of first) all
 
-pub under_start : (tables : List Table) (batches left : List Rows) (count : ℕ) → left ≡ batches → count ≡ length batches → HaveRoom tables batches
-    → AllZip Follow (map (λ table. (entry_of table).rows) tables) batches → IsUnder tables batches tables 0 left count
-under_start tables batches left count is counted room follow =
-    rw is (record { counted = counted; room = room; follow = follow; result = refl })
-
 moved : (before : List Table) (table : Table) (rest : List TableRows) → map entry_of (before ++ table ∷ []) ++ rest ≡ map entry_of before ++ entry_of table ∷ rest
 moved before table rest = ap (λ l. l ++ rest) (map-append entry_of before (table ∷ [])) ∙ append_assoc (map entry_of before) (entry_of table ∷ []) rest
 
@@ -60,50 +54,6 @@ module _ (first : List Table) (all : List Rows) (now : List Table) (i : ℕ) (le
     pub room : row_count rows ≤ spare_of table
     pub follow : Follow (entry_of table).rows rows
     pub next : (table' : Table) → entry_of table' ≡ record { table = (entry_of table).table; rows = rows_then (entry_of table).rows rows } → IsUnder first all (slice_set now i table') (i + 1) left' count'
-
-  pub under_turn : (table : Table) (rows : Rows) (left' : List Rows) (count' : ℕ) → i < length now → get_or now i table ≡ table → left ≡ rows ∷ left' → count' + 1 ≡ count → Turn table rows left' count'
-  under_turn table rows left' count' h at e counted =
-      let split : drop i now ≡ table ∷ drop (i + 1) now = drop-cons now i table h ∙ ap (λ t. t ∷ drop (suc i) now) at ∙ ap (λ n. table ∷ drop n now) (sym (add-one i)) in
-      let room : AllZip (λ table rows. row_count rows ≤ spare_of table) (table ∷ drop (i + 1) now) (rows ∷ left') =
-      subst (λ l. AllZip (λ table rows. row_count rows ≤ spare_of table) (table ∷ drop (i + 1) now) l) e (subst (λ l. AllZip (λ table rows. row_count rows ≤ spare_of table) l left) split is.room) in
-      let follow : AllZip Follow (map (λ table. (entry_of table).rows) (table ∷ drop (i + 1) now)) (rows ∷ left') =
-      subst (λ l. AllZip Follow (map (λ table. (entry_of table).rows) (table ∷ drop (i + 1) now)) l) e (subst (λ l. AllZip Follow (map (λ table. (entry_of table).rows) l) left) split is.follow) in
-      let result : map entry_of (take i now) ++ entries_with (map entry_of (table ∷ drop (i + 1) now)) (rows ∷ left') ≡ entries_with (map entry_of first) all =
-      ap (λ l. map entry_of (take i now) ++ entries_with (map entry_of l) (rows ∷ left')) (sym split) ∙ ap (λ l. map entry_of (take i now) ++ entries_with (map entry_of (drop i now)) l) (sym e) ∙ is.result in
-      record {
-        room = room.0;
-        follow = follow.0;
-        next = λ table' grown.
-            let kept : drop (i + 1) (slice_set now i table') ≡ drop (i + 1) now = drop-set-lt (i + 1) now i table' (omega arith) in
-            record {
-              counted = omega (arith, counted, is.counted, ap (λ l. length l) e);
-              room = rw kept room.1;
-              follow = rw kept follow.1;
-              result =
-                  ap (λ l. map entry_of l ++ entries_with (map entry_of (drop (i + 1) (slice_set now i table'))) left') (take_more_set now i table' h)
-                  ∙ ap (λ l. map entry_of (take i now ++ table' ∷ []) ++ entries_with (map entry_of l) left') kept
-                  ∙ moved (take i now) table' (entries_with (map entry_of (drop (i + 1) now)) left')
-                  ∙ ap (λ entry. map entry_of (take i now) ++ entry ∷ entries_with (map entry_of (drop (i + 1) now)) left') grown
-                  ∙ result;
-            };
-      }
-
-  -- no table is without a batch
-  pub under_none : (table : Table) → i < length now → count ≡ 0 → ⊥
-  under_none table h none =
-      let split : drop i now ≡ get_or now i table ∷ drop (suc i) now = drop-cons now i table h in
-      by left (omega (arith, is.counted, none)) (subst (λ l. AllZip (λ table rows. row_count rows ≤ spare_of table) l left) split is.room)
-    where
-      by : (left : List Rows) → length left ≡ 0 → AllZip (λ table rows. row_count rows ≤ spare_of table) (get_or now i table ∷ drop (suc i) now) left → ⊥
-      by [] e nothing = nothing
-      by (rows ∷ left) e all = cc
-
-  pub under_end : length now ≤ i → map entry_of now ≡ entries_with (map entry_of first) all
-  under_end h = by (drop i now) (take i now) refl refl is.result
-    where
-      by : (rest before : List Table) → drop i now ≡ rest → take i now ≡ before → map entry_of before ++ entries_with (map entry_of rest) left ≡ entries_with (map entry_of first) all → map entry_of now ≡ entries_with (map entry_of first) all
-      by rest before d t e =
-          ap (map entry_of) (sym (take_all i now h) ∙ t) ∙ sym (append-nil (map entry_of before)) ∙ ap (λ l. map entry_of before ++ entries_with (map entry_of l) left) (sym (drop_all i now h) ∙ d) ∙ e
 
 -- ---- batches that are put into a store
 
@@ -217,11 +167,3 @@ at_place (first ∷ entries) (batch ∷ batches) (suc i) entry rows apart h at k
 -- the entry at the place of a table
 pub entry_here : (tables : List Table) (i : ℕ) (table : Table) → i < length tables → table ≡ get_or tables i table → (i < length (map entry_of tables)) × (get_or (map entry_of tables) i (entry_of table) ≡ entry_of table)
 entry_here tables i table under is = (omega (arith, under, length-map tables entry_of), get_or-map entry_of tables i table ∙ ap entry_of (sym is))
-
--- a table and its batch: they are of one kind, and the table's rows stand at its place
-pub turn_at : (tables : List Table) (batches : List Rows) (i : ℕ) (table : Table) (rows : Rows) → AreOfKinds (map entry_of tables) batches → are_apart (map entry_of tables) ≡ true
-    → i < length tables → table ≡ get_or tables i table → rows ≡ get_or batches i rows → IsOfKind (entry_of table) rows × AtPlace (map entry_of tables) batches i (entry_of table) rows
-turn_at tables batches i table rows kinds apart under at is =
-    let (within, here) = entry_here tables i table under at in
-    let too : i < length batches = omega (arith, within, AllZip-long IsOfKind (map entry_of tables) batches kinds) in
-    (pair_at IsOfKind (map entry_of tables) batches i (entry_of table) rows kinds within here (sym is), at_place (map entry_of tables) batches i (entry_of table) rows apart within here too (sym is))

@@ -1,7 +1,7 @@
 -- What a window adds to tables, one table after the other.
-use Rattle.dv_vault.proofs.Vocabulary.{◌≡◌, ℕ, suc, ◌+◌, ◌<◌, ◌≤◌, Bool, true, List, [], ◌∷◌, ◌++◌, refl, sym, ◌∙◌, ap, drop, drop-cons, get_or, length, map, subst, take, Err, IfOk, Result, AllZip, list_all, map-append, take-append-drop}
-use Rattle.dv_vault.proofs.Vocabulary.{take_more, All-nil, All-push, Contains, Contains-get_or, passes_at, take_all, list_all-map, Window, Hashes, TableId, Mapping, is_table_of, tables_in, DeltaFault, Collision, Memory, HubRow, Rows}
-use Rattle.dv_vault.proofs.Vocabulary.{TableRows, HasNoClash, IfCollides, IsLeastClash, HubName, AdditionFault, AreApartBy, ClashesAt, FollowAll, fault_at, Follow, IsVaultOf, added_to, hashed_in, names_of_rows, AreOfLoad}
+use Rattle.dv_vault.proofs.Vocabulary.{AdditionFault, All-push, AllZip, AreApartBy, AreOfLoad, Bool, ClashesAt, Collision, Contains, Contains-get_or, DeltaFault, Err, Follow, FollowAll, HasNoClash, Hashes, HubName, HubRow, IfCollides, IfOk, IsLeastClash, IsVaultOf, List, Mapping, Memory, Result}
+use Rattle.dv_vault.proofs.Vocabulary.{Rows, TableId, TableRows, Window, [], added_to, ap, drop, drop-cons, fault_at, get_or, hashed_in, is_table_of, length, list_all, list_all-map, map, map-append, names_of_rows, passes_at, subst, suc, sym, tables_in, take, take-append-drop, take_all, take_more}
+use Rattle.dv_vault.proofs.Vocabulary.{true, ℕ, ◌++◌, ◌+◌, ◌<◌, ◌∙◌, ◌∷◌, ◌≡◌, ◌≤◌}
 use Rattle.dv_vault.proofs.BatchSteps.{pairs_push}
 
 -- an item at a place passes what all pass
@@ -26,13 +26,6 @@ module _ (mapping : Mapping) (hashes : Hashes) (names : List HubName) (window : 
     pub rows : batches ≡ map (added_to mapping hashes window) entries
     pub apart : AreApartBy mapping hashes names window entries
     pub follow : FollowAll window.load entries batches
-
-  pub at_first : SoFar [] []
-  at_first = record {
-    rows = refl;
-    apart = All-nil (λ entry. HasNoClash (hashed_in mapping hashes names window entry));
-    follow = record { follow = tt; stamped = All-nil (λ rows. AreOfLoad window.load rows) };
-  }
 
   one_more : (entries : List TableRows) (batches : List Rows) (entry : TableRows) (rows : Rows) → SoFar entries batches
       → rows ≡ added_to mapping hashes window entry → HasNoClash (hashed_in mapping hashes names window entry) → Follow entry.rows rows → AreOfLoad window.load rows

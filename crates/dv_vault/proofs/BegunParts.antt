@@ -1,8 +1,6 @@
 -- The parts of a window whose batches some first tables have: what tables have with them, and after more tables got theirs.
-use Rattle.dv_vault.proofs.Vocabulary.{◌≡◌, ℕ, ◌≤◌, List, [], ◌∷◌, refl, sym, ◌∙◌, ap, arith, length, map, suc, take, zero, Rows, TableRows, rows_then}
-use Rattle.dv_vault.proofs.Vocabulary.{Part, entries_with, none_like, opened_in, part_lacking, parts_at, rest_in, taken_first, whole_in}
-use Rattle.dv_vault.proofs.BatchSteps.{no_more}
-use Rattle.dv_vault.proofs.Parts.{none_like_none, none_taken, none_then, then_none}
+use Rattle.dv_vault.proofs.Vocabulary.{List, Part, Rows, TableRows, [], ap, arith, entries_with, length, map, none_like, opened_in, part_lacking, parts_at, refl, rest_in, rows_then, suc, sym, take, taken_first, whole_in, zero, ℕ, ◌∙◌, ◌∷◌, ◌≡◌, ◌≤◌}
+use Rattle.dv_vault.proofs.{BatchSteps.no_more, Parts.none_like_none, Parts.none_taken, Parts.none_then, Parts.then_none}
 
 -- parts are told by what is there and what is lacking
 pub same_parts : (a b : List Part) → opened_in a ≡ opened_in b → rest_in a ≡ rest_in b → a ≡ b

@@ -1,9 +1,7 @@
 -- A store whose keeper broke off to take a window.
-use Rattle.dv_vault.proofs.Vocabulary.{same_Some, ◌≡◌, ◌⊎◌, inl, inr, ℕ, Bool, true, false, List, [], ◌∷◌, ◌++◌, Option, Some, None, refl, sym, ◌∙◌, ap, subst, arith, length, Ok, Err, Result, Window}
-use Rattle.dv_vault.proofs.Vocabulary.{WindowHead, Told, KeeperError, Changes, Store, TableRows, changed, rows_in, HasRows, head_of, with_seal, with_stage, IsStagedAt}
-use Rattle.dv_vault.proofs.Vocabulary.{Became, Begun, BreaksParts, BreaksWindow, BrokeOff, HasLeft, HasTaken, IfErr, IsBegunIn, IsLeftOf, IsOpen, MayBeLeft, Part, TakesWindow, TookRows, TookSome, TookWindow, Untaken, tables_there, tables_whole, taken_first, with_open}
-use Rattle.dv_vault.proofs.Parts.{none_taken, taken_whole}
-use Rattle.dv_vault.proofs.StoreSteps.{became_changed, made_or_not, unchanged}
+use Rattle.dv_vault.proofs.Vocabulary.{Became, Begun, Bool, BreaksParts, BreaksWindow, BrokeOff, Changes, Err, HasLeft, HasRows, HasTaken, IfErr, IsBegunIn, IsLeftOf, IsOpen, KeeperError, List, MayBeLeft, None, Ok, Option, Part, Result, Some, Store, TableRows, TakesWindow, Told, TookRows}
+use Rattle.dv_vault.proofs.Vocabulary.{TookSome, TookWindow, Untaken, Window, WindowHead, [], ap, arith, changed, false, head_of, inl, inr, length, refl, rows_in, same_Some, subst, sym, tables_there, tables_whole, taken_first, true, with_open, with_seal, with_stage, ◌++◌, ◌∙◌, ◌∷◌, ◌≡◌, ◌⊎◌}
+use Rattle.dv_vault.proofs.{Parts.none_taken, Parts.taken_whole, StoreSteps.became_changed, StoreSteps.made_or_not, StoreSteps.unchanged}
 
 -- an opening window is opening with the rows of tables
 still_open : (window : Window) (entries : List TableRows) (was now : Store) → was.stage ≡ Some window → TookRows entries was now → IsOpen window entries was now
@@ -13,11 +11,6 @@ pub opens_with : (window : Window) (entries : List TableRows) (before after : Op
 opens_with window entries before after is_open took now e =
     let (was, at, has) = took now e in
     (was, at, still_open window entries was now (is_open was at) has)
-
-pub staged_at : (window : Window) (entries : List TableRows) (load : ℕ) → window.load ≡ load → (before after : Option Store) → Became (IsOpen window entries) before after → Told after (λ s. IsStagedAt load s.stage)
-staged_at window entries load is before after begun s e =
-    let (was, at, has) = begun s e in
-    subst (IsStagedAt load) (sym has.stage_is) is
 
 pub sealed : (window : Window) (entries : List TableRows) (head : WindowHead) → head ≡ head_of window → (before mid after : Option Store) → Became (IsOpen window entries) before mid → after ≡ changed (with_seal head) mid → TakesWindow window entries before after
 sealed window entries head is before mid after begun e =

@@ -1,51 +1,15 @@
 -- What a window adds to a hub or a link, and what clashes there, depends on its deliveries as a set.
-use Rattle.dv_vault.proofs.Vocabulary.{◌≡◌, ℕ, zero, suc, List, [], ◌∷◌, ◌++◌, None, Option, Some, ap, refl, sym, subst, ◌∙◌, inl, inr, slice_get, slice_get_within, same_Some, filter_map, Contains, Contains-cons_here, Contains-append_cases, Contains-append_left, Contains-append_right}
-use Rattle.dv_vault.proofs.Vocabulary.{Contains-get_or, Contains-nil, IsStrictlySortedBy, IsTotalOrder, Less, on_total, refs_total, refs_cmp, ascending-sorted_by, same_ascending, filter_map_member, member_before_sort, Hashes, Window, Hub, Link, Parent, TableId}
-use Rattle.dv_vault.proofs.Vocabulary.{Mapping, Delivery, Place, HubRow, LinkRow}
-use Rattle.dv_vault.proofs.Vocabulary.{deliveries, deliveries_member, first_offer, first_offer-refs, Hashed, HashedList, HasNoClash, IsLeastClash, Pair, HubName, hashed_item, hub_delta, hub_hashed, hub_place, hub_row_of, hub_row_has, link_delta, link_hashed, link_place, link_row}
-use Rattle.dv_vault.proofs.Vocabulary.{delta, new_row, row_cmp, AreHubItems, AreLinkItems, member_of_filter_map}
-use Rattle.dv_vault.proofs.Vocabulary.{Collision, DeltaFault, Err, IfCollides, Memory}
-use Rattle.dv_catalog.specs.declared.tables.TableId.TheVariants as ids
-use Rattle.dv_text.proofs.Members.{member_of_all}
-use Rattle.dv_text.proofs.Orderings.{irreflexive}
-use Rattle.std.proofs.lemmas.Cmp.{nat_list_cmp_total}
-use Rattle.dv_text.proofs.SortedLists.{member_after_sort}
-use Rattle.dv_records.specs.Deltas.{IsClash, brought, hashed_by, missing_in}
-use Rattle.dv_hub_link.specs.LinkLists.{hubs_in, hubs_of, stored}
-use Rattle.dv_hub_link.proofs.Brought.{brought_cases, item_in, missing_there, one_list}
-use Rattle.dv_hub_link.proofs.Clashes.{same_digest}
-use Rattle.dv_vault.specs.DeliverySets.{AreDeliveriesOf}
-use Rattle.dv_vault.proofs.SortedOffers.{by_refs, deliveries-ascending}
+use Rattle.dv_vault.proofs.Vocabulary.{AreDeliveriesOf, AreHubItems, AreLinkItems, Collision, Contains, Contains-append_cases, Contains-append_left, Contains-append_right, Contains-cons_here, Contains-get_or, Contains-nil, Delivery, DeltaFault, Err, HasNoClash, Hashed, HashedList, Hashes, Hub}
+use Rattle.dv_vault.proofs.Vocabulary.{HubName, HubRow, IfCollides, IsClash, IsLeastClash, IsTotalOrder, Link, LinkRow, List, Mapping, Memory, Option, Pair, Parent, Place, Some, TableId, Window, [], ap, ascending-sorted_by, brought, brought_cases, deliveries, deliveries_member, delta, filter_map}
+use Rattle.dv_vault.proofs.Vocabulary.{filter_map_member, get_or_from_slice_get, hashed_by, hashed_item, hub_delta, hub_hashed, hub_place, hub_row_has, hub_row_of, hubs_of, inl, inr, item_in, link_delta, link_hashed, link_place, link_row, member_after_sort, member_before_sort}
+use Rattle.dv_vault.proofs.Vocabulary.{member_of_filter_map, missing_in, missing_there, nat_list_cmp_total, new_row, on_total, one_list, refl, row_cmp, same_Some, same_ascending, same_digest, slice_get, slice_get_within, stored, subst, sym, ℕ, ◌++◌, ◌∙◌, ◌∷◌, ◌≡◌}
+use Rattle.dv_hub_link.specs.LinkLists.{hubs_in}
 use Rattle.dv_vault.proofs.Stamped.{row_made}
-use Rattle.std.proofs.lemmas.Option.{get_or_from_slice_get}
+use Rattle.dv_catalog.specs.declared.tables.TableId.TheVariants as ids
 
--- ---- the deliveries in order are such
-
-got_in : {X : Type 0} (xs : List X) (i : ℕ) (x : X) → slice_get xs i ≡ Some x → Contains xs x
+-- an element at a place is in the list
+pub got_in : {X : Type 0} (xs : List X) (i : ℕ) (x : X) → slice_get xs i ≡ Some x → Contains xs x
 got_in xs i x got = subst (Contains xs) (get_or_from_slice_get xs i x x got) (Contains-get_or xs i x (slice_get_within xs i x got))
-
--- of deliveries in order none is before one with its list
-not_before : (first : Delivery) (items : List Delivery) → IsStrictlySortedBy by_refs (first ∷ items) → (other : Delivery) → Contains items other → first.refs ≡ other.refs → ⊥
-unfolding IsStrictlySortedBy
-not_before first items up other has same =
-    irreflexive refs_total first.refs (subst (λ refs. refs_cmp first.refs refs ≡ Less) (sym same) (member_of_all (λ (w : Delivery). by_refs first w ≡ Less) items other up.0 has))
-
-once_in : (items : List Delivery) → IsStrictlySortedBy by_refs items → (i j : ℕ) (a b : Delivery) → slice_get items i ≡ Some a → slice_get items j ≡ Some b → a.refs ≡ b.refs → i ≡ j
-unfolding IsStrictlySortedBy
-once_in [] up i j a b a_at b_at same = let no : None ≡ Some a = a_at in cc
-once_in (first ∷ items) up zero zero a b a_at b_at same = refl
-once_in (first ∷ items) up zero (suc j) a b a_at b_at same =
-    absurd (not_before first items up b (got_in items j b b_at) (ap (λ (d : Delivery). d.refs) (same_Some first a a_at) ∙ same))
-once_in (first ∷ items) up (suc i) zero a b a_at b_at same =
-    absurd (not_before first items up a (got_in items i a a_at) (ap (λ (d : Delivery). d.refs) (same_Some first b b_at) ∙ sym same))
-once_in (first ∷ items) up (suc i) (suc j) a b a_at b_at same = ap suc (once_in items up.1 i j a b a_at b_at same)
-
-pub deliveries_are : (mapping : Mapping) (parent : Parent) (window : Window) → AreDeliveriesOf mapping parent window (deliveries mapping parent window)
-deliveries_are mapping parent window = record {
-  first = λ item has. (deliveries_member mapping parent window item).0 has;
-  whole = λ refs item is. (deliveries_member mapping parent window item).1 (ap (first_offer mapping parent window) (first_offer-refs mapping parent window refs item is) ∙ is);
-  once = once_in (deliveries mapping parent window) (deliveries-ascending mapping parent window);
-}
 
 -- ---- clashes
 

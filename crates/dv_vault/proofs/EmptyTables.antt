@@ -1,21 +1,9 @@
 -- The vault of no windows.
-use Rattle.dv_vault.proofs.Vocabulary.{map-map, map-id, ◌≡◌, ℕ, ◌+◌, Bool, true, false, List, [], ◌∷◌, refl, sym, ◌∙◌, ap, arith, map, if◌then◌else◌, sum_by-cons, Hashes, TableId, Mapping, tables, TableRows, no_rows, rows_in, table_eq}
-use Rattle.dv_vault.proofs.Vocabulary.{table_entry, rows_weight, tables_weight, IsVaultOf, are_empty, are_rows_kept, same_table}
+use Rattle.dv_vault.proofs.Vocabulary.{Hashes, IsVaultOf, List, Mapping, TableId, TableRows, [], after_none, ap, are_empty, are_rows_kept, arith, backwards, map, map-id, map-map, no_rows, refl, rows_weight, sum_by-cons, sym, table_entry, tables, tables_weight, true, ℕ, ◌+◌, ◌∙◌, ◌∷◌, ◌≡◌}
 use Rattle.dv_catalog.specs.declared.tables.TableId.TheVariants as ids
-use Rattle.dv_records.specs.Backwards.{backwards}
-use Rattle.dv_records.proofs.NoWindows.{after_none}
 
 pub empty_tables : (all : List TableId) → map (λ (entry : TableRows). entry.table) (map (λ id. record { table = id; rows = no_rows id }) all) ≡ all
 empty_tables all = map-map (λ (entry : TableRows). entry.table) (λ id. record { table = id; rows = no_rows id }) all ∙ map-id all
-
-pub empty_rows : (all : List TableId) (table : TableId) → rows_in table (map (λ id. record { table = id; rows = no_rows id }) all) ≡ no_rows table
-empty_rows [] table = refl
-empty_rows (id ∷ all) table = by (table_eq id table) refl (empty_rows all table)
-  where
-    by : (b : Bool) → table_eq id table ≡ b → rows_in table (map (λ id. record { table = id; rows = no_rows id }) all) ≡ no_rows table
-        → (if b then no_rows id else rows_in table (map (λ id. record { table = id; rows = no_rows id }) all)) ≡ no_rows table
-    by true e later = ap no_rows (same_table id table e)
-    by false e later = later
 
 no_weight : (id : TableId) → rows_weight (no_rows id) ≡ 0
 no_weight (ids.Hub n) = refl

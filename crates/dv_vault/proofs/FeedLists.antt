@@ -1,9 +1,8 @@
 -- The extracts of a feed in windows: their rows are plain where the feed has no sub, no two of their lists have one hash
 -- key where nothing collides, and they stand the newest first.
-use Rattle.dv_vault.proofs.Vocabulary.{AllByRecursion, list_all, Bool, List, None, Some, [], ap, length, map, reverse, subst, sym, true, ℕ, ◌∙◌, ◌∷◌, ◌≡◌, Contains, slice_get, Contains-cons_here, Contains-cons_there, reverse_member, Hashes, ascends, is_window, Mapping, FeedDef, NRow, Window}
-use Rattle.dv_vault.proofs.Vocabulary.{IsStrictlySortedBy, Less, nat_cmp, AreNewestFirst, Extract, history, lists_of, IsApart, collision_in, all_pass, passes_at, nat_cmp_is, nil_from_length, reverse-reverse, collision_free, IsPlain, lists_apart, rows_valid, lists_reversed, AllBefore}
-use Rattle.dv_vault.proofs.Vocabulary.{IsNewestFirst, history-newest_first, in_order}
-use Rattle.dv_sat.specs.MultiRows.{IsTold}
+use Rattle.dv_vault.proofs.Vocabulary.{AllBefore, AllByRecursion, AreNewestFirst, Bool, Contains, Contains-cons_here, Contains-cons_there, Extract, FeedDef, Hashes, IsApart, IsNewestFirst, IsPlain, IsStrictlySortedBy, IsTold, Less, List, Mapping, NRow, None, Some, Window, [], all_pass, ap}
+use Rattle.dv_vault.proofs.Vocabulary.{ascends, collision_free, collision_in, history, history-newest_first, in_order, is_window, length, list_all, lists_apart, lists_of, lists_reversed, map, nat_cmp, nat_cmp_is, nil_from_length, passes_at, reverse, reverse-reverse, reverse_member, rows_valid}
+use Rattle.dv_vault.proofs.Vocabulary.{slice_get, subst, sym, true, ℕ, ◌∙◌, ◌∷◌, ◌≡◌}
 
 -- windows keep what each keeps, turned round
 pub reversed_whole : {X : Type 0} (p : X → Bool) (xs : List X) → list_all p xs ≡ true → list_all p (reverse xs) ≡ true

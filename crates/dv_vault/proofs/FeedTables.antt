@@ -1,5 +1,5 @@
 -- What holds of each table of a feed holds of the tables of all feeds.
-use Rattle.dv_vault.proofs.Vocabulary.{Contains, slice_get, List, Some, [], arith, inl, inr, refl, subst, suc, ℕ, ◌++◌, ◌+◌, ◌∷◌, ◌≡◌, Contains-cons_cases, Contains-nil, effect_tables, feed_tables, sat_tables, FeedDef, TableId, Contains-append_cases}
+use Rattle.dv_vault.proofs.Vocabulary.{Contains, Contains-append_cases, Contains-cons_cases, Contains-nil, FeedDef, List, Some, TableId, [], arith, effect_tables, feed_tables, inl, inr, refl, sat_tables, slice_get, subst, suc, ℕ, ◌++◌, ◌+◌, ◌∷◌, ◌≡◌}
 use Rattle.dv_catalog.specs.declared.tables.TableId.TheVariants as ids
 
 -- a property of the tables that a feed may have

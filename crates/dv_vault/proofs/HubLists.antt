@@ -1,5 +1,5 @@
 -- The hubs of a vault, one more at a time.
-use Rattle.dv_vault.proofs.Vocabulary.{map-append, all_pass_both, ◌≡◌, ℕ, ◌+◌, true, List, [], ◌∷◌, ◌++◌, Bor, refl, sym, ◌∙◌, ap, arith, map, list_all, range_with_len, and_from, map-range_with_len_more, Indexed, HubRow, are_hub_rows}
+use Rattle.dv_vault.proofs.Vocabulary.{Bor, HubRow, Indexed, List, [], all_pass_both, and_from, ap, are_hub_rows, arith, list_all, map, map-append, map-range_with_len_more, range_with_len, refl, sym, true, ℕ, ◌++◌, ◌+◌, ◌∙◌, ◌∷◌, ◌≡◌}
 
 pub hubs_more : (at : ℕ → List HubRow) (i : ℕ) (hubs : List (Bor (Indexed HubRow))) (hub : Bor (Indexed HubRow))
     → map (λ hub. hub.now.rows) hubs ≡ map at (range_with_len 0 i) → hub.now.rows ≡ at i → map (λ hub. hub.now.rows) (hubs ++ hub ∷ []) ≡ map at (range_with_len 0 (i + 1))

@@ -1,8 +1,7 @@
 -- The names of the hubs of a vault tell the keys of the hubs' rows.
-use Rattle.dv_vault.proofs.Vocabulary.{option_or-none, hubs_in, length-map, length-range_with_len, get_or-map-range_with_len, ◌≡◌, ℕ, zero, suc, ◌+◌, ◌<◌, ◌==◌, Bool, true, false, List, [], ◌∷◌, ◌++◌, Option, Some, None, Bor, refl, sym}
-use Rattle.dv_vault.proofs.Vocabulary.{◌∙◌, ap, arith, map, length, reverse, eq-eqb, cond, find, slice_get, enumerate_from, flat_map, range_with_len, option_map, option_or, IsItemAt, bytes_eq, nat_tests, find-append, slice_get-get_or}
-use Rattle.dv_vault.proofs.Vocabulary.{slice_get-map, slice_get_past, Key, Window, Hashes, Mapping, Indexed, HubRow, appended, HubName, is_named, key_named, hub_batch, hub_rows_in, vault, vault_hub, key_with, hub_names, names_of_hub, TableRows}
-use Rattle.dv_vault.proofs.Vocabulary.{names_of_rows}
+use Rattle.dv_vault.proofs.Vocabulary.{Bool, Bor, Hashes, HubName, HubRow, Indexed, IsItemAt, Key, List, Mapping, None, Option, Some, TableRows, Window, [], ap, appended, arith, bytes_eq, cond, enumerate_from, eq-eqb, false, find, find-append, flat_map, get_or-map-range_with_len, hub_batch}
+use Rattle.dv_vault.proofs.Vocabulary.{hub_names, hub_rows_in, hubs_in, is_named, key_named, key_with, length, length-map, length-range_with_len, map, names_of_hub, names_of_rows, nat_tests, option_map, option_or, option_or-none, range_with_len, refl, reverse, slice_get, slice_get-get_or}
+use Rattle.dv_vault.proofs.Vocabulary.{slice_get-map, slice_get_past, suc, sym, true, vault, vault_hub, zero, ℕ, ◌++◌, ◌+◌, ◌<◌, ◌==◌, ◌∙◌, ◌∷◌, ◌≡◌}
 
 -- the names of one hub are those of its rows
 own_names : (hub : ℕ) (digest : List ℕ) (rows : List HubRow) → key_named hub digest (names_of_hub (hub, rows)) ≡ key_with digest rows

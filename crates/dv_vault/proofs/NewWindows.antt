@@ -1,10 +1,9 @@
 -- The parts of a window that is to be opened: no table has rows of it.
-use Rattle.dv_vault.proofs.Vocabulary.{◌≡◌, List, [], ◌∷◌, refl, ◌∙◌, ap, arith, map, sum_by, sum_by-cons, AllZip, Follow, Part, Rows, Table, TableId, TableRows, is_of_kind, no_rows, row_count, rows_then, true}
-use Rattle.dv_vault.proofs.Vocabulary.{ArePartsOf, entry_of, opened_in, rest_in, whole_in}
+use Rattle.dv_vault.proofs.Vocabulary.{AllZip, ArePartsOf, Follow, List, Part, Rows, Table, TableId, TableRows, [], ap, arith, entry_of, is_of_kind, map, no_rows, opened_in, refl, rest_in, row_count, rows_then, sum_by, sum_by-cons, true, whole_in, ◌∙◌, ◌∷◌, ◌≡◌}
+use Rattle.dv_vault.proofs.BatchSteps.{then_nothing}
 use Rattle.dv_catalog.specs.declared.tables.TableId.TheVariants as ids
 use Rattle.dv_records.specs.declared.stores.Rows.TheVariants as of
 use Rattle.dv_vault.specs.declared.tables.Table.TheVariants as table
-use Rattle.dv_vault.proofs.BatchSteps.{then_nothing}
 
 -- lists that are one have one head and one rest
 pub first_one : (a b : Rows) (xs ys : List Rows) → a ∷ xs ≡ b ∷ ys → (a ≡ b) × (xs ≡ ys)

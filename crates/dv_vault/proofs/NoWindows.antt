@@ -1,6 +1,5 @@
 -- The vault of no windows has the sealed windows of a state with none.
-use Rattle.dv_vault.proofs.Vocabulary.{[], map, ◌∙◌, ◌≡◌, Hashes, no_rows, tables, HasSealed, RawVault}
-use Rattle.dv_records.proofs.NoWindows.{none_valid}
+use Rattle.dv_vault.proofs.Vocabulary.{HasSealed, Hashes, RawVault, [], map, no_rows, none_valid, tables, ◌∙◌, ◌≡◌}
 use Rattle.dv_vault.proofs.EmptyTables.{empty_vault}
 
 pub none_sealed : (hashes : Hashes) (raw : RawVault) → raw.tables ≡ map (λ id. record { table = id; rows = no_rows id }) (tables raw.mapping) → raw.heads ≡ [] → HasSealed hashes [] raw

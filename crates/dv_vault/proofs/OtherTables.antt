@@ -1,5 +1,5 @@
 -- The tables of a store that are among some entries, and all others.
-use Rattle.dv_vault.proofs.Vocabulary.{◌≡◌, Bool, true, false, List, [], ◌∷◌, refl, sym, ◌∙◌, ap, map, ◌||◌, if◌then◌else◌, list_any, list_any-map, table_eq, no_rows, rows_in, entries_with, has_table, HasTables, HasRows, KeepsOthers, TableId, Rows, Store, TableRows}
+use Rattle.dv_vault.proofs.Vocabulary.{Bool, HasRows, HasTables, KeepsOthers, List, Rows, Store, TableId, TableRows, [], ap, entries_with, false, has_table, if◌then◌else◌, list_any, list_any-map, map, no_rows, refl, rows_in, sym, table_eq, true, ◌||◌, ◌∙◌, ◌∷◌, ◌≡◌}
 
 -- ---- the same tables
 

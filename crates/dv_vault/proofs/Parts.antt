@@ -1,7 +1,6 @@
 -- The parts of a window: what tables have with them, and after some first tables have got what they lacked.
-use Rattle.dv_vault.proofs.Vocabulary.{◌≡◌, ℕ, ◌+◌, ◌<◌, ◌≤◌, true, List, [], ◌∷◌, refl, sym, ◌∙◌, ap, arith, append-nil, append_assoc, get_or, length, length-append, map, slice_set, suc, take, zero, TableId, Rows, TableRows, is_of_kind, no_rows, row_count, rows_then}
-use Rattle.dv_vault.proofs.Vocabulary.{ArePartsOf, Part, entries_with, none_like, opened_in, rest_in, tables_there, tables_whole, taken_first, taken_part, whole_in, whole_part, subst}
-use Rattle.dv_vault.proofs.Vocabulary.{Begun, Fits, FollowAll, IsLeftOf, RawVault, Window, is_window, last_head, late_after, nil_from_length, tables_weight}
+use Rattle.dv_vault.proofs.Vocabulary.{ArePartsOf, Begun, Fits, FollowAll, IsLeftOf, List, Part, RawVault, Rows, TableId, TableRows, Window, [], ap, append-nil, append_assoc, arith, entries_with, get_or, is_of_kind, is_window, last_head, late_after, length, length-append, map, nil_from_length}
+use Rattle.dv_vault.proofs.Vocabulary.{no_rows, none_like, opened_in, refl, rest_in, row_count, rows_then, slice_set, subst, suc, sym, tables_there, tables_weight, tables_whole, take, taken_first, taken_part, true, whole_in, whole_part, zero, ℕ, ◌+◌, ◌<◌, ◌∙◌, ◌∷◌, ◌≡◌, ◌≤◌}
 use Rattle.dv_vault.proofs.BatchSteps.{AreOfKinds}
 use Rattle.dv_catalog.specs.declared.tables.TableId.TheVariants as ids
 use Rattle.dv_records.specs.declared.stores.Rows.TheVariants as of

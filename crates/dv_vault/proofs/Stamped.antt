@@ -1,6 +1,6 @@
 -- The rows that a window adds to a hub or a link have its load date.
-use Rattle.dv_vault.proofs.Vocabulary.{◌≡◌, ℕ, Bool, true, false, List, Option, Some, None, ◌||◌, All, Contains, if◌then◌else◌, filter_map, list_all, All-contains_itself, Hashes, is_missing, filter_map_member, member_before_sort, Place, Mapping, Delivery, HubRow, LinkRow, hub_place, link_place}
-use Rattle.dv_vault.proofs.Vocabulary.{HashedList, hub_delta, delta, new_row, row_cmp, link_delta, hashed_item, hub_row_of, link_row, has_row_under, hub_row_has}
+use Rattle.dv_vault.proofs.Vocabulary.{All, All-contains_itself, Bool, Contains, Delivery, HashedList, Hashes, HubRow, LinkRow, List, Mapping, None, Option, Place, Some, delta, false, filter_map, filter_map_member, has_row_under, hashed_item, hub_delta, hub_place, hub_row_has, hub_row_of}
+use Rattle.dv_vault.proofs.Vocabulary.{if◌then◌else◌, is_missing, link_delta, link_place, link_row, list_all, member_before_sort, new_row, row_cmp, true, ℕ, ◌||◌, ◌≡◌}
 
 pub all_from_members : {X : Type 0} (P : X → Type 0) (xs : List X) → ((x : X) → Contains xs x → P x) → All P xs
 all_from_members P xs f = λ k d under. f _ (All-contains_itself xs k d under)

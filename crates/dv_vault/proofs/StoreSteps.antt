@@ -1,12 +1,9 @@
 -- A store that takes what tables lack of a window, one table after the other.
-use Rattle.dv_vault.proofs.Vocabulary.{same_Some, ◌≡◌, ◌⊎◌, inl, inr, ℕ, ◌+◌, ◌<◌, ◌≤◌, ◌==◌, ◌&&◌, not, Bool, true, false, List, [], ◌∷◌, Option, Some, None, refl, sym, ◌∙◌, ap, subst, arith, add-one, suc, zero, take, length, get_or, is_ok, Ok, Err, Result, if◌then◌else◌, eqb-true}
-use Rattle.dv_vault.proofs.Vocabulary.{AllZip-long, Told, TableId, KeeperError, Failed, Rows, Changes, Store, TableRows, KeeperCause, are_apart, changed, HasRows, is_of_kind, row_count, rows_in, rows_then, with_rows, same_answer, false≢true, same_table, table_eq, has_table}
-use Rattle.dv_vault.proofs.Vocabulary.{ArePartsOf, Became, BreaksParts, IsPartOf, Part, TookRows, TookSome, entries_with, opened_in, rest_in, tables_there, taken_first, with_batch}
+use Rattle.dv_vault.proofs.Vocabulary.{AllZip-long, ArePartsOf, Became, Bool, BreaksParts, Changes, Err, Failed, HasRows, IsPartOf, IsSome, KeeperError, List, None, Ok, Option, Part, Result, Rows, Some, Store, TableId, TableRows, Told, TookRows, TookSome, [], add-one, ap, are_apart, arith}
+use Rattle.dv_vault.proofs.Vocabulary.{changed, entries_with, eqb-true, false, false≢true, get_or, has_table, if◌then◌else◌, inl, inr, is_of_kind, is_ok, length, not, opened_in, refl, rest_in, row_count, rows_in, rows_then, same_Some, same_answer, same_table, subst, suc, sym, table_eq}
+use Rattle.dv_vault.proofs.Vocabulary.{tables_there, take, taken_first, true, with_batch, with_rows, zero, ℕ, ◌&&◌, ◌+◌, ◌<◌, ◌==◌, ◌∙◌, ◌∷◌, ◌≡◌, ◌⊎◌}
 use Rattle.dv_records.specs.declared.keepers.KeeperError.TheVariants.{Memory}
-use Rattle.dv_vault.proofs.BatchSteps.{AtPlace, IsOfKind, at_place, nothing_then, others_stay, pair_at, rows_stay}
-use Rattle.dv_vault.proofs.OtherTables.{with_has}
-use Rattle.dv_vault.proofs.Parts.{none_taken, rest_kinds, there_taken}
-use Rattle.std.specs.Prelude.{IsSome}
+use Rattle.dv_vault.proofs.{BatchSteps.AtPlace, BatchSteps.IsOfKind, BatchSteps.at_place, BatchSteps.nothing_then, BatchSteps.others_stay, BatchSteps.pair_at, BatchSteps.rows_stay, OtherTables.with_has, Parts.none_taken, Parts.rest_kinds, Parts.there_taken}
 
 -- ---- changing calls
 
@@ -170,9 +167,6 @@ module _ (entries : List TableRows) (parts : List Part) where
     }
 
 -- ---- causes
-
-pub caused : {T U : Type 0} (before mid now : ℕ) (r : Result T KeeperError) (r' : Result U KeeperError) → before ≤ mid → KeeperCause mid now r → (r' ≡ Err Failed → r ≡ Err Failed) → KeeperCause before now r'
-caused before mid now r r' le cause same = record { later = omega (arith, le, cause.later); failed = λ e. let rose = cause.failed (same e) in omega (arith, le, rose) }
 
 -- a store that was told is told after a change
 pub stays_told : {T : Type 0} (change : Store → Store) (old new : Option Store) (r : Result T KeeperError) → Changes change old new r → IsSome old → IsSome new

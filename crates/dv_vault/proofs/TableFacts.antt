@@ -1,10 +1,8 @@
 -- What the tables of feeds ask of a window with its hash keys, and what they get.
-use Rattle.dv_vault.proofs.Vocabulary.{◌≡◌, ℕ, ◌==◌, ◌∙◌, true, Option, Some, None, ap, find, sym, list_all, option_map, eqb-true, All-contains, Staged, Mapping, is_valid, attrs_fit, is_window, found_member, staged_of, Bor, Hashes, IfSome}
-use Rattle.dv_vault.proofs.Vocabulary.{HasKeys, Window, extract_at, HashedExtract, HashedWindow, IsHashedWindow}
-use Rattle.dv_vault.proofs.Vocabulary.{IsStrictlySortedBy}
+use Rattle.dv_vault.proofs.Vocabulary.{All-contains, Bor, HasKeys, HashedExtract, HashedWindow, Hashes, IfSome, IsHashedWindow, IsStrictlySortedBy, Mapping, None, Option, Some, Staged, Window, ap, attrs_fit, eqb-true, extract_at, find, found_member, is_valid, is_window, list_all, option_map}
+use Rattle.dv_vault.proofs.Vocabulary.{staged_of, sym, true, ℕ, ◌==◌, ◌∙◌, ◌≡◌}
 use Rattle.dv_text.specs.Orders.{row_cmp}
-use Rattle.dv_vault.proofs.VaultFacts.{find-seen}
-use Rattle.dv_vault.proofs.WindowFacts.{staged_ascend, staged_attrs_fit}
+use Rattle.dv_vault.proofs.{VaultFacts.find-seen, WindowFacts.staged_ascend, WindowFacts.staged_attrs_fit}
 
 -- what a window has for a feed: its extract, the hash keys of the rows, their order, and that they fit what they are hashed in
 pub record IsExtractFor (hashes : Hashes) (feed : ℕ) (hashed : HashedWindow) (at : Option (Bor HashedExtract)) : Type 0 where

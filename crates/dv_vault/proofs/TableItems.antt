@@ -1,6 +1,6 @@
 -- What a window of the mapping delivers to a hub or a link is what its table takes.
-use Rattle.dv_vault.proofs.Vocabulary.{◌≡◌, ℕ, suc, ◌<◌, true, false, List, [], ◌∷◌, length, refl, ap, eq-eqb, eqb-true, and_from, and_parts, Key, Window, Hub, Link, Mapping, parent_hubs, IsItem, are_keys_of, AreHubItems, IsHubItem, AreLinkItems, Delivery, deliveries, fit_hubs, fits_hub}
-use Rattle.dv_vault.proofs.Vocabulary.{is_window, deliveries-apart}
+use Rattle.dv_vault.proofs.Vocabulary.{AreHubItems, AreLinkItems, Delivery, Hub, IsHubItem, IsItem, Key, Link, List, Mapping, Window, [], and_from, and_parts, ap, are_keys_of, deliveries, deliveries-apart, eq-eqb, eqb-true, false, fit_hubs, fits_hub, is_window, length, parent_hubs, refl, suc}
+use Rattle.dv_vault.proofs.Vocabulary.{true, ℕ, ◌<◌, ◌∷◌, ◌≡◌}
 use Rattle.dv_vault.proofs.WindowFacts.{IsDelivered, delivered, key_parts}
 
 -- references that fit one hub are one key

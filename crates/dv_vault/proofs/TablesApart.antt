@@ -1,7 +1,6 @@
 -- No raw table stands twice among the tables of a mapping.
-use Rattle.dv_vault.proofs.Vocabulary.{list_all-map, all_pass, none_pass, same_answer, passes_at, not-true, list_any-map, ◌≡◌, ℕ, zero, suc, ◌+◌, ◌<◌, ◌==◌, Bool, true, false, not, ◌&&◌, List, [], ◌∷◌, ◌++◌, refl, sym, ◌∙◌, ap, arith}
-use Rattle.dv_vault.proofs.Vocabulary.{length, map, nat_lt, ◌||◌, list_all, list_any, range_with_len, and_from, and_parts, false≢true, nat_tests, list_any-append, FeedDef, TableId, Mapping, effect_tables, feed_tables, sat_tables, tables}
-use Rattle.dv_vault.proofs.Vocabulary.{TableRows, are_apart, table_eq, IsVaultOf, is_hub, is_link, same_table, all_pass_both}
+use Rattle.dv_vault.proofs.Vocabulary.{Bool, FeedDef, IsVaultOf, List, Mapping, TableId, TableRows, [], all_pass, all_pass_both, and_from, and_parts, ap, are_apart, arith, effect_tables, false, false≢true, feed_tables, is_hub, is_link, length, list_all, list_all-map, list_any, list_any-append}
+use Rattle.dv_vault.proofs.Vocabulary.{list_any-map, map, nat_lt, nat_tests, none_pass, not, not-true, passes_at, range_with_len, refl, same_answer, same_table, sat_tables, suc, sym, table_eq, tables, true, zero, ℕ, ◌&&◌, ◌++◌, ◌+◌, ◌<◌, ◌==◌, ◌||◌, ◌∙◌, ◌∷◌, ◌≡◌}
 use Rattle.dv_catalog.specs.declared.tables.TableId.TheVariants as ids
 
 -- no two tables are one

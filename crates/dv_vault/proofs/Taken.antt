@@ -1,12 +1,10 @@
 -- What a vault keeps to with an addition, and what it weighs then.
-use Rattle.dv_vault.proofs.Vocabulary.{ltb-true, list_all-map, all_pass_weaker, lt-ltb, ◌≡◌, ℕ, ◌+◌, ◌-◌, true, List, [], ◌∷◌, ◌++◌, Option, Some, None, refl, sym, ◌∙◌, ap, subst, arith, length, map, nat_lt, slice_get, All, Err, Ok, OnOk}
-use Rattle.dv_vault.proofs.Vocabulary.{Result, Vec, is_ok, sum_by, AllZip, list_all, option_map, option_map_or, with_items, and_from, and_parts, length-append, with_items_is, map-map, All-head, All-tail, list_all-append, sum_by-cons}
-use Rattle.dv_vault.proofs.Vocabulary.{slice_get_within, Staged, WindowHead, Mapping, Rows, Hubs, Links, Sats, Statuses, TableRows, late_after, head_of, is_staged, rows_then, rows_weight, tables_weight, rows_add_up, Begun, Table, Fits, tables_whole, whole_in}
-use Rattle.dv_vault.proofs.Vocabulary.{Follow, IsVaultOf, RawVault, are_empty, are_heads_of, are_rows_kept, entries_with, entry_of, last_head, all_up_to-later, all_up_to-none, up_to-then, staged_rows, window_parts}
-use Rattle.dv_vault.proofs.Vocabulary.{AreOfLoad, are_up_to, is_up_to}
+use Rattle.dv_vault.proofs.Vocabulary.{All, All-head, All-tail, AllZip, AreOfLoad, Begun, Fits, Follow, Hubs, IsVaultOf, Links, List, Mapping, None, Option, RawVault, Rows, Sats, Some, Staged, Statuses, Table, TableRows, Vec, WindowHead, [], all_pass_weaker, all_up_to-later, all_up_to-none}
+use Rattle.dv_vault.proofs.Vocabulary.{and_from, and_parts, ap, are_empty, are_heads_of, are_rows_kept, are_up_to, arith, entries_with, entry_of, head_of, is_staged, is_up_to, last_head, late_after, length, length-append, list_all, list_all-append, list_all-map, lt-ltb, ltb-true, map, map-map}
+use Rattle.dv_vault.proofs.Vocabulary.{nat_lt, option_map, option_map_or, refl, rows_add_up, rows_then, rows_weight, slice_get, slice_get_within, staged_rows, subst, sum_by, sum_by-cons, sym, tables_weight, tables_whole, true, up_to-then, whole_in, window_parts, with_items, with_items_is, ℕ}
+use Rattle.dv_vault.proofs.Vocabulary.{◌++◌, ◌+◌, ◌-◌, ◌∙◌, ◌∷◌, ◌≡◌}
+use Rattle.dv_vault.proofs.{Afterwards.later_than_last, OtherTables.same_tables}
 use Rattle.dv_records.specs.declared.stores.Rows.TheVariants as of
-use Rattle.dv_vault.proofs.Afterwards.{later_than_last}
-use Rattle.dv_vault.proofs.OtherTables.{same_tables}
 
 -- ---- rows that follow those of tables
 
@@ -97,10 +95,6 @@ weight_grows (entry ∷ entries) (rows ∷ batches) all =
     omega (arith, after, before, more, one, rest)
 
 -- ---- tables that were lent
-
-pub on_ok : {T E P : Type 0} (r : Result T E) → is_ok r ≡ true → OnOk r P → P
-on_ok (Ok x) e is = is
-on_ok (Err x) e is = cc
 
 -- with tables in their places that have the same rows
 pub entries_now : {Z : Type 0} (v : Vec Table Z) (lent new now : List Table) → lent ≡ v.items → length new ≡ length lent → map entry_of new ≡ map entry_of lent → now ≡ (with_items v new).items

@@ -1,80 +1,12 @@
 -- The tasks of a window: how many they are, that their tables are in the mapping, and what is found by them.
-use Rattle.dv_vault.proofs.Vocabulary.{◌≡◌, ℕ, zero, suc, ◌+◌, ◌*◌, ◌<◌, ◌≤◌, ◌==◌, inl, inr, true, false, List, [], ◌∷◌, ◌++◌, Option, Some, None, All, refl, sym, ◌∙◌, ap, arith, subst, drop, find, flat_map, take, take-append-drop, list_all, length, map, get_or, option_map_or}
-use Rattle.dv_vault.proofs.Vocabulary.{All-append, All-contains, All-nil, All-push, All-weaker, Contains, Contains-append_left, Contains-append_right, Contains-cons_cases, Contains-cons_here, Contains-cons_there, Contains-get_or, Contains-map, Contains-nil}
-use Rattle.dv_vault.proofs.Vocabulary.{and_parts, ascends, eqb-true, found_member, flat_map_member, got_from, length-append, length-map, map_member, nat_lt, nat_tests, option_map, passes_at, range_with_len, same_Some, slice_get, slice_get-get_or, slice_get_within}
-use Rattle.dv_vault.proofs.Vocabulary.{Bor, FeedDef, Hashes, HubName, Mapping, Parent, Hub, Link, Staged, TableId, TableRows, Window, effect_tables, feed_tables, is_valid, is_window, kept, offered_by, parent_eq, refs_from, sat_tables, staged_of, tables, window_parts}
-use Rattle.dv_catalog.proofs.ValidReads.{valid_parts}
-use Rattle.dv_catalog.specs.declared.tables.TableId.TheVariants as ids
-use Rattle.dv_crew.specs.Results.{AreResults}
-use Rattle.dv_vault.proofs.Vocabulary.{Err, HashedExtract, IfOk, Ok, Result, ext_get_or, get_or_from_slice_get, length-map-range_with_len, nil_from_length, slice_get-map}
+use Rattle.dv_vault.proofs.Vocabulary.{All, All-append, All-contains, All-nil, All-push, AreResults, Batch, Contains, Contains-append_left, Contains-append_right, Contains-cons_cases, Contains-cons_here, Contains-cons_there, Contains-get_or, Contains-nil, FeedDef, HashedExtract, Hashes, HubName}
+use Rattle.dv_vault.proofs.Vocabulary.{IfSome, IsBatch, IsHashedAt, IsResultOf, Keys, List, Mapping, None, Option, Some, Staged, TableBatch, TableId, TableRows, Task, TaskResult, Window, [], and_parts, ap, arith, ascends, batches_in, drop, effect_tables, ext_get_or, feed_block, feed_tables}
+use Rattle.dv_vault.proofs.Vocabulary.{feed_tasks, flat_map, flat_map_member, get_or, get_or_from_slice_get, got_from, inl, inr, is_valid, is_window, length, length-append, length-map, length-map-range_with_len, list_all, map, map_member, nat_lt, nat_tests, nil_from_length, option_map}
+use Rattle.dv_vault.proofs.Vocabulary.{option_map_or, passes_at, range_with_len, refl, same_Some, sat_tables, slice_get, slice_get-get_or, slice_get-map, slice_get_within, subst, suc, sym, tables, tables_of_feed, take, take-append-drop, tasks, true, valid_parts, window_parts, zero, ℕ, ◌*◌, ◌++◌}
+use Rattle.dv_vault.proofs.Vocabulary.{◌+◌, ◌<◌, ◌∙◌, ◌∷◌, ◌≡◌, ◌≤◌}
 use Rattle.dv_vault.proofs.WindowFacts.{rows_of_staged}
-use Rattle.dv_vault.specs.HashedWindows.{IsHashedAt}
-use Rattle.dv_vault.specs.Tasks.{IsBatch, IsBrought, IsFound, IsOfRows, IsResultOf, batches_in, brought_in, feed_block, feed_tasks, is_by, tables_of_feed, tasks}
-use Rattle.dv_vault.specs.declared.brought.Brought.{Brought}
-use Rattle.dv_vault.specs.declared.results.Found.{Found}
-use Rattle.dv_vault.specs.declared.results.TableBatch.{TableBatch}
-use Rattle.dv_vault.specs.declared.results.TaskResult.{TaskResult}
+use Rattle.dv_catalog.specs.declared.tables.TableId.TheVariants as ids
 use Rattle.dv_vault.specs.declared.results.TaskResult.TheVariants as gives
-use Rattle.dv_vault.specs.declared.tasks.Task.{Task}
-use Rattle.dv_vault.specs.declared.tasks.Task.TheVariants.{Batch, Keys}
-use Rattle.std.specs.Prelude.{IfSome}
-
--- ---- the extract of a feed
-
-same_number : (a b : ℕ) → a ≡ b → (a == b) ≡ true
-same_number a b e = grind (arith, nat_tests, e)
-
-later_number : (a b : ℕ) → nat_lt a b ≡ true → (a == b) ≡ false
-later_number a b e = grind (arith, nat_tests, e)
-
--- an extract of a window is found by its feed
-found_by_feed : (extracts : List Staged) → ascends (map (λ staged. staged.feed) extracts) ≡ true → (staged : Staged) → Contains extracts staged → find (λ other. other.feed == staged.feed) extracts ≡ Some staged
-found_by_feed [] up staged has = Contains-nil staged has
-found_by_feed (first ∷ extracts) up staged has =
-    elim (Contains-cons_cases first extracts staged has) [
-      | inl is ↦ rw (same_number first.feed staged.feed (ap (λ (s : Staged). s.feed) is)) (ap (λ s. Some s) is)
-      | inr more ↦ rw (later_number first.feed staged.feed (passes_at (nat_lt first.feed) (map (λ staged. staged.feed) extracts) staged.feed before.0 (Contains-map (λ (s : Staged). s.feed) extracts staged more))) (found_by_feed extracts before.1 staged more)
-    ]
-  where
-    before : (list_all (nat_lt first.feed) (map (λ staged. staged.feed) extracts) ≡ true) × (ascends (map (λ staged. staged.feed) extracts) ≡ true)
-    before = and_parts (list_all (nat_lt first.feed) (map (λ staged. staged.feed) extracts)) (ascends (map (λ staged. staged.feed) extracts)) up
-
-pub own_extract : (mapping : Mapping) (window : Window) → is_window mapping window ≡ true → (staged : Staged) → Contains window.extracts staged → staged_of staged.feed window ≡ Some staged
-own_extract mapping window whole staged has = found_by_feed window.extracts (window_parts mapping window whole).ascending staged has
-
--- ---- what feeds bring
-
-same_parent : (a b : Parent) → parent_eq a b ≡ true → a ≡ b
-same_parent (Hub a) (Hub b) e = ap Hub (eqb-true a b e)
-same_parent (Link a) (Link b) e = ap Link (eqb-true a b e)
-same_parent (Hub a) (Link b) e = let no : false ≡ true = e in cc
-same_parent (Link a) (Hub b) e = let no : false ≡ true = e in cc
-
-module _ (mapping : Mapping) (hashes : Hashes) where
-  -- what is gathered of an extract's feed and a parent is what its rows bring
-  pub found_offers : (staged : Staged) (parent : Parent) (brought : List Brought) (found : Option (Bor Brought)) (one : Bor Brought) → option_map (λ one. one.now) found ≡ find (λ one. is_by staged.feed parent one) brought
-      → found ≡ Some one → All (IsOfRows mapping hashes staged) brought → map (offered_by hashes) one.now.offers.items ≡ kept hashes staged.feed (refs_from mapping parent staged)
-  found_offers staged parent brought found one is got all =
-      let (member, passes) = found_member (λ one. is_by staged.feed parent one) brought one.now (sym is ∙ ap (option_map (λ (one : Bor Brought). one.now)) got) in
-      let (feed, of) = and_parts (one.now.feed == staged.feed) (parent_eq one.now.parent parent) passes in
-      All-contains (IsOfRows mapping hashes staged) brought one.now all member (eqb-true one.now.feed staged.feed feed)
-      ∙ ap (λ parent. kept hashes staged.feed (refs_from mapping parent staged)) (same_parent one.now.parent parent of)
-
-  -- what is gathered of a window is of the rows of each of its extracts
-  pub of_rows : (window : Window) → is_window mapping window ≡ true → (staged : Staged) → Contains window.extracts staged → (brought : List Brought) → All (IsBrought mapping hashes window) brought → All (IsOfRows mapping hashes staged) brought
-  of_rows window whole staged has brought all = All-weaker (IsBrought mapping hashes window) (IsOfRows mapping hashes staged) here brought all
-    where
-      here : (one : Brought) → IsBrought mapping hashes window one → IsOfRows mapping hashes staged one
-      here one is feed =
-          let same : is.staged ≡ staged = same_Some is.staged staged (sym is.there ∙ ap (λ n. staged_of n window) feed ∙ own_extract mapping window whole staged has) in
-          subst (λ s. IsOfRows mapping hashes s one) same is.offers feed
-
-  -- what is gathered of the rows of a feed's extract is gathered of the window
-  pub of_window : (window : Window) (staged : Staged) (feed : ℕ) → Some staged ≡ staged_of feed window → staged.feed ≡ feed → (brought : List Brought) → All (λ one. (one.feed ≡ staged.feed) × IsOfRows mapping hashes staged one) brought
-      → All (λ one. (one.feed ≡ feed) × IsBrought mapping hashes window one) brought
-  of_window window staged feed is number brought all =
-      All-weaker (λ one. (one.feed ≡ staged.feed) × IsOfRows mapping hashes staged one) (λ one. (one.feed ≡ feed) × IsBrought mapping hashes window one)
-      (λ one are. (are.0 ∙ number, record { staged = staged; there = ap (λ n. staged_of n window) (are.0 ∙ number) ∙ sym is; offers = are.1 })) brought all
 
 -- ---- how many tasks there are
 
@@ -179,15 +111,7 @@ parents_first mapping =
     let all = length-append (map (λ n. ids.Hub n) (range_with_len 0 (length mapping.hubs)) ++ map (λ n. ids.Link n) (range_with_len 0 (length mapping.links))) (feed_tables 0 mapping.feeds) in
     omega (arith, hubs, links, parents, all)
 
-pub few_parents : (mapping : Mapping) → is_valid mapping ≡ true → length mapping.hubs + length mapping.links ≤ 256
-few_parents mapping valid = let parts = valid_parts mapping valid in let hubs = parts.few_hubs in let links = parts.few_links in omega (arith, hubs, links)
-
 -- ---- what is found
-
--- what two clauses say together
-pub both_say : {X E : Type 0} (result : Result X E) (P Q R : X → Type 0) → ((x : X) → P x → Q x → R x) → IfOk result P → IfOk result Q → IfOk result R
-both_say (Ok x) P Q R together p q = together x p q
-both_say (Err e) P Q R together p q = tt
 
 -- what each task gives holds of all results
 pub of_results : {X : Type 0} (P : X → Type 0) (gives : ℕ → X → Type 0) (count : ℕ) (results : List X) → AreResults gives count results → ((place : ℕ) (out : X) → gives place out → P out) → All P results
@@ -217,26 +141,17 @@ all_parts P f [] each = All-nil P
 all_parts P f (x ∷ xs) each = All-append P (f x) (flat_map f xs) (each x (Contains-cons_here x xs)) (all_parts P f xs (λ y has. each y (Contains-cons_there x xs y has)))
 
 module _ (mapping : Mapping) (hashes : Hashes) (names : List HubName) (window : Window) (entries : List TableRows) where
-  sound_brought : (task : Task) (given : TaskResult) → IsResultOf mapping hashes names window entries task given → All (IsBrought mapping hashes window) (brought_in given)
-  sound_brought (Keys feed) (gives.Keys brought) is = All-weaker (λ one. (one.feed ≡ feed) × IsBrought mapping hashes window one) (IsBrought mapping hashes window) (λ one are. are.1) brought.items is
-  sound_brought (Batch table) (gives.Batch batch) is = All-nil (IsBrought mapping hashes window)
-  sound_brought (Keys feed) (gives.Batch batch) is = absurd is
-  sound_brought (Batch table) (gives.Keys brought) is = absurd is
-
   sound_batches : (task : Task) (given : TaskResult) → IsResultOf mapping hashes names window entries task given → All (IsBatch mapping hashes names window entries) (batches_in given)
-  sound_batches (Keys feed) (gives.Keys brought) is = All-nil (IsBatch mapping hashes names window entries)
   sound_batches (Batch table) (gives.Batch batch) is = All-push (IsBatch mapping hashes names window entries) [] batch (All-nil (IsBatch mapping hashes names window entries)) is.0
-  sound_batches (Keys feed) (gives.Batch batch) is = absurd is
-  sound_batches (Batch table) (gives.Keys brought) is = absurd is
+  sound_batches (Batch table) gives.Keys is = absurd is
+  sound_batches (Keys feed) given is = subst (All (IsBatch mapping hashes names window entries)) (sym is) (All-nil (IsBatch mapping hashes names window entries))
 
-  -- what the results of tasks have is sound
-  pub all_found : (ts : List Task) (count : ℕ) (results : List TaskResult) (found : Found) → count ≡ length ts
+  -- the batches that tasks give are such
+  pub all_batches : (ts : List Task) (count : ℕ) (results : List TaskResult) → count ≡ length ts
       → AreResults (λ n given. IfSome (slice_get ts n) (λ task. IsResultOf mapping hashes names window entries task given)) count results
-      → found.brought.items ≡ flat_map brought_in results → found.batches.items ≡ flat_map batches_in results → IsFound mapping hashes names window entries found
-  all_found ts count results found counted are brought batches = record {
-    brought = subst (All (IsBrought mapping hashes window)) (sym brought) (all_parts (IsBrought mapping hashes window) brought_in results (λ given has. let own = of_task given has in sound_brought own.0 given own.1));
-    batches = subst (All (IsBatch mapping hashes names window entries)) (sym batches) (all_parts (IsBatch mapping hashes names window entries) batches_in results (λ given has. let own = of_task given has in sound_batches own.0 given own.1));
-  }
+      → All (IsBatch mapping hashes names window entries) (flat_map batches_in results)
+  all_batches ts count results counted are =
+      all_parts (IsBatch mapping hashes names window entries) batches_in results (λ given has. let own = of_task given has in sound_batches own.0 given own.1)
     where
       of_task : (given : TaskResult) → Contains results given → (task : Task) × IsResultOf mapping hashes names window entries task given
       of_task given has =

@@ -1,14 +1,9 @@
 -- A table of a vault whose lists clash is the hub or the link in which windows collide, and without a clash they don't.
-use Rattle.dv_vault.proofs.Vocabulary.{Contains, All, List, None, Option, Some, [], ap, length, map, nat_le, refl, reverse, subst, sym, true, ◌++◌, ◌∙◌, ◌∷◌, ◌≡◌, and_parts, list_all, range_with_len, option_map, option_or, is_none}
-use Rattle.dv_vault.proofs.Vocabulary.{HasNoClash, IsLeastClash, Hashed, HubName, Contains-cons_here, Contains-nil, map_member, All-head, All-tail, Contains-append_right, All-cons, All-nil, Hashes, ascends, is_window, are_windows_valid}
-use Rattle.dv_vault.proofs.Vocabulary.{table_entry, vault, table_of, Mapping, feed_tables, tables, is_valid, map-append, map-map, reverse-append, reverse-reverse, Parent, Hub, Link, TableId, TableRows, Window, AreApart, AreApartBy}
-use Rattle.dv_vault.proofs.Vocabulary.{IsFirstClash, HasSealed, RawVault, hashed_in, hub_names, Pair, collision, collision_in, first_collision, parents, none_from, vault_weight, TellLists, collision_free, none_collide}
-use Rattle.dv_vault.proofs.Vocabulary.{next_least as hub_least, next_none as hub_none, hub_apart}
-use Rattle.dv_hub_link.proofs.LinkWindows.{next_least as link_least, next_none as link_none}
-use Rattle.dv_vault.proofs.FeedLists.{reversed_whole}
-use Rattle.dv_vault.proofs.FeedTables.{of_feeds}
-use Rattle.dv_vault.proofs.NamedHubs.{hubs_named}
-use Rattle.dv_records.specs.Backwards.{backwards}
+use Rattle.dv_vault.proofs.Vocabulary.{All, All-cons, All-head, All-nil, All-tail, AreApart, AreApartBy, Contains, Contains-append_right, Contains-cons_here, Contains-nil, HasNoClash, HasSealed, Hashed, Hashes, Hub, HubName, IsFirstClash, IsLeastClash, Link, List, Mapping, None, Option, Pair}
+use Rattle.dv_vault.proofs.Vocabulary.{Parent, RawVault, Some, TableId, TableRows, TellLists, Window, [], and_parts, ap, are_windows_valid, ascends, backwards, collision, collision_free, collision_in, feed_tables, first_collision, hashed_in, hub_apart, hub_least, hub_names, hub_none, is_none}
+use Rattle.dv_vault.proofs.Vocabulary.{is_valid, is_window, length, link_least, link_none, list_all, map, map-append, map-map, map_member, nat_le, none_collide, none_from, option_map, option_or, parents, range_with_len, refl, reverse, reverse-append, reverse-reverse, subst, sym, table_entry}
+use Rattle.dv_vault.proofs.Vocabulary.{table_of, tables, true, vault, vault_weight, ◌++◌, ◌∙◌, ◌∷◌, ◌≡◌}
+use Rattle.dv_vault.proofs.{FeedLists.reversed_whole, FeedTables.of_feeds, NamedHubs.hubs_named}
 
 -- windows with one more, the newest first and back again
 pub turned_back : (sealed : List Window) (window : Window) → reverse (window ∷ reverse sealed) ≡ sealed ++ window ∷ []

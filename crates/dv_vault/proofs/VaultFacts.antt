@@ -1,9 +1,7 @@
 -- Where the rows of a table stand among the tables of a vault.
-use Rattle.dv_vault.proofs.Vocabulary.{got_from, none_found_at, none_pass, table_eq-itself, ◌≡◌, ℕ, ◌<◌, Bool, true, false, List, [], ◌∷◌, Option, Some, None, Bor, refl, sym, ◌∙◌, ap, subst, length, map, ◌||◌, Contains, IfNone, IfSome}
-use Rattle.dv_vault.proofs.Vocabulary.{find, if◌then◌else◌, option_map, false≢true, TableId, Mapping, tables, Indexed, Rows, TableRows, no_rows, rows_in, table_eq, found_member, some_passes, some_passes_at, Contains-map, map_member}
-use Rattle.dv_vault.proofs.Vocabulary.{has_hub, has_link, has_status, same_table, IsVaultOf, has_table, entry_of, is_of_kind, Table, cond, length-map, nat_lt, not, ◌+◌}
-use Rattle.std.proofs.lemmas.Bool.{false_from_ne_true}
-use Rattle.std.specs.List.{position, prefix_len}
+use Rattle.dv_vault.proofs.Vocabulary.{Bool, Bor, Contains, Contains-map, IfNone, IfSome, Indexed, IsVaultOf, List, Mapping, None, Option, Rows, Some, Table, TableId, TableRows, [], ap, cond, entry_of, false, false_from_ne_true, false≢true, find, found_member, got_from, has_hub, has_link}
+use Rattle.dv_vault.proofs.Vocabulary.{has_status, has_table, if◌then◌else◌, is_of_kind, length, length-map, map, map_member, nat_lt, no_rows, none_found_at, none_pass, not, option_map, position, prefix_len, refl, rows_in, same_table, some_passes, some_passes_at, subst, sym, table_eq}
+use Rattle.dv_vault.proofs.Vocabulary.{table_eq-itself, tables, true, ℕ, ◌+◌, ◌<◌, ◌||◌, ◌∙◌, ◌∷◌, ◌≡◌}
 use Rattle.dv_vault.specs.declared.tables.Table.TheVariants as variants
 use Rattle.dv_catalog.specs.declared.tables.TableId.TheVariants as ids
 

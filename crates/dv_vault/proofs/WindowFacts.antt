@@ -1,10 +1,9 @@
 -- What the rows of a window of the mapping fit: what they are hashed in, and the tables of hubs and links.
-use Rattle.dv_vault.proofs.Vocabulary.{◌≡◌, ℕ, suc, ◌+◌, ◌<◌, ◌≤◌, inl, inr, Bool, true, false, not, List, [], ◌∷◌, Option, Some, None, cond, length, map, nat_le, refl, sym, ◌∙◌, ap, subst, arith, le-leb, ◌==◌, Contains, if◌then◌else◌, slice_get, sum_by, slice_get_within, flat_map, list_all}
-use Rattle.dv_vault.proofs.Vocabulary.{and_from, and_parts, eqb-true, Key, NRow, Staged, Window, is_missing, Contains-cons_cases, Contains-nil, filtered_members, map_member, flat_map_member, FeedDef, HubDef, LinkDef, Parent, Hub, Link, Mapping, feed_hubs, hubs_by, is_fed_by, keys_at, parent_eq}
-use Rattle.dv_vault.proofs.Vocabulary.{link_hubs, parent_hubs, parts_of, is_valid, valid_feed, valid_hub, valid_link, attrs_fit, refs_fit, texts_fit, Delivery, deliveries, offers_of, refs_from, table_of, all_refs, fit_hubs, fits_hub, is_field, is_key_part, is_staged, is_window, deliveries_member}
-use Rattle.dv_vault.proofs.Vocabulary.{first_offer-member, all_pass, all_pass_weaker, passes_at, AreRows, HasForm, field_text, key_form, key_part, staged_rows, window_parts}
+use Rattle.dv_vault.proofs.Vocabulary.{AreRows, Bool, Contains, Contains-cons_cases, Contains-nil, Delivery, FeedDef, HasForm, Hub, HubDef, IsStrictlySortedBy, Key, Link, LinkDef, List, Mapping, NRow, None, Option, Parent, Some, Staged, Window, [], all_pass, all_pass_weaker, all_refs, and_from}
+use Rattle.dv_vault.proofs.Vocabulary.{and_parts, ap, arith, attrs_fit, cond, deliveries, deliveries_member, eqb-true, false, feed_hubs, field_text, filtered_members, first_offer-member, fit_hubs, fits_hub, flat_map, flat_map_member, hubs_by, if◌then◌else◌, inl, inr, is_fed_by, is_field}
+use Rattle.dv_vault.proofs.Vocabulary.{is_key_part, is_missing, is_staged, is_valid, is_window, key_form, key_part, keys_at, le-leb, length, link_hubs, list_all, map, map_member, nat_le, not, offers_of, parent_eq, parent_hubs, parts_of, passes_at, refl, refs_fit, refs_from, slice_get}
+use Rattle.dv_vault.proofs.Vocabulary.{slice_get_within, staged_rows, subst, suc, sum_by, sym, table_of, texts_fit, true, valid_feed, valid_hub, valid_link, window_parts, ℕ, ◌+◌, ◌<◌, ◌==◌, ◌∙◌, ◌∷◌, ◌≡◌, ◌≤◌}
 use Rattle.dv_text.specs.Orders.{row_cmp}
-use Rattle.dv_vault.proofs.Vocabulary.{IsStrictlySortedBy}
 
 -- ---- texts and keys
 

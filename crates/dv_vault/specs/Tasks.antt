@@ -1,33 +1,35 @@
 -- The tasks of a window, which can be done in any order, and what each gives.
-use Rattle.std.specs.Prelude.{◌≡◌, ℕ, ◌==◌, ◌&&◌, All, Bool, List, [], ◌∷◌, ◌++◌, Result, Some, IfOk, IfSome, map, slice_get}
+use Rattle.std.specs.Prelude.{◌≡◌, ℕ, All, List, [], ◌∷◌, ◌++◌, Result, Some, IfOk, IfSome, length, map, slice_get}
 use Rattle.std.specs.List.{flat_map}
 use Rattle.std.specs.Option.{option_map, option_map_or}
-use Rattle.dv_text.specs.declared.rows.Staged.{Staged}
 use Rattle.dv_text.specs.declared.rows.Window.{Window}
 use Rattle.dv_text.specs.Keys.{Hashes}
+use Rattle.dv_board.specs.KeyTables.{Offerer}
 use Rattle.dv_catalog.specs.declared.entries.FeedDef.{FeedDef}
-use Rattle.dv_catalog.specs.declared.entries.Parent.{Parent}
 use Rattle.dv_catalog.specs.declared.tables.TableId.{TableId}
 use Rattle.dv_catalog.specs.declared.tables.TableId.TheVariants as ids
 use Rattle.dv_catalog.specs.Entries.{Mapping}
-use Rattle.dv_catalog.specs.Feeds.{parent_eq}
 use Rattle.dv_catalog.specs.Tables.{effect_tables, sat_tables}
+use Rattle.dv_crew.specs.Results.{AreResults}
 use Rattle.dv_records.specs.declared.deliveries.DeltaFault.{DeltaFault}
 use Rattle.dv_records.specs.declared.stores.Rows.{Rows}
 use Rattle.dv_records.specs.declared.stores.TableRows.{TableRows}
-use Rattle.dv_records.specs.Deliveries.{refs_from}
 use Rattle.dv_records.specs.Deltas.{HasNoClash, IfCollides, IsLeastClash}
 use Rattle.dv_records.specs.HubNames.{HubName}
 use Rattle.dv_records.specs.RowViews.{AreOfLoad}
-use Rattle.dv_vault.specs.declared.brought.Brought.{Brought}
 use Rattle.dv_vault.specs.declared.tasks.Task.{Task}
 use Rattle.dv_vault.specs.declared.tasks.Task.TheVariants.{Batch, Keys}
+use Rattle.dv_vault.specs.declared.hashed_windows.HashedWindow.{HashedWindow}
+use Rattle.dv_vault.specs.declared.named_hubs.HubKeys.{HubKeys}
+use Rattle.dv_vault.specs.declared.offered_items.ItemRange.{ItemRange}
 use Rattle.dv_vault.specs.declared.results.Found.{Found}
 use Rattle.dv_vault.specs.declared.results.TableBatch.{TableBatch}
 use Rattle.dv_vault.specs.declared.results.TaskResult.{TaskResult}
 use Rattle.dv_vault.specs.declared.results.TaskResult.TheVariants as gives
-use Rattle.dv_vault.specs.Offered.{kept, offered_by}
-use Rattle.dv_vault.specs.Vaults.{Follow, added_to, hashed_in, staged_of}
+use Rattle.dv_vault.specs.declared.tables.Table.{Table}
+use Rattle.dv_vault.specs.declared.window_items.WindowItem.{WindowItem}
+use Rattle.dv_vault.specs.Vaults.{Follow, added_to, entry_of, hashed_in, names_of_hubs}
+use Rattle.dv_vault.specs.WindowItems.{IsKept, OffersOf, item_of}
 
 -- ---- the tasks
 
@@ -45,23 +47,6 @@ feed_tasks mapping feed = Keys feed ∷ map (λ table. Batch table) (tables_of_f
 -- the tasks of a window, in the order of their numbers: those of each of its feeds, which stand in declared order
 abbrev pub tasks : Mapping → Window → List Task
 tasks mapping window = flat_map (λ staged. feed_tasks mapping staged.feed) window.extracts
-
--- ---- what a feed's rows bring
-
--- where it is of the feed of an extract, it is what the extract's rows bring
-abbrev pub IsOfRows : Mapping → Hashes → Staged → Brought → Type 0
-IsOfRows mapping hashes staged brought =
-    brought.feed ≡ staged.feed → map (offered_by hashes) brought.offers.items ≡ kept hashes staged.feed (refs_from mapping brought.parent staged)
-
--- what the rows of a feed of a window bring to a hub or a link
-pub record IsBrought (mapping : Mapping) (hashes : Hashes) (window : Window) (brought : Brought) : Type 0 where
-  pub staged : Staged
-  pub there : staged_of brought.feed window ≡ Some staged
-  pub offers : IsOfRows mapping hashes staged brought
-
--- whether it is what a feed brings to a hub or a link
-abbrev pub is_by : ℕ → Parent → Brought → Bool
-is_by feed parent brought = (brought.feed == feed) && parent_eq brought.parent parent
 
 -- ---- what a window adds to a table
 
@@ -81,26 +66,31 @@ pub record IsBatch (mapping : Mapping) (hashes : Hashes) (names : List HubName) 
 
 -- ---- results
 
--- what a task gives: of keys, what the rows of its feed bring; of a table, what the window adds to it
+-- the batch that a result has, if it has one
+abbrev pub batches_in : TaskResult → List TableBatch
+batches_in gives.Keys = []
+batches_in (gives.Batch batch) = batch ∷ []
+
+-- what a task gives: of keys nothing; of a table, what the window adds to it
 abbrev pub IsResultOf : Mapping → Hashes → List HubName → Window → List TableRows → Task → TaskResult → Type 0
-IsResultOf mapping hashes names window entries (Keys feed) (gives.Keys brought) = All (λ one. (one.feed ≡ feed) × IsBrought mapping hashes window one) brought.items
 IsResultOf mapping hashes names window entries (Batch table) (gives.Batch batch) = IsBatch mapping hashes names window entries batch × (option_map (λ entry. entry.table) (slice_get entries batch.place) ≡ Some table)
-IsResultOf mapping hashes names window entries task result = ⊥
+IsResultOf mapping hashes names window entries (Batch table) gives.Keys = ⊥
+IsResultOf mapping hashes names window entries (Keys feed) result = batches_in result ≡ []
 
 -- what the task at a place among the tasks of a window gives
 abbrev pub IsResultAt : Mapping → Hashes → List HubName → Window → List TableRows → ℕ → TaskResult → Type 0
 IsResultAt mapping hashes names window entries place given = IfSome (slice_get (tasks mapping window) place) (λ task. IsResultOf mapping hashes names window entries task given)
 
--- what the tasks of a window, or some of them, have given
+-- These are the results of the tasks of a window, in their order.
+abbrev pub AreGiven : Mapping → Hashes → List HubName → Window → List TableRows → List TaskResult → Type 0
+AreGiven mapping hashes names window entries results = AreResults (IsResultAt mapping hashes names window entries) (length (tasks mapping window)) results
+
+-- The task at a place is done: its items were offered, and this is what it gives.
+abbrev pub IsDoneAt : Mapping → Hashes → HubKeys → HashedWindow → List Table → List WindowItem → List ItemRange → ℕ → Offerer → Offerer → TaskResult → Type 0
+IsDoneAt mapping hashes names window tables items ranges place before after given =
+    OffersOf (map item_of items) ranges place before after × IsResultAt mapping hashes (names_of_hubs names) window.window.now (map entry_of tables) place given
+
+-- what the tasks of a window, or some of them, have found: the keys that the window brings, and batches
 pub record IsFound (mapping : Mapping) (hashes : Hashes) (names : List HubName) (window : Window) (entries : List TableRows) (found : Found) : Type 0 where
-  pub brought : All (IsBrought mapping hashes window) found.brought.items
+  pub kept : IsKept mapping hashes window found.kept
   pub batches : All (IsBatch mapping hashes names window entries) found.batches.items
-
--- what a result has of keys, and of rows
-abbrev pub brought_in : TaskResult → List Brought
-brought_in (gives.Keys brought) = brought.items
-brought_in (gives.Batch batch) = []
-
-abbrev pub batches_in : TaskResult → List TableBatch
-batches_in (gives.Keys brought) = []
-batches_in (gives.Batch batch) = batch ∷ []

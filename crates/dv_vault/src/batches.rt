@@ -1,5 +1,5 @@
 // What a window adds to all tables.
-ghost use Rattle.std.specs.Prelude.{◌≡◌, ◌+◌, ◌<◌, All, IfErr, IfOk, IsTrue, Some, length, map, slice_get, sum_by};
+ghost use Rattle.std.specs.Prelude.{◌≡◌, ◌+◌, ◌<◌, All, IfErr, IfOk, IfSome, IsTrue, Some, length, map, slice_get, sum_by};
 ghost use Rattle.std.specs.List.{list_all};
 ghost use Rattle.dv_text.specs.Keys.{hashes_of};
 ghost use Rattle.dv_catalog.specs.Mappings.{is_valid};
@@ -12,13 +12,14 @@ ghost use Rattle.dv_records.specs.Stores.{no_rows as spec_no_rows, row_count};
 ghost use Rattle.dv_records.specs.Weights.{rows_weight};
 ghost use Rattle.dv_vault.specs.Additions as spec;
 ghost use Rattle.dv_vault.specs.HashedWindows.{IsHashedWindow};
-ghost use Rattle.dv_vault.specs.Tasks.{IsBrought, IsDelta, IsFound};
+ghost use Rattle.dv_vault.specs.Tasks.{IsDelta, IsFound};
 ghost use Rattle.dv_vault.specs.Vaults.{added_to, entry_of, hashed_in, names_of_hubs};
+ghost use Rattle.dv_vault.specs.WindowItems.{IsKept};
 
 use crate::additions::{AdditionFault, fault_of};
-use crate::brought::Brought;
 use crate::hashed_windows::HashedWindow;
 use crate::hub_keys::HubKeys;
+use crate::kept_keys::{KeptKeys, kept_keys};
 use crate::results::{Found, take_batch};
 use crate::tables::Table;
 use dv_catalog::Catalog;
@@ -60,15 +61,15 @@ pub fn weight_with(weight_before: u64, batches: &[Rows]) -> Result<u64, Memory>
     Ok(sum)
 }
 
-/// The rows that a window adds to the table at a place, or the least collision that it makes there. What feeds bring
-/// to hubs and links that is gathered already is not gathered again.
+/// The rows that a window adds to the table at a place, or the least collision that it makes there. What the
+/// table of the window's keys keeps is not worked out again.
 pub(crate) fn delta_of<'b, H: KeyDigest>(
     alloc: Global,
     tables: &[Table],
     place: usize,
     names: &HubKeys<'_>,
     window: &'b HashedWindow<'_>,
-    brought: &[Brought<'b>],
+    kept: Option<&KeptKeys<'b>>,
     catalog: &Catalog,
     digest: &H,
 ) -> Result<Rows, DeltaFault>
@@ -78,10 +79,10 @@ pub(crate) fn delta_of<'b, H: KeyDigest>(
     requires valid { IsTrue (is_valid catalog.now) }
     requires window { IsTrue (is_window catalog.now window.now.window.now) }
     requires gathered { IsHashedWindow (hashes_of H.function) window.now }
-    requires brought { All (IsBrought catalog.now (hashes_of H.function) window.now.window.now) brought.now }
+    requires kept { IfSome kept (λ kept. IsKept catalog.now (hashes_of H.function) window.now.window.now kept.now) }
     ensures { (entry : TableRows) → slice_get (map entry_of tables.now) place ≡ Some entry → IsDelta catalog.now (hashes_of H.function) (names_of_hubs names.now) window.now.window.now entry result }
 {
-    tables[place].delta(alloc, names, window, brought, catalog, digest)
+    tables[place].delta(alloc, names, window, kept, catalog, digest)
 }
 
 // The rows that a window adds to the table at a place, or the least collision that it makes there: as they are found
@@ -114,7 +115,7 @@ fn delta_at<'b, H: KeyDigest>(
             place,
             names,
             window,
-            &found.brought,
+            Some(&found.kept),
             catalog,
             digest,
         ),
@@ -174,6 +175,8 @@ pub(crate) fn all_deltas<H: KeyDigest>(
     ensures follow { IfOk result (spec.FollowAll window.now.window.now.load (map entry_of tables.now)) }
     ensures clashes { IfErr result (spec.ClashesAt catalog.now (hashes_of H.function) (names_of_hubs names.now) window.now.window.now (map entry_of tables.now)) }
 {
-    let found = Found::none(alloc);
+    let kept = kept_keys(alloc, catalog, window, digest)?;
+    let batches = Vec::new(alloc);
+    let found = Found { kept, batches };
     deltas_beside(alloc, tables, names, window, catalog, digest, found)
 }

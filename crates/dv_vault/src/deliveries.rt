@@ -1,8 +1,7 @@
 // What a window delivers to a hub or a link.
-ghost use Rattle.std.specs.Prelude.{◌≡◌, ◌∷◌, ◌++◌, [], All, IfOk, IsTrue, OnOk, map};
+ghost use Rattle.std.specs.Prelude.{◌≡◌, ◌∷◌, ◌++◌, [], IfOk, IfSome, IsTrue, OnOk, map};
 ghost use Rattle.std.specs.List.{list_all};
 ghost use Rattle.dv_text.specs.Keys.{hashes_of};
-ghost use Rattle.dv_text.specs.Sorting.{sorted_by};
 ghost use Rattle.dv_catalog.specs.Mappings.{is_valid};
 ghost use Rattle.dv_digest.specs.Fits as fits;
 ghost use Rattle.dv_records.specs.Deliveries as spec;
@@ -11,46 +10,16 @@ ghost use Rattle.dv_records.specs.States.{is_window};
 ghost use Rattle.dv_vault.specs.DeliverySets.{AreDeliveriesOf};
 ghost use Rattle.dv_vault.specs.HashedWindows.{IsHashedWindow};
 ghost use Rattle.dv_vault.specs.Offered as offered;
-ghost use Rattle.dv_vault.specs.Tasks.{IsBrought};
+ghost use Rattle.dv_vault.specs.WindowItems.{IsKept};
 
-use crate::brought::{Brought, add_brought};
 use crate::hashed_windows::HashedWindow;
+use crate::kept_keys::{KeptKeys, kept_deliveries, kept_keys};
 use crate::offers::Offer;
 use dv_catalog::{Catalog, Parent, TableId};
 use dv_digest::{Room, hash_key, refs_fit};
 use dv_records::HashedDelivery;
 use dv_text::{Digest, Key, KeyDigest, List, Memory};
 use std::alloc::Global;
-
-// What the rows of a window bring to a hub or a link, feed by feed.
-fn all_offers<'b, 'a, H: KeyDigest>(
-    alloc: Global,
-    catalog: &Catalog,
-    window: &'b HashedWindow<'a>,
-    parent: Parent,
-    brought: &[Brought<'b>],
-) -> Result<Vec<Offer<'b>>, Memory>
-    requires window { IsTrue (is_window catalog.now window.now.window.now) }
-    requires gathered { IsHashedWindow (hashes_of H.function) window.now }
-    requires brought { All (IsBrought catalog.now (hashes_of H.function) window.now.window.now) brought.now }
-    ensures { IfOk result (λ offers. map (offered.offered_by (hashes_of H.function)) offers.items ≡ offered.all_offered (hashes_of H.function) catalog.now parent window.now.window.now.extracts) }
-{
-    let mut offers = Vec::new(alloc);
-    for extract in window.extracts.items() {
-        add_brought::<H>(&mut offers, catalog, extract, parent, brought)?;
-    }
-    Ok(offers)
-}
-
-// The offers in the order of their references; of those with equal ones, the first.
-fn first_offers(offers: Vec<Offer>) -> Result<Vec<Offer>, Memory>
-    ensures { IfOk result (λ firsts. firsts.items ≡ sorted_by offered.offer_cmp offers.entry.items) }
-{
-    let mut offers = offers;
-    offers.sort_by_key(|offer| offer.refs)?;
-    offers.dedup_by_key(|offer| offer.refs);
-    Ok(offers)
-}
 
 // The hash key of a reference list: the one that is told, else it is worked out.
 fn key_of<H: KeyDigest>(digest: &H, told: Option<&Digest>, refs: &[Key], room: &mut Room) -> Digest
@@ -86,8 +55,8 @@ fn add_delivery<'a, H: KeyDigest>(
     items.push(item)
 }
 
-// Offers as deliveries to a table.
-fn to_deliveries<'a, H: KeyDigest>(
+/// Offers as deliveries to a table.
+pub(crate) fn to_deliveries<'a, H: KeyDigest>(
     alloc: Global,
     table: TableId,
     offers: &[Offer<'a>],
@@ -104,7 +73,8 @@ fn to_deliveries<'a, H: KeyDigest>(
     Ok(items)
 }
 
-fn table_of(parent: Parent) -> TableId
+/// The table of a hub or a link.
+pub(crate) fn table_of(parent: Parent) -> TableId
     ensures { result ≡ spec.table_of parent }
 {
     match parent {
@@ -115,23 +85,28 @@ fn table_of(parent: Parent) -> TableId
 
 /// What a window delivers to a hub or a link: each reference list that its rows bring once, by the first feed
 /// that brings it, with its hash key, in any order; a list whose keys are all missing is left out. A link's feed
-/// brings to each of its hubs the hub's key. The lists are lent from the window. What feeds bring to it that is
-/// gathered already is not gathered again. Conditions: it is a window of the mapping, and has its hash keys.
+/// brings to each of its hubs the hub's key. The lists are lent from the window. What the table of the window's keys keeps
+/// is not worked out again. Conditions: it is a window of the mapping, and has its hash keys.
 pub(crate) fn deliveries<'b, 'a, H: KeyDigest>(
     alloc: Global,
     catalog: &Catalog,
     window: &'b HashedWindow<'a>,
     parent: Parent,
-    brought: &[Brought<'b>],
+    kept: Option<&KeptKeys<'b>>,
     digest: &H,
 ) -> Result<List<HashedDelivery<'b>>, Memory>
     requires valid { IsTrue (is_valid catalog.now) }
     requires window { IsTrue (is_window catalog.now window.now.window.now) }
     requires gathered { IsHashedWindow (hashes_of H.function) window.now }
-    requires brought { All (IsBrought catalog.now (hashes_of H.function) window.now.window.now) brought.now }
+    requires kept { IfSome kept (λ kept. IsKept catalog.now (hashes_of H.function) window.now.window.now kept.now) }
     ensures items { IfOk result (λ items. AreDeliveriesOf catalog.now parent window.now.window.now (delivered items)) }
     ensures hashed { IfOk result (AreHashed (hashes_of H.function)) }
 {
-    let offers = first_offers(all_offers::<H>(alloc, catalog, window, parent, brought)?)?;
-    to_deliveries(alloc, table_of(parent), &offers, digest)
+    match kept {
+        Some(kept) => kept_deliveries(alloc, catalog, window.window, parent, kept, digest),
+        None => {
+            let kept = kept_keys(alloc, catalog, window, digest)?;
+            kept_deliveries(alloc, catalog, window.window, parent, &kept, digest)
+        }
+    }
 }

@@ -1,9 +1,9 @@
 // What the tasks of a window give, and what is found by them.
-ghost use Rattle.std.specs.Prelude.{◌≡◌, ◌==◌, ◌++◌, [], Contains, IfOk, IfSome, OnOk, position};
+ghost use Rattle.std.specs.Prelude.{◌≡◌, ◌==◌, ◌++◌, Contains, IfOk, IfSome, OnOk, position};
 ghost use Rattle.std.specs.List.{flat_map};
 ghost use Rattle.dv_vault.specs.Tasks as spec;
 
-use crate::brought::Brought;
+use crate::kept_keys::KeptKeys;
 use dv_records::{DeltaFault, Rows};
 use dv_text::{List, Memory};
 use std::alloc::Global;
@@ -15,65 +15,57 @@ pub(crate) struct TableBatch {
     pub(crate) rows: Result<Rows, DeltaFault>,
 }
 
-/// What a task of a window gives.
+/// What a task of a window gives: a keys task nothing, since it offers its items to the table of the window's keys.
 #[derive(Drop)]
-pub(crate) enum TaskResult<'b> {
-    Keys(Vec<Brought<'b>>),
+pub(crate) enum TaskResult {
+    Keys,
     Batch(TableBatch),
 }
 
-/// What the tasks of a window, or some of them, have given.
+/// What the tasks of a window, or some of them, have found: the keys that the window brings, and batches.
 #[derive(Drop)]
 pub(crate) struct Found<'b> {
-    pub(crate) brought: Vec<Brought<'b>>,
+    pub(crate) kept: KeptKeys<'b>,
     pub(crate) batches: Vec<TableBatch>,
 }
 
 impl<'b> Found<'b> {
-    /// Nothing, where no task is done.
-    pub(crate) fn none(alloc: Global) -> Found<'b>
-        ensures brought { result.brought.items ≡ [] }
-        ensures batches { result.batches.items ≡ [] }
-    {
-        Found {
-            brought: Vec::new(alloc),
-            batches: Vec::new(alloc),
-        }
-    }
-
-    // Puts what a task has given behind the rest.
-    fn put(&mut self, given: TaskResult<'b>) -> Result<(), Memory>
-        ensures brought { OnOk result (self.new.brought.items ≡ self.old.brought.items ++ spec.brought_in given.entry) }
-        ensures batches { OnOk result (self.new.batches.items ≡ self.old.batches.items ++ spec.batches_in given.entry) }
-    {
-        match given {
-            TaskResult::Keys(mut more) => self.brought.append(&mut more)?,
-            TaskResult::Batch(batch) => self.batches.push(batch)?,
-        }
-        Ok(())
-    }
-
-    /// What tasks have given, put together.
-    pub(crate) fn of(alloc: Global, results: List<TaskResult<'b>>) -> Result<Found<'b>, Memory>
-        ensures brought { IfOk result (λ found. found.brought.items ≡ flat_map spec.brought_in results.entry) }
-        ensures batches { IfOk result (λ found. found.batches.items ≡ flat_map spec.batches_in results.entry) }
-    {
-        let mut found = Found::none(alloc);
-        for given in results.into_vec()? {
-            found.put(given)?;
-        }
-        Ok(found)
-    }
-
     /// With more batches behind the rest.
     pub(crate) fn with_batches(mut self, more: List<TableBatch>) -> Result<Found<'b>, Memory>
-        ensures brought { IfOk result (λ found. found.brought ≡ self.entry.brought) }
+        ensures kept { IfOk result (λ found. found.kept ≡ self.entry.kept) }
         ensures batches { IfOk result (λ found. found.batches.items ≡ self.entry.batches.items ++ more) }
     {
         let mut more = more.into_vec()?;
         self.batches.append(&mut more)?;
         Ok(self)
     }
+}
+
+// Puts the batch that a task has given behind the rest, if it has given one.
+fn put(batches: &mut Vec<TableBatch>, given: TaskResult) -> Result<(), Memory>
+    ensures { OnOk result (batches.new.items ≡ batches.old.items ++ spec.batches_in given) }
+{
+    match given {
+        TaskResult::Keys => Ok(()),
+        TaskResult::Batch(batch) => {
+            batches.push(batch)?;
+            Ok(())
+        }
+    }
+}
+
+/// The batches that tasks have given.
+pub(crate) fn batches_of(
+    alloc: Global,
+    results: List<TaskResult>,
+) -> Result<Vec<TableBatch>, Memory>
+    ensures { IfOk result (λ batches. batches.items ≡ flat_map spec.batches_in results) }
+{
+    let mut batches = Vec::new(alloc);
+    for given in results.into_vec()? {
+        put(&mut batches, given)?;
+    }
+    Ok(batches)
 }
 
 // The place of the first batch of the table at a place.

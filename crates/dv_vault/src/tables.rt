@@ -13,13 +13,13 @@ ghost use Rattle.dv_records.specs.RowViews.{AreOfLoad, is_up_to};
 ghost use Rattle.dv_records.specs.States.{is_window};
 ghost use Rattle.dv_records.specs.Stores.{no_rows, row_count, rows_then};
 ghost use Rattle.dv_vault.specs.HashedWindows.{IsHashedWindow};
-ghost use Rattle.dv_vault.specs.Tasks.{IsBrought};
 ghost use Rattle.dv_vault.specs.Vaults as spec;
 ghost use Rattle.dv_vault.specs.Vaults.{Follow, added_to, entry_of, hashed_in, spare_of};
+ghost use Rattle.dv_vault.specs.WindowItems.{IsKept};
 
-use crate::brought::Brought;
 use crate::deliveries::deliveries;
 use crate::hashed_windows::HashedWindow;
+use crate::kept_keys::KeptKeys;
 use dv_catalog::{Catalog, Parent, TableId};
 use dv_digest::HashedExtract;
 use dv_hub_link::{HubTable, LinkTable};
@@ -71,7 +71,7 @@ fn hub_rows<'b, H: KeyDigest>(
     hub: u32,
     table: &HubTable,
     window: &'b HashedWindow<'_>,
-    brought: &[Brought<'b>],
+    kept: Option<&KeptKeys<'b>>,
     catalog: &Catalog,
     digest: &H,
 ) -> Result<Rows, DeltaFault>
@@ -80,14 +80,14 @@ fn hub_rows<'b, H: KeyDigest>(
     requires window { IsTrue (is_window catalog.now window.now.window.now) }
     requires gathered { IsHashedWindow (hashes_of H.function) window.now }
     requires dated { IsTrue (is_up_to window.now.window.now.load (Rows.Hubs table.now.rows)) }
-    requires brought { All (IsBrought catalog.now (hashes_of H.function) window.now.window.now) brought.now }
+    requires kept { IfSome kept (λ kept. IsKept catalog.now (hashes_of H.function) window.now.window.now kept.now) }
     ensures rows { IfOk result (λ rows. rows ≡ spec.added catalog.now (hashes_of H.function) window.now.window.now (TableId.Hub hub) (Rows.Hubs table.now.rows)) }
     ensures apart { IfOk result (λ rows. HasNoClash (spec.hashed catalog.now (hashes_of H.function) [] window.now.window.now (TableId.Hub hub) (Rows.Hubs table.now.rows))) }
     ensures collision { IfCollides result (IsLeastClash (spec.hashed catalog.now (hashes_of H.function) [] window.now.window.now (TableId.Hub hub) (Rows.Hubs table.now.rows))) }
     ensures follow { IfOk result (λ rows. Follow (Rows.Hubs table.now.rows) rows) }
     ensures stamped { IfOk result (λ rows. AreOfLoad window.now.window.now.load rows) }
 {
-    let items = deliveries(alloc, catalog, window, Parent::Hub(hub), brought, digest)?;
+    let items = deliveries(alloc, catalog, window, Parent::Hub(hub), kept, digest)?;
     let rows = table.delta(window.window.load, &items, catalog, digest)?;
     Ok(Rows::Hubs(rows))
 }
@@ -99,7 +99,7 @@ fn link_rows<'b, H: KeyDigest, N: HubNames>(
     table: &LinkTable,
     names: &N,
     window: &'b HashedWindow<'_>,
-    brought: &[Brought<'b>],
+    kept: Option<&KeptKeys<'b>>,
     catalog: &Catalog,
     digest: &H,
 ) -> Result<Rows, DeltaFault>
@@ -108,14 +108,14 @@ fn link_rows<'b, H: KeyDigest, N: HubNames>(
     requires window { IsTrue (is_window catalog.now window.now.window.now) }
     requires gathered { IsHashedWindow (hashes_of H.function) window.now }
     requires dated { IsTrue (is_up_to window.now.window.now.load (Rows.Links table.now.rows)) }
-    requires brought { All (IsBrought catalog.now (hashes_of H.function) window.now.window.now) brought.now }
+    requires kept { IfSome kept (λ kept. IsKept catalog.now (hashes_of H.function) window.now.window.now kept.now) }
     ensures rows { IfOk result (λ rows. rows ≡ spec.added catalog.now (hashes_of H.function) window.now.window.now (TableId.Link link) (Rows.Links table.now.rows)) }
     ensures apart { IfOk result (λ rows. HasNoClash (spec.hashed catalog.now (hashes_of H.function) (N.names names.now) window.now.window.now (TableId.Link link) (Rows.Links table.now.rows))) }
     ensures collision { IfCollides result (IsLeastClash (spec.hashed catalog.now (hashes_of H.function) (N.names names.now) window.now.window.now (TableId.Link link) (Rows.Links table.now.rows))) }
     ensures follow { IfOk result (λ rows. Follow (Rows.Links table.now.rows) rows) }
     ensures stamped { IfOk result (λ rows. AreOfLoad window.now.window.now.load rows) }
 {
-    let items = deliveries(alloc, catalog, window, Parent::Link(link), brought, digest)?;
+    let items = deliveries(alloc, catalog, window, Parent::Link(link), kept, digest)?;
     let rows = table.delta(window.window.load, &items, names, catalog, digest)?;
     Ok(Rows::Links(rows))
 }
@@ -234,14 +234,14 @@ impl Table {
     }
 
     /// The rows that a window adds. Where two different keys of a hub, or reference lists of a link, have one
-    /// hash key, the error is the least such pair. What feeds bring to hubs and links that is gathered already is
-    /// not gathered again.
+    /// hash key, the error is the least such pair. What the table of
+    /// the window's keys keeps is not worked out again.
     pub(crate) fn delta<'b, H: KeyDigest, N: HubNames>(
         &self,
         alloc: Global,
         names: &N,
         window: &'b HashedWindow<'_>,
-        brought: &[Brought<'b>],
+        kept: Option<&KeptKeys<'b>>,
         catalog: &Catalog,
         digest: &H,
     ) -> Result<Rows, DeltaFault>
@@ -250,7 +250,7 @@ impl Table {
         requires window { IsTrue (is_window catalog.now window.now.window.now) }
         requires gathered { IsHashedWindow (hashes_of H.function) window.now }
         requires dated { IsTrue (is_up_to window.now.window.now.load (entry_of self.now).rows) }
-        requires brought { All (IsBrought catalog.now (hashes_of H.function) window.now.window.now) brought.now }
+        requires kept { IfSome kept (λ kept. IsKept catalog.now (hashes_of H.function) window.now.window.now kept.now) }
         ensures rows { IfOk result (λ rows. rows ≡ added_to catalog.now (hashes_of H.function) window.now.window.now (entry_of self.now)) }
         ensures apart { IfOk result (λ rows. HasNoClash (hashed_in catalog.now (hashes_of H.function) (N.names names.now) window.now.window.now (entry_of self.now))) }
         ensures collision { IfCollides result (IsLeastClash (hashed_in catalog.now (hashes_of H.function) (N.names names.now) window.now.window.now (entry_of self.now))) }
@@ -259,10 +259,10 @@ impl Table {
     {
         match self {
             Table::Hub { hub, rows } => {
-                hub_rows(alloc, *hub, rows, window, brought, catalog, digest)
+                hub_rows(alloc, *hub, rows, window, kept, catalog, digest)
             }
             Table::Link { link, rows } => {
-                link_rows(alloc, *link, rows, names, window, brought, catalog, digest)
+                link_rows(alloc, *link, rows, names, window, kept, catalog, digest)
             }
             Table::Sat { feed, rows } => {
                 let extract = extract_of::<H>(catalog, window, *feed);

@@ -1,10 +1,10 @@
 use dv_case_keeper::{CaseKeeper, Misfit};
-use dv_cases::{Digests, Ended, Fault, Held, Hold, Outside, Stand};
+use dv_cases::{Digests, Ended, Fault, Held, Hold, Holding, Outside, Stand};
 use dv_catalog::WindowIn;
 use dv_desk::{Served, serve_link};
 use dv_digest::{Md5Keys, TinyKeys};
 use dv_given::{Arrived, bring};
-use dv_outside::{HoldGate, MemoryFolder, MemoryLink, OpenGate, Status};
+use dv_outside::{Gate, HoldGate, MemoryFolder, MemoryLink, OfferGate, OpenGate, Status};
 use dv_program::program;
 use dv_records::{Fail, LoadAnswer};
 use dv_text::{KeyDigest, Memory, Text};
@@ -112,7 +112,30 @@ fn window_in(alloc: Global, folder: &mut MemoryFolder, manifest: &str) -> Result
     }
 }
 
-// Loads a window by an office over a keeper, and holds the worker who has its first task.
+// Loads a window by an office over a keeper, and answers how many rows are loaded.
+fn loaded_by<R: Threads + Sync, H: KeyDigest, G: Gate>(
+    rt: &R,
+    alloc: Global,
+    keeper: &mut CaseKeeper,
+    given: &WindowIn,
+    workers: u64,
+    digest: &H,
+    gate: &G,
+) -> Result<u64, Fault> {
+    let workers = u32::try_from(workers).unwrap_or(0);
+    if workers < 1 || workers > 64 {
+        return Err(Fault::Wrong("there are 1 to 64 workers"));
+    }
+    let mut office = office_over(alloc, keeper, digest)?;
+    let came = office.load(rt, keeper, given, workers, Order::Declared, digest, gate);
+    office.close();
+    match came {
+        LoadAnswer::Loaded { rows } => Ok(rows),
+        _ => Err(Fault::Wrong("the window is not loaded")),
+    }
+}
+
+// Loads a window by an office over a keeper, and holds one of its workers.
 fn hold_by<R: Threads + Sync, H: KeyDigest>(
     rt: &R,
     alloc: Global,
@@ -121,20 +144,21 @@ fn hold_by<R: Threads + Sync, H: KeyDigest>(
     hold: &Hold<'_>,
     digest: &H,
 ) -> Result<Held, Fault> {
-    let workers = u32::try_from(hold.workers).unwrap_or(0);
-    if workers < 1 || workers > 64 {
-        return Err(Fault::Wrong("there are 1 to 64 workers"));
-    }
-    let mut office = office_over(alloc, keeper, digest)?;
-    let gate = HoldGate::new(hold.turns);
-    let came = office.load(rt, keeper, given, workers, Order::Declared, digest, &gate);
-    office.close();
-    match came {
-        LoadAnswer::Loaded { rows } => Ok(Held {
-            rows,
-            is_reached: gate.reached(),
-        }),
-        _ => Err(Fault::Wrong("the window is not loaded")),
+    match hold.holding {
+        Holding::Task => {
+            let gate = HoldGate::new(hold.turns);
+            let rows = loaded_by(rt, alloc, keeper, given, hold.workers, digest, &gate)?;
+            let is_reached = gate.reached();
+            Ok(Held { rows, is_reached })
+        }
+        Holding::Offer { item, until } => {
+            let item = u32::try_from(item).unwrap_or(0);
+            let until = u32::try_from(until).unwrap_or(0);
+            let gate = OfferGate::new(item, until, hold.turns);
+            let rows = loaded_by(rt, alloc, keeper, given, hold.workers, digest, &gate)?;
+            let is_reached = !gate.passed();
+            Ok(Held { rows, is_reached })
+        }
     }
 }
 

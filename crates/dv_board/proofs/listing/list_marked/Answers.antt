@@ -1,7 +1,6 @@
-use Rattle.dv_board.proofs.Vocabulary.{arith, ◌≡◌, ◌+◌, ap, sym, ◌∙◌, subst, ℕ, List, length, length-set, take, marked}
-use Rattle.dv_board.proofs.Listed.{listed_one, listed_none}
+use Rattle.dv_board.proofs.Vocabulary.{List, ap, arith, length, length-set, marked, subst, sym, take, ℕ, ◌+◌, ◌∙◌, ◌≡◌}
+use Rattle.dv_board.proofs.{Listed.listed_one, Listed.listed_none, listing.list_marked.Goals.then-marks-item, listing.list_marked.Goals.else-marks-item}
 use Rattle.dv_board.proofs.listing.list_marked.Goals as goal
-use Rattle.dv_board.proofs.listing.list_marked.Goals.{then-marks-item, else-marks-item}
 
 pub loop-item-preserved : goal.loop-item-preserved
 loop-item-preserved c =

@@ -1,4 +1,4 @@
-use Rattle.dv_board.proofs.Vocabulary.{◌≡◌, ◌≤◌, length, take, marked}
+use Rattle.dv_board.proofs.Vocabulary.{length, marked, take, ◌≡◌, ◌≤◌}
 use Rattle.dv_board.proofs.listing.list_marked.Given as goal
 
 abbrev pub invariant-loop-item : goal.invariant-loop-item

@@ -1,7 +1,6 @@
-use Rattle.dv_board.proofs.Vocabulary.{arith, ◌+◌, ◌-◌, true, ap, sym, ◌∙◌, subst, length, length-set, slots_items, AreMarked}
-use Rattle.dv_board.proofs.Listed.{marks_skip, marks_word, at_word}
+use Rattle.dv_board.proofs.Vocabulary.{AreMarked, ap, arith, length, length-set, slots_items, subst, sym, true, ◌+◌, ◌-◌, ◌∙◌}
+use Rattle.dv_board.proofs.{Listed.marks_skip, Listed.marks_word, Listed.at_word, listing.mark_taken.Goals.then-word-ne0, listing.mark_taken.Goals.else-word-ne0}
 use Rattle.dv_board.proofs.listing.mark_taken.Goals as goal
-use Rattle.dv_board.proofs.listing.mark_taken.Goals.{then-word-ne0, else-word-ne0}
 
 pub index_mut-requires : goal.index_mut-requires
 index_mut-requires c =

@@ -1,4 +1,4 @@
-use Rattle.dv_board.proofs.Vocabulary.{◌≡◌, length, slots_items, AreMarked}
+use Rattle.dv_board.proofs.Vocabulary.{AreMarked, length, slots_items, ◌≡◌}
 use Rattle.dv_board.proofs.listing.mark_taken.Given as goal
 
 abbrev pub invariant-loop-slot : goal.invariant-loop-slot

@@ -1,4 +1,4 @@
-use Rattle.dv_board.proofs.Vocabulary.{◌+◌, ◌*◌}
+use Rattle.dv_board.proofs.Vocabulary.{◌*◌, ◌+◌}
 use Rattle.dv_board.proofs.tests.+offering.Given as goal
 
 abbrev pub decreases-offer_by : goal.decreases-offer_by

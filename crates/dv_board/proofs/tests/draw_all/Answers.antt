@@ -1,4 +1,4 @@
-use Rattle.dv_board.proofs.Vocabulary.{arith, ◌≡◌, ◌+◌, ◌-◌, ◌≤◌, ap, sym, ◌∙◌, subst, Claimant, times}
+use Rattle.dv_board.proofs.Vocabulary.{Claimant, ap, arith, subst, sym, times, ◌+◌, ◌-◌, ◌∙◌, ◌≡◌, ◌≤◌}
 use Rattle.dv_board.proofs.Sums.{times_last}
 use Rattle.dv_board.proofs.tests.draw_all.Goals as goal
 

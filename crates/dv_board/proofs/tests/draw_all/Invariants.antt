@@ -1,4 +1,4 @@
-use Rattle.dv_board.proofs.Vocabulary.{◌≡◌, ◌-◌, ◌<◌, ◌≤◌, false, times}
+use Rattle.dv_board.proofs.Vocabulary.{false, times, ◌-◌, ◌<◌, ◌≡◌, ◌≤◌}
 use Rattle.dv_board.proofs.tests.draw_all.Given as goal
 
 abbrev pub decreases-draws : goal.decreases-draws

@@ -1,4 +1,4 @@
-use Rattle.dv_board.proofs.Vocabulary.{◌≡◌, IsSeatOf}
+use Rattle.dv_board.proofs.Vocabulary.{IsSeatOf, ◌≡◌}
 use Rattle.dv_board.proofs.tests.offer_range.Given as goal
 
 abbrev pub invariant-items : goal.invariant-items

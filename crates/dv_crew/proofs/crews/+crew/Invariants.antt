@@ -1,4 +1,4 @@
-use Rattle.dv_crew.proofs.Vocabulary.{◌+◌, ◌*◌}
+use Rattle.dv_crew.proofs.Vocabulary.{◌*◌, ◌+◌}
 use Rattle.dv_crew.proofs.crews.+crew.Given as goal
 
 abbrev pub decreases-run_crew : goal.decreases-run_crew

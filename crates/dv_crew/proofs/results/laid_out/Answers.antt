@@ -1,6 +1,5 @@
-use Rattle.dv_crew.proofs.Vocabulary.{◌+◌, ◌<◌, AreResults, arith, counterpart, rules, subst, sym, Gives}
-use Rattle.dv_crew.proofs.Counting.{counterpart_within, none_yet, one_task_more}
-use Rattle.dv_crew.proofs.Laying.{one_more}
+use Rattle.dv_crew.proofs.Vocabulary.{AreResults, GivesWith, arith, counterpart, rules, subst, sym, ◌+◌, ◌<◌}
+use Rattle.dv_crew.proofs.{Counting.counterpart_within, Counting.none_yet, Counting.one_task_more, Laying.one_more}
 use Rattle.dv_crew.proofs.results.laid_out.Goals as goal
 
 pub take_result-requires-clause-there : goal.take_result-requires-clause-there
@@ -15,7 +14,7 @@ pub tasks-preserved : goal.tasks-preserved
 tasks-preserved g c =
     let crew = c.args.crew.now in
     let i = c.tasks.invariant in
-    let gives = Gives (goal.F-post g crew.job.now) in
+    let gives = GivesWith (goal.F-post g crew.job.now) in
     let under : c.tasks.task < crew.tasks = search rules in record {
       left = λ x within.
           let was = i.left x within in

@@ -1,6 +1,5 @@
-use Rattle.dv_crew.proofs.Vocabulary.{◌≡◌, ◌==◌, ◌∙◌, ◌+◌, ◌≤◌, ℕ, All, All-append, All-drop, All-take, Bool, ap, arith, cond, counterpart, drop, nat_eq, numbers, placed_within, position, rules, subst, sym, take, times, Gives}
+use Rattle.dv_crew.proofs.Vocabulary.{All, All-append, All-drop, All-take, Bool, Done, GivesWith, ap, arith, cond, counterpart, drop, nat_eq, numbers, placed_within, position, rules, subst, sym, take, times, ℕ, ◌+◌, ◌==◌, ◌∙◌, ◌≡◌, ◌≤◌}
 use Rattle.dv_crew.proofs.Counting.{back_again, found_within, none_there, times_cut}
-use Rattle.dv_crew.specs.declared.crews.Done.{Done}
 use Rattle.dv_crew.proofs.results.take_result.Goals as goal
 
 pub remove-requires : goal.remove-requires
@@ -23,9 +22,9 @@ returns-clause-given g c =
     let one : Done g.row.T.Denot = c.remove.result in
     let value = c.remove.ensures.value in
     let found = found_within c.counterpart-number.result c.args.done.now.items c.in-Some.place one (ap (position has) (sym c.deref.ensures.value) ∙ sym c.position_of.ensures ∙ c.in-Some.is) value in
-    let P : Done g.row.T.Denot → Type 0 = λ one. Gives (goal.F-post g crew.job.now) (counterpart crew.order crew.tasks one.number) one.out in
+    let P : Done g.row.T.Denot → Type 0 = λ one. GivesWith (goal.F-post g crew.job.now) (counterpart crew.order crew.tasks one.number) one.out in
     let here = subst P (sym value) (c.requires.each c.in-Some.place one found.0) in
-    subst (λ n. Gives (goal.F-post g crew.job.now) n one.out) (ap (counterpart crew.order crew.tasks) (found.1 ∙ c.counterpart-number.ensures) ∙ back_again crew.order crew.tasks c.args.task c.requires.task) here
+    subst (λ n. GivesWith (goal.F-post g crew.job.now) n one.out) (ap (counterpart crew.order crew.tasks) (found.1 ∙ c.counterpart-number.ensures) ∙ back_again crew.order crew.tasks c.args.task c.requires.task) here
 
 pub returns-clause-left : goal.returns-clause-left
 returns-clause-left g c x =
@@ -44,5 +43,5 @@ returns-clause-each g c =
     let crew = c.args.crew.now in
     let items = c.args.done.now.items in
     let place = c.in-Some.place in
-    let P : Done g.row.T.Denot → Type 0 = λ one. Gives (goal.F-post g crew.job.now) (counterpart crew.order crew.tasks one.number) one.out in
+    let P : Done g.row.T.Denot → Type 0 = λ one. GivesWith (goal.F-post g crew.job.now) (counterpart crew.order crew.tasks one.number) one.out in
     subst (All P) (sym c.remove.ensures.by_index.2) (All-append P (take place items) (drop (place + 1) items) (All-take P place items c.requires.each) (All-drop P (place + 1) items c.requires.each))

@@ -1,4 +1,4 @@
-use Rattle.dv_vault.proofs.Vocabulary.{◌≡◌, take, sum_by, row_count}
+use Rattle.dv_vault.proofs.Vocabulary.{row_count, sum_by, take, ◌≡◌}
 use Rattle.dv_vault.proofs.batches.count_all.Given as goal
 
 abbrev pub invariant-loop-batch : goal.invariant-loop-batch

@@ -1,6 +1,5 @@
-use Rattle.dv_vault.proofs.Vocabulary.{◌∙◌, All-contains, map, same_Some, subst, sym, hashes_of, entry_of, names_of_hubs}
+use Rattle.dv_vault.proofs.Vocabulary.{All-contains, IsBatch, IsDelta, entry_of, hashes_of, map, names_of_hubs, same_Some, subst, sym, ◌∙◌}
 use Rattle.dv_vault.proofs.TaskFacts.{still_found}
-use Rattle.dv_vault.specs.Tasks.{IsBatch, IsDelta}
 use Rattle.dv_vault.proofs.batches.delta_at.Goals as goal
 
 pub returns-in-Some-clause-delta : goal.returns-in-Some-clause-delta
@@ -15,14 +14,14 @@ returns-in-Some-clause-delta g c entry there =
 
 pub returns-in-Some-clause-found : goal.returns-in-Some-clause-found
 returns-in-Some-clause-found g c = record {
-  brought = c.requires.found.brought;
+  kept = c.requires.found.kept;
   batches = still_found c.args.catalog.now (hashes_of g.H.KeyDigest.function) (names_of_hubs c.args.names.now) c.args.window.now.window.now (map entry_of c.args.tables.now)
       c.args.found.now.batches.items c.take_batch.new.batches.items c.requires.found.batches c.take_batch.ensures.left;
 }
 
 pub returns-in-None-clause-found : goal.returns-in-None-clause-found
 returns-in-None-clause-found g c = record {
-  brought = c.requires.found.brought;
+  kept = c.requires.found.kept;
   batches = still_found c.args.catalog.now (hashes_of g.H.KeyDigest.function) (names_of_hubs c.args.names.now) c.args.window.now.window.now (map entry_of c.args.tables.now)
       c.args.found.now.batches.items c.take_batch.new.batches.items c.requires.found.batches c.take_batch.ensures.left;
 }

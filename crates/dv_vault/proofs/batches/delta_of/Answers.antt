@@ -1,7 +1,5 @@
-use Rattle.dv_vault.proofs.Vocabulary.{◌∙◌, Some, ap, map, same_Some, slice_get-get_or, subst, sym, hashes_of, is_table_of, is_up_to, TableRows, entry_of, names_of_hubs}
-use Rattle.dv_vault.proofs.BatchSteps.{entry_here}
-use Rattle.dv_vault.proofs.BatchesSoFar.{passes_here}
-use Rattle.dv_vault.specs.Tasks.{IsDelta}
+use Rattle.dv_vault.proofs.Vocabulary.{IsDelta, Some, TableRows, ap, entry_of, hashes_of, is_table_of, is_up_to, map, names_of_hubs, same_Some, slice_get-get_or, subst, sym, ◌∙◌}
+use Rattle.dv_vault.proofs.{BatchSteps.entry_here, BatchesSoFar.passes_here}
 use Rattle.dv_vault.proofs.batches.delta_of.Goals as goal
 
 pub delta-requires-clause-table : goal.delta-requires-clause-table

@@ -1,6 +1,5 @@
-use Rattle.dv_vault.proofs.Vocabulary.{◌≡◌, ◌∙◌, ◌≤◌, Some, ap, arith, length, map, subst, sym, length-map, slice_get, slice_get-get_or, hashes_of, ClashesAt, entry_of, names_of_hubs}
-use Rattle.dv_vault.proofs.BatchSteps.{entry_here}
-use Rattle.dv_vault.proofs.BatchesSoFar.{at_last, clashed, more_at}
+use Rattle.dv_vault.proofs.Vocabulary.{ClashesAt, Some, ap, arith, entry_of, hashes_of, length, length-map, map, names_of_hubs, slice_get, slice_get-get_or, subst, sym, ◌∙◌, ◌≡◌, ◌≤◌}
+use Rattle.dv_vault.proofs.{BatchSteps.entry_here, BatchesSoFar.at_last, BatchesSoFar.clashed, BatchesSoFar.more_at}
 use Rattle.dv_vault.proofs.batches.deltas_beside.Goals as goal
 
 pub returns-in-Err-clause-clashes : goal.returns-in-Err-clause-clashes

@@ -1,6 +1,5 @@
-use Rattle.dv_vault.proofs.Vocabulary.{map, take, hashes_of, entry_of, names_of_hubs}
+use Rattle.dv_vault.proofs.Vocabulary.{IsFound, entry_of, hashes_of, map, names_of_hubs, take}
 use Rattle.dv_vault.proofs.BatchesSoFar.{SoFar}
-use Rattle.dv_vault.specs.Tasks.{IsFound}
 use Rattle.dv_vault.proofs.batches.deltas_beside.Given as goal
 
 -- the batches of the tables so far, and what is found of others

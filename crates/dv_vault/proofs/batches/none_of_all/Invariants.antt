@@ -1,4 +1,4 @@
-use Rattle.dv_vault.proofs.Vocabulary.{◌≡◌, map, no_rows, take, TableRows, entry_of}
+use Rattle.dv_vault.proofs.Vocabulary.{TableRows, entry_of, map, no_rows, take, ◌≡◌}
 use Rattle.dv_vault.proofs.batches.none_of_all.Given as goal
 
 -- no rows for the tables so far

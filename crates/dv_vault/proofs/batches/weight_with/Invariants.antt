@@ -1,4 +1,4 @@
-use Rattle.dv_vault.proofs.Vocabulary.{◌≡◌, ◌+◌, take, sum_by, rows_weight}
+use Rattle.dv_vault.proofs.Vocabulary.{rows_weight, sum_by, take, ◌+◌, ◌≡◌}
 use Rattle.dv_vault.proofs.batches.weight_with.Given as goal
 
 abbrev pub invariant-loop-batch : goal.invariant-loop-batch

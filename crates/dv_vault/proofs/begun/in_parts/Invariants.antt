@@ -1,4 +1,4 @@
-use Rattle.dv_vault.proofs.Vocabulary.{◌≡◌, ◌++◌, opened_in, rest_in}
+use Rattle.dv_vault.proofs.Vocabulary.{opened_in, rest_in, ◌++◌, ◌≡◌}
 use Rattle.dv_vault.proofs.begun.in_parts.Given as goal
 
 -- the parts so far, and what is left of the second list

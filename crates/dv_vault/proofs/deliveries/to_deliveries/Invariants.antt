@@ -1,4 +1,4 @@
-use Rattle.dv_vault.proofs.Vocabulary.{◌≡◌, map, take, delivery_to, hashes_of, keyed, offered_by}
+use Rattle.dv_vault.proofs.Vocabulary.{delivery_to, hashes_of, keyed, map, offered_by, take, ◌≡◌}
 use Rattle.dv_vault.proofs.deliveries.to_deliveries.Given as goal
 
 abbrev pub invariant-loop-offer : goal.invariant-loop-offer

@@ -1,4 +1,4 @@
-use Rattle.dv_vault.proofs.Vocabulary.{list_all, Staged, refs_fit, all_pass}
+use Rattle.dv_vault.proofs.Vocabulary.{Staged, all_pass, list_all, refs_fit}
 use Rattle.dv_vault.proofs.WindowFacts.{staged_refs_fit}
 use Rattle.dv_vault.proofs.hashed_windows.gathered.Goals as goal
 

@@ -1,6 +1,5 @@
-use Rattle.dv_vault.proofs.Vocabulary.{ap, arith, length, list_all, Staged, refs_fit, all_pass}
-use Rattle.dv_vault.proofs.TaskFacts.{few_extracts}
-use Rattle.dv_vault.proofs.WindowFacts.{staged_refs_fit}
+use Rattle.dv_vault.proofs.Vocabulary.{Staged, all_pass, ap, arith, length, list_all, refs_fit}
+use Rattle.dv_vault.proofs.{TaskFacts.few_extracts, WindowFacts.staged_refs_fit}
 use Rattle.dv_vault.proofs.hashed_windows.gathered_by.Goals as goal
 
 pub hash_all_by-requires-clause-few : goal.hash_all_by-requires-clause-few

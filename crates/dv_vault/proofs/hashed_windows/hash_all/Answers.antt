@@ -1,4 +1,4 @@
-use Rattle.dv_vault.proofs.Vocabulary.{◌∙◌, ◌++◌, ◌∷◌, [], All, ap, map, subst, sym, hashes_of, map-append, take_more, All-push, HasKeys, HashedExtract}
+use Rattle.dv_vault.proofs.Vocabulary.{All, All-push, HasKeys, HashedExtract, [], ap, hashes_of, map, map-append, subst, sym, take_more, ◌++◌, ◌∙◌, ◌∷◌}
 use Rattle.dv_vault.proofs.hashed_windows.hash_all.Goals as goal
 
 pub loop-staged-preserved : goal.loop-staged-preserved

@@ -1,4 +1,4 @@
-use Rattle.dv_vault.proofs.Vocabulary.{◌≡◌, All, map, take, hashes_of, HasKeys}
+use Rattle.dv_vault.proofs.Vocabulary.{All, HasKeys, hashes_of, map, take, ◌≡◌}
 use Rattle.dv_vault.proofs.hashed_windows.hash_all.Given as goal
 
 -- the extracts so far are the first ones, with their keys

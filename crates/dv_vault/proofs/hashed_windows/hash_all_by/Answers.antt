@@ -1,17 +1,12 @@
-use denote.Param.Send.{IsSync, sendable}
-use Rattle.std.proofs.Crossing.{crosses}
-use Rattle.dv_vault.proofs.Crossing.{Staged-sync}
-use Rattle.dv_vault.proofs.Vocabulary.{◌≡◌, All, HasKeys, hashes_of, map, refl, HashedExtract}
-use Rattle.dv_text.proofs.Vocabulary.{IfOk-weaker}
+use Rattle.dv_vault.proofs.Vocabulary.{All, HasKeys, HashedExtract, IfOk-weaker, IsHashedAt, IsSync, crosses, hashes_of, map, refl, sendable, ◌≡◌}
 use Rattle.dv_vault.proofs.TaskFacts.{extracts_laid_out, of_results}
-use Rattle.dv_vault.specs.HashedWindows.{IsHashedAt}
+use Rattle.dv_text.proofs.rows.Staged.TheSendSync as staged
 use Rattle.dv_vault.proofs.hashed_windows.hash_all_by.Goals as goal
 
 pub run_tasks-requires-sync-F : goal.run_tasks-requires-sync-F
 run_tasks-requires-sync-F g c κs within =
     let digest : IsSync g.row.H = record { shared = c.type_bounds.sync-H.shared } in
-    let staged = Staged-sync in
-    search (crosses, sendable) depth 60 fits 20000
+    search (crosses, sendable, staged.the_sync) depth 60 fits 20000
 
 pub returns-clause-extracts : goal.returns-clause-extracts
 returns-clause-extracts g c =

@@ -1,6 +1,5 @@
-use Rattle.dv_vault.proofs.Vocabulary.{◌∙◌, ap, arith, map, list_all, are_hub_rows, hub_rows_in, entries_of}
-use Rattle.dv_vault.proofs.HubLists.{hubs_more, kept_more}
-use Rattle.dv_vault.proofs.VaultFacts.{hub_there}
+use Rattle.dv_vault.proofs.Vocabulary.{ap, are_hub_rows, arith, entries_of, hub_rows_in, list_all, map, ◌∙◌}
+use Rattle.dv_vault.proofs.{HubLists.hubs_more, HubLists.kept_more, VaultFacts.hub_there}
 use Rattle.dv_vault.proofs.hub_keys.hub_keys.Goals as goal
 
 pub hub_at-requires : goal.hub_at-requires

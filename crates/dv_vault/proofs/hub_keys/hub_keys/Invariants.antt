@@ -1,4 +1,4 @@
-use Rattle.dv_vault.proofs.Vocabulary.{◌≡◌, ◌≤◌, true, map, list_all, range_with_len, are_hub_rows, hub_rows_in, entries_of}
+use Rattle.dv_vault.proofs.Vocabulary.{are_hub_rows, entries_of, hub_rows_in, list_all, map, range_with_len, true, ◌≡◌, ◌≤◌}
 use Rattle.dv_vault.proofs.hub_keys.hub_keys.Given as goal
 
 -- the hubs so far, whose rows are those of the vault

@@ -1,28 +1,17 @@
-use denote.Param.Send.{IsSync, sendable}
-use Rattle.std.proofs.Crossing.{crosses}
-use Rattle.dv_vault.proofs.Crossing.{Catalog-sync, DeltaFault-send, HubTable-sync, Rows-send, Staged-sync, Table-sync, Window-sync}
-use Rattle.dv_vault.proofs.Vocabulary.{All, entry_of, hashes_of, map, names_of_hubs}
-use Rattle.dv_text.proofs.Vocabulary.{IfOk-weaker}
+use Rattle.dv_vault.proofs.Vocabulary.{All, IfOk-weaker, IsBatch, IsSync, crosses, entry_of, hashes_of, map, names_of_hubs, sendable}
 use Rattle.dv_vault.proofs.TaskFacts.{of_results}
-use Rattle.dv_vault.specs.Tasks.{IsBatch}
+use Rattle.dv_vault.proofs.jobs.WindowJob.TheSendSync as job
+use Rattle.dv_vault.proofs.kept_keys.KeptKeys.TheSendSync as kept
+use Rattle.dv_vault.proofs.results.TableBatch.TheSendSync as batch
 use Rattle.dv_vault.proofs.jobs.parents_by.Goals as goal
 
 pub run_tasks-requires-send-T : goal.run_tasks-requires-send-T
-run_tasks-requires-send-T g c κs within =
-    let staged = Staged-sync in
-    let rows = Rows-send in
-    let faults = DeltaFault-send in
-    search (crosses, sendable) depth 60 fits 20000
+run_tasks-requires-send-T g c κs within = search (crosses, sendable, batch.the_send) depth 60 fits 20000
 
 pub run_tasks-requires-sync-F : goal.run_tasks-requires-sync-F
 run_tasks-requires-sync-F g c κs within =
     let digest : IsSync g.row.H = record { shared = c.type_bounds.sync-H.shared } in
-    let staged = Staged-sync in
-    let window = Window-sync in
-    let catalog = Catalog-sync in
-    let hubs = HubTable-sync in
-    let tables = Table-sync in
-    search (crosses, sendable) depth 60 fits 20000
+    search (crosses, sendable, job.the_sync, kept.the_sync) depth 60 fits 20000
 
 pub returns : goal.returns
 returns g c =

@@ -1,10 +1,6 @@
-use Rattle.dv_vault.proofs.Vocabulary.{sym, ap, Part, ◌∙◌, ◌≡◌, ◌<◌, ◌≤◌, List, ℕ, arith, add-one, get_or, is_of_kind, length, length-map, map, slice_set, subst, ArePartsOf, Became, BreaksParts, Changes, Table, TookRows, entry_of, taken_first, taken_part, with_batch}
-use Rattle.dv_vault.proofs.BatchSteps.{entry_here}
-use Rattle.dv_vault.proofs.Broken.{err_passed, of_error}
-use Rattle.dv_vault.proofs.Parts.{none_taken, taken_at, taken_long, taken_more, taken_whole}
-use Rattle.dv_vault.proofs.StoreSteps.{as_many, changed_ok, own_part, parts_break, parts_first, parts_kind, parts_more}
-use Rattle.std.proofs.lemmas.List.{set-get_or}
-use Rattle.std.proofs.Common.{rules}
+use Rattle.dv_vault.proofs.Vocabulary.{ArePartsOf, Became, BreaksParts, Changes, List, Part, Table, TookRows, add-one, ap, arith, entry_of, get_or, is_of_kind, length, length-map, map, rules, set-get_or, slice_set, subst, sym, taken_first, taken_part, with_batch, ℕ, ◌<◌, ◌∙◌, ◌≡◌, ◌≤◌}
+use Rattle.dv_vault.proofs.{BatchSteps.entry_here, Broken.err_passed, Broken.of_error, Parts.none_taken, Parts.taken_at, Parts.taken_long, Parts.taken_more, Parts.taken_whole, StoreSteps.as_many, StoreSteps.changed_ok, StoreSteps.own_part, StoreSteps.parts_break, StoreSteps.parts_first}
+use Rattle.dv_vault.proofs.{StoreSteps.parts_kind, StoreSteps.parts_more}
 use Rattle.dv_vault.proofs.keeping.append_all.Goals as goal
 
 pub loop-i-init : goal.loop-i-init

@@ -1,5 +1,4 @@
-use Rattle.std.specs.Prelude.{IsSome}
-use Rattle.dv_vault.proofs.Vocabulary.{◌≡◌, ◌≤◌, entry_of, map, taken_first}
+use Rattle.dv_vault.proofs.Vocabulary.{IsSome, entry_of, map, taken_first, ◌≡◌, ◌≤◌}
 use Rattle.dv_vault.proofs.StoreSteps.{TakesParts}
 use Rattle.dv_vault.proofs.keeping.append_all.Given as goal
 

@@ -1,7 +1,5 @@
-use Rattle.dv_vault.proofs.Vocabulary.{refl, sym, ap, true, Some, Err, List, OnOk, Ok, Result, ◌∙◌, ◌≡◌, arith, length, map, subst, Became, Begun, BreaksParts, BreaksWindow, IfErr, Part, TookRows, Vec, entry_of, opened_in, tables_whole, taken_first, whole_in, with_items, with_items_is}
-use Rattle.dv_vault.proofs.Broken.{appending_breaks, err_passed, is_staged, of_error, opens_with, sealing_breaks}
-use Rattle.dv_vault.proofs.Parts.{all_taken}
-use Rattle.std.proofs.Common.{rules}
+use Rattle.dv_vault.proofs.Vocabulary.{Became, Begun, BreaksParts, BreaksWindow, Err, IfErr, List, Ok, OnOk, Part, Result, Some, TookRows, Vec, ap, arith, entry_of, length, map, opened_in, refl, rules, subst, sym, tables_whole, taken_first, true, whole_in, with_items, with_items_is, ◌∙◌, ◌≡◌}
+use Rattle.dv_vault.proofs.{Broken.appending_breaks, Broken.err_passed, Broken.is_staged, Broken.of_error, Broken.opens_with, Broken.sealing_breaks, Parts.all_taken}
 use Rattle.dv_vault.proofs.keeping.complete.Goals as goal
 
 -- parts in their places

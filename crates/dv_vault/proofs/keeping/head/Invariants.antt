@@ -1,4 +1,4 @@
-use Rattle.dv_vault.proofs.Vocabulary.{◌≡◌, map, take}
+use Rattle.dv_vault.proofs.Vocabulary.{map, take, ◌≡◌}
 use Rattle.dv_vault.proofs.keeping.head.Given as goal
 
 abbrev pub invariant-loop-staged : goal.invariant-loop-staged

@@ -1,4 +1,4 @@
-use Rattle.dv_vault.proofs.Vocabulary.{◌<◌, ◌≤◌, ◌∙◌, ap, arith, get_or-map, length, length-map, sym, map-set_same, row_count, Table, entry_of, spare_of, whole_in, whole_part}
+use Rattle.dv_vault.proofs.Vocabulary.{Table, ap, arith, entry_of, get_or-map, length, length-map, map-set_same, row_count, spare_of, sym, whole_in, whole_part, ◌<◌, ◌∙◌, ◌≤◌}
 use Rattle.dv_vault.proofs.BatchSteps.{pairs_more}
 use Rattle.dv_vault.proofs.keeping.reserve_all.Goals as goal
 

@@ -1,4 +1,4 @@
-use Rattle.dv_vault.proofs.Vocabulary.{◌≡◌, ◌≤◌, map, take, AllZip, row_count, entry_of, spare_of, whole_in}
+use Rattle.dv_vault.proofs.Vocabulary.{AllZip, entry_of, map, row_count, spare_of, take, whole_in, ◌≡◌, ◌≤◌}
 use Rattle.dv_vault.proofs.keeping.reserve_all.Given as goal
 
 -- the tables so far have room, and no table's rows have changed

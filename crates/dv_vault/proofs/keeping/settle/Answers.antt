@@ -1,7 +1,5 @@
-use Rattle.dv_vault.proofs.Vocabulary.{Rows, subst, sym, ◌∙◌, ◌≡◌}
+use Rattle.dv_vault.proofs.Vocabulary.{IfSome, Rows, none_like, subst, sym, whole_part, ◌∙◌, ◌≡◌}
 use Rattle.dv_vault.proofs.Parts.{none_is}
-use Rattle.dv_vault.specs.Additions.{none_like, whole_part}
-use Rattle.std.specs.Prelude.{IfSome}
 use Rattle.dv_vault.proofs.keeping.settle.Goals as goal
 
 pub returns : goal.returns

@@ -1,4 +1,4 @@
-use Rattle.dv_vault.proofs.Vocabulary.{◌≡◌, map, take, no_rows, entry_of}
+use Rattle.dv_vault.proofs.Vocabulary.{entry_of, map, no_rows, take, ◌≡◌}
 use Rattle.dv_vault.proofs.raw_tables.empty_tables.Given as goal
 
 abbrev pub invariant-loop-id : goal.invariant-loop-id

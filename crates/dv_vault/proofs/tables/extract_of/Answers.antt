@@ -1,4 +1,4 @@
-use Rattle.dv_vault.proofs.Vocabulary.{◌∙◌, ◌==◌, ap, find, HashedExtract}
+use Rattle.dv_vault.proofs.Vocabulary.{HashedExtract, ap, find, ◌==◌, ◌∙◌}
 use Rattle.dv_vault.proofs.TableFacts.{extract_facts}
 use Rattle.dv_vault.proofs.tables.extract_of.Goals as goal
 

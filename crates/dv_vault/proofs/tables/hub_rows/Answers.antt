@@ -1,8 +1,5 @@
-use Rattle.dv_vault.proofs.Vocabulary.{nat_le, ◌∙◌, ap, All-map, list_all-map, HubRow, ◌≡◌, subst, sym, All, hashes_of, Hubs, Hub, IsLeastClash, List, Rows, deliveries, delivered, hub_hashed}
-use Rattle.dv_vault.proofs.Stamped.{hub_delta_load}
-use Rattle.dv_vault.proofs.TableItems.{hub_items}
-use Rattle.std.proofs.lemmas.Result.{err_from_is_err_and}
-use Rattle.dv_vault.proofs.DeliverySets.{collides_as, hub_apart_same, hub_clash_same, hub_rows_same, set_of_hub}
+use Rattle.dv_vault.proofs.Vocabulary.{All, All-map, Hub, HubRow, Hubs, IsLeastClash, List, Rows, ap, delivered, deliveries, err_from_is_err_and, hashes_of, hub_hashed, list_all-map, nat_le, subst, sym, ◌∙◌, ◌≡◌}
+use Rattle.dv_vault.proofs.{Stamped.hub_delta_load, TableItems.hub_items, DeliverySets.collides_as, DeliverySets.hub_apart_same, DeliverySets.hub_clash_same, DeliverySets.hub_rows_same, DeliverySets.set_of_hub}
 use Rattle.dv_vault.proofs.tables.hub_rows.Goals as goal
 
 pub delta-requires-clause-items : goal.delta-requires-clause-items

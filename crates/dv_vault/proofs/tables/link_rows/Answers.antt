@@ -1,8 +1,5 @@
-use Rattle.dv_vault.proofs.Vocabulary.{nat_le, ◌∙◌, ap, All-map, list_all-map, LinkRow, ◌≡◌, subst, sym, All, hashes_of, Links, Link, IsLeastClash, List, Rows, deliveries, delivered, link_hashed}
-use Rattle.dv_vault.proofs.Stamped.{link_delta_load}
-use Rattle.dv_vault.proofs.TableItems.{link_items}
-use Rattle.std.proofs.lemmas.Result.{err_from_is_err_and}
-use Rattle.dv_vault.proofs.DeliverySets.{collides_as, link_apart_same, link_clash_same, link_rows_same, set_of_link}
+use Rattle.dv_vault.proofs.Vocabulary.{All, All-map, IsLeastClash, Link, LinkRow, Links, List, Rows, ap, delivered, deliveries, err_from_is_err_and, hashes_of, link_hashed, list_all-map, nat_le, subst, sym, ◌∙◌, ◌≡◌}
+use Rattle.dv_vault.proofs.{Stamped.link_delta_load, TableItems.link_items, DeliverySets.collides_as, DeliverySets.link_apart_same, DeliverySets.link_clash_same, DeliverySets.link_rows_same, DeliverySets.set_of_link}
 use Rattle.dv_vault.proofs.tables.link_rows.Goals as goal
 
 pub delta-requires-clause-items : goal.delta-requires-clause-items

@@ -1,8 +1,5 @@
-use Rattle.dv_vault.proofs.Vocabulary.{◌∙◌, ◌∷◌, [], ◌++◌, Contains, Contains-get_or, List, Staged, ap, flat_map, flat_map_more, slice_get_within, subst, sym, take, take_more}
-use Rattle.dv_vault.proofs.TaskFacts.{few_tasks}
-use Rattle.dv_vault.proofs.WindowFacts.{rows_of_staged}
-use Rattle.dv_vault.specs.Tasks.{feed_tasks}
-use Rattle.dv_vault.specs.declared.tasks.Task.{Task}
+use Rattle.dv_vault.proofs.Vocabulary.{Contains, Contains-get_or, List, Staged, Task, [], ap, feed_tasks, flat_map, flat_map_more, slice_get_within, subst, sym, take, take_more, ◌++◌, ◌∙◌, ◌∷◌}
+use Rattle.dv_vault.proofs.{TaskFacts.few_tasks, WindowFacts.rows_of_staged}
 use Rattle.dv_vault.proofs.tasks.tasks_of.Goals as goal
 
 pub add_feed-requires : goal.add_feed-requires

@@ -1,5 +1,4 @@
-use Rattle.dv_vault.proofs.Vocabulary.{◌≡◌, flat_map, take}
-use Rattle.dv_vault.specs.Tasks.{feed_tasks}
+use Rattle.dv_vault.proofs.Vocabulary.{feed_tasks, flat_map, take, ◌≡◌}
 use Rattle.dv_vault.proofs.tasks.tasks_of.Given as goal
 
 -- the tasks of the feeds so far

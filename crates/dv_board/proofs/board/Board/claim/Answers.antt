@@ -1,4 +1,4 @@
-use Rattle.dv_board.proofs.Vocabulary.{rules, arith, ◌∙◌, sym, ap, Claimant, BoardId}
+use Rattle.dv_board.proofs.Vocabulary.{BoardId, Claimant, ap, arith, rules, sym, ◌∙◌}
 use Rattle.dv_board.proofs.BoardMoves.{claims}
 use Rattle.dv_board.proofs.board.Board.claim.Goals as goal
 

@@ -1,4 +1,4 @@
-use Rattle.dv_board.proofs.Vocabulary.{arith, ◌≡◌, min, ap, sym, ◌∙◌, slice_index, times, once_below, Claimant, BoardId}
+use Rattle.dv_board.proofs.Vocabulary.{BoardId, Claimant, ap, arith, min, once_below, slice_index, sym, times, ◌∙◌, ◌≡◌}
 use Rattle.dv_board.proofs.BoardMoves.{closes, first_word}
 use Rattle.dv_board.proofs.board.Board.close.Goals as goal
 

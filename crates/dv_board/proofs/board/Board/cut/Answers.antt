@@ -1,4 +1,4 @@
-use Rattle.dv_board.proofs.Vocabulary.{rules, arith, ap, sym, ◌∙◌, Claimant, BoardId}
+use Rattle.dv_board.proofs.Vocabulary.{BoardId, Claimant, ap, arith, rules, sym, ◌∙◌}
 use Rattle.dv_board.proofs.BoardMoves.{splits}
 use Rattle.dv_board.proofs.board.Board.cut.Goals as goal
 

@@ -1,4 +1,4 @@
-use Rattle.dv_board.proofs.Vocabulary.{rules, ap, sym, ◌∙◌, Claimant, BoardId}
+use Rattle.dv_board.proofs.Vocabulary.{BoardId, Claimant, ap, rules, sym, ◌∙◌}
 use Rattle.dv_board.proofs.BoardMoves.{joins}
 use Rattle.dv_board.proofs.board.Board.join.Goals as goal
 

@@ -1,6 +1,5 @@
-use Rattle.dv_board.proofs.Vocabulary.{arith, ◌≡◌, ℕ, List, Bool, false, length, ap, sym, ◌∙◌, subst, length-replicate, Keys, Keyed, Offerer, AreLeastOffered, AreMarked, marked}
-use Rattle.dv_board.proofs.KeyCalls.{known}
-use Rattle.dv_board.proofs.KeyClosing.{closes}
+use Rattle.dv_board.proofs.Vocabulary.{AreLeastOffered, AreMarked, Bool, Keyed, Keys, List, Offerer, ap, arith, false, length, length-replicate, marked, subst, sym, ℕ, ◌∙◌, ◌≡◌}
+use Rattle.dv_board.proofs.{KeyCalls.known, KeyClosing.closes}
 use Rattle.dv_board.proofs.key_table.KeyTable.close.Goals as goal
 
 pub returns-clause-least : goal.returns-clause-least

@@ -1,4 +1,4 @@
-use Rattle.dv_board.proofs.Vocabulary.{arith, inr, ap, sym, ◌∙◌, Keys, Keyed, Offerer}
+use Rattle.dv_board.proofs.Vocabulary.{Keyed, Keys, Offerer, ap, arith, inr, sym, ◌∙◌}
 use Rattle.dv_board.proofs.KeyCalls.{joins, known}
 use Rattle.dv_board.proofs.key_table.KeyTable.join.Goals as goal
 

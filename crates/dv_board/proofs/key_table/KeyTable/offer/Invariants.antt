@@ -1,4 +1,4 @@
-use Rattle.dv_board.proofs.Vocabulary.{◌≡◌, ◌<◌, ◌≤◌, [], length, IsProbing}
+use Rattle.dv_board.proofs.Vocabulary.{IsProbing, [], length, ◌<◌, ◌≡◌, ◌≤◌}
 use Rattle.dv_board.proofs.key_table.KeyTable.offer.Given as goal
 
 abbrev pub invariant-probe : goal.invariant-probe

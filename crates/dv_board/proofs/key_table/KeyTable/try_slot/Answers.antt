@@ -1,6 +1,5 @@
-use Rattle.dv_board.proofs.Vocabulary.{arith, ◌≡◌, ◌+◌, ◌-◌, ◌*◌, ◌<◌, true, length, get_or, sym, ap, ◌∙◌, ◌==◌, mod_below, Keys, home_of, min, either, eqb, Tells, offered, Keyed, begun, met_by}
-use Rattle.dv_board.proofs.KeyCalls.{allows, meets_as, lowers_as}
-use Rattle.dv_board.proofs.KeyProbes.{meets_same, met_on, met_lists}
+use Rattle.dv_board.proofs.Vocabulary.{Keyed, Keys, Tells, ap, arith, begun, either, eqb, get_or, home_of, length, met_by, min, mod_below, offered, sym, true, ◌*◌, ◌+◌, ◌-◌, ◌<◌, ◌==◌, ◌∙◌, ◌≡◌}
+use Rattle.dv_board.proofs.{KeyCalls.allows, KeyCalls.meets_as, KeyCalls.lowers_as, KeyProbes.meets_same, KeyProbes.met_on, KeyProbes.met_lists}
 use Rattle.dv_board.proofs.key_table.KeyTable.try_slot.Goals as goal
 
 pub compare_exchange-found-requires : goal.compare_exchange-found-requires
@@ -10,11 +9,11 @@ compare_exchange-found-requires g c =
     let k : Keys = g.I.KeyItems.keys c.args.self.now.items in
     let bound = g.met.I.KeyItems g.world.𝓛 g.world.𝓜 g.world.𝓡 ((λ s x. x), (λ x. x), (λ x. x), λ x. x) in
     let law = bound.lawful c.args.self.now.items in
-    let words = c.self.invariant.0 ∙ ap (λ (z : Keys). 2 * length z.classes + 1) (ap g.I.KeyItems.keys items) in
+    let words = c.self.invariant.0 ∙ ap (λ (z : Keys). 3 * length z.classes + 1) (ap g.I.KeyItems.keys items) in
     let slot = r.slot in
-    let low = mod_below (get_or k.homes c.args.item 0) (length k.classes + 1) (omega arith) in
+    let low = mod_below (get_or k.homes c.args.item 0) (2 * length k.classes + 1) (omega arith) in
     let inside = r.inside in
-    let room : c.args.slot < 2 * length k.classes + 1 = omega (arith, slot, low, inside) in (
+    let room : c.args.slot < 3 * length k.classes + 1 = omega (arith, slot, low, inside) in (
       r.mine ∙ ap (λ (y : Keyed g.row.I.Denot). y.table) (sym c.self.view_is),
       omega (arith, room, words),
       allows _ k _ _ _ _ (λ n. either (eqb n 0) (c.from-word.result + 1) n) (Tells c.args.seat.now.me.0 (c.from-word.result + 1 - 1) c.args.seat.now.me.1)
@@ -28,7 +27,7 @@ fetch_min-requires g c =
     let k : Keys = g.I.KeyItems.keys c.args.self.now.items in
     let bound = g.met.I.KeyItems g.world.𝓛 g.world.𝓜 g.world.𝓡 ((λ s x. x), (λ x. x), (λ x. x), λ x. x) in
     let law = bound.lawful c.args.self.now.items in
-    let words = c.self.invariant.0 ∙ ap (λ (z : Keys). 2 * length z.classes + 1) (ap g.I.KeyItems.keys items) in
+    let words = c.self.invariant.0 ∙ ap (λ (z : Keys). 3 * length z.classes + 1) (ap g.I.KeyItems.keys items) in
     let v = c.args.seat.now.me.0 in
     let a = c.args.item in
     let n = c.compare_exchange-found.result in
@@ -42,9 +41,9 @@ fetch_min-requires g c =
     let lists = met_lists v a w is in
     let slot = r.slot in
     let place : c.args.slot ≡ home_of k w.item + w.passed = (let p = m.4 in let h = ap (home_of k) m.3 in omega (arith, slot, p, h)) in
-    let low = mod_below (get_or k.homes a 0) (length k.classes + 1) (omega arith) in
+    let low = mod_below (get_or k.homes a 0) (2 * length k.classes + 1) (omega arith) in
     let inside = r.inside in
-    let room : c.args.slot < 2 * length k.classes + 1 = omega (arith, slot, low, inside) in
+    let room : c.args.slot < 3 * length k.classes + 1 = omega (arith, slot, low, inside) in
     let share = r.share in
     let shares = lists.2 in (
       c.compare_exchange-found.ensures.0 ∙ (r.mine ∙ ap (λ (y : Keyed g.row.I.Denot). y.table) (sym c.self.view_is)),

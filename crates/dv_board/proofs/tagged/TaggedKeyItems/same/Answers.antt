@@ -1,4 +1,4 @@
-use Rattle.dv_board.proofs.Vocabulary.{arith, ◌≡◌, ◌<◌, length, ◌∙◌, get_or, ◌==◌, same_tags, length_of_keys, get_or_default}
+use Rattle.dv_board.proofs.Vocabulary.{arith, get_or, get_or_default, length, length_of_keys, same_tags, ◌<◌, ◌==◌, ◌∙◌, ◌≡◌}
 use Rattle.dv_board.proofs.tagged.TaggedKeyItems.same.Goals as goal
 
 pub returns : goal.returns

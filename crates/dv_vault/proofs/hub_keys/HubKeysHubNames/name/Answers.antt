@@ -1,4 +1,4 @@
-use Rattle.dv_vault.proofs.Vocabulary.{◌∙◌, ap, subst, sym, option_map, IsItemAt}
+use Rattle.dv_vault.proofs.Vocabulary.{IsItemAt, ap, option_map, subst, sym, ◌∙◌}
 use Rattle.dv_vault.proofs.NamedHubs.{name_there, no_name}
 use Rattle.dv_vault.proofs.hub_keys.HubKeysHubNames.name.Goals as goal
 

@@ -1,4 +1,4 @@
-use Rattle.dv_vault.proofs.Vocabulary.{◌≡◌, ◌∙◌, Bool, Contains, List, Some, TableId, TableRows, Table, ap, false≢true, found_at, map, map_member, none_placed, entry_of, option_map, placed_within, same_table, slice_get, slice_get-map, subst, sym, table_eq, table_eq-itself}
+use Rattle.dv_vault.proofs.Vocabulary.{Bool, Contains, List, Some, Table, TableId, TableRows, ap, entry_of, false≢true, found_at, map, map_member, none_placed, option_map, placed_within, same_table, slice_get, slice_get-map, subst, sym, table_eq, table_eq-itself, ◌∙◌, ◌≡◌}
 use Rattle.dv_vault.proofs.jobs.WindowJob.batch.Goals as goal
 
 pub unreachable-requires : goal.unreachable-requires

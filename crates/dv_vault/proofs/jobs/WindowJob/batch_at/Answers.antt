@@ -1,4 +1,4 @@
-use Rattle.dv_vault.proofs.Vocabulary.{arith, got_from, length-map, map, entry_of}
+use Rattle.dv_vault.proofs.Vocabulary.{arith, entry_of, got_from, length-map, map}
 use Rattle.dv_vault.proofs.BatchesSoFar.{vault_tables}
 use Rattle.dv_vault.proofs.jobs.WindowJob.batch_at.Goals as goal
 

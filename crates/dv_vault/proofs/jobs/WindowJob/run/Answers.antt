@@ -1,6 +1,5 @@
-use Rattle.dv_vault.proofs.Vocabulary.{Contains, subst}
+use Rattle.dv_vault.proofs.Vocabulary.{Contains, subst, tasks}
 use Rattle.dv_vault.proofs.TaskFacts.{task_table}
-use Rattle.dv_vault.specs.Tasks.{tasks}
 use Rattle.dv_vault.proofs.jobs.WindowJob.run.Goals as goal
 
 pub batch-requires-after_bounds : goal.batch-requires-after_bounds

@@ -1,4 +1,4 @@
-use Rattle.dv_vault.proofs.Vocabulary.{List, ◌∙◌, ap, map, list_all, hashes_of, is_table_of, TableRows, Table, entries_of, entry_of, hubs_in, rows_of_hubs, are_up_to}
+use Rattle.dv_vault.proofs.Vocabulary.{List, Table, TableRows, ap, are_up_to, entries_of, entry_of, hashes_of, hubs_in, is_table_of, list_all, map, rows_of_hubs, ◌∙◌}
 use Rattle.dv_vault.proofs.BatchesSoFar.{named_apart, vault_tables}
 use Rattle.dv_vault.proofs.raw_tables.RawTables.added.Goals as goal
 

@@ -1,4 +1,4 @@
-use Rattle.dv_vault.proofs.Vocabulary.{ap, map, hashes_of, entries_of, entry_of, hubs_in, rows_of_hubs}
+use Rattle.dv_vault.proofs.Vocabulary.{ap, entries_of, entry_of, hashes_of, hubs_in, map, rows_of_hubs}
 use Rattle.dv_vault.proofs.BatchesSoFar.{named_apart}
 use Rattle.dv_vault.proofs.raw_tables.RawTables.added_by.Goals as goal
 

@@ -1,9 +1,6 @@
-use Rattle.dv_vault.proofs.Vocabulary.{refl, sym, entries_of, entry_of}
-use Rattle.dv_records.specs.ReadBack.{effect_rows}
-use Rattle.dv_records.specs.declared.stores.Rows.TheVariants.{Effects}
-use Rattle.dv_vault.specs.Vaults.{is_effect}
-use Rattle.dv_catalog.specs.declared.tables.TableId.TheVariants as ids
+use Rattle.dv_vault.proofs.Vocabulary.{Effects, effect_rows, entries_of, entry_of, is_effect, refl, sym}
 use Rattle.dv_vault.proofs.VaultFacts.{found_none, if_none, seen_none, seen_rows, seen_there}
+use Rattle.dv_catalog.specs.declared.tables.TableId.TheVariants as ids
 use Rattle.dv_vault.proofs.raw_tables.RawTables.effect.Goals as goal
 
 pub returns-in_err-table-clause-none : goal.returns-in_err-table-clause-none

@@ -1,6 +1,6 @@
-use Rattle.dv_vault.proofs.Vocabulary.{refl, sym, Hubs, hub_rows, entries_of, entry_of, is_hub}
-use Rattle.dv_catalog.specs.declared.tables.TableId.TheVariants as ids
+use Rattle.dv_vault.proofs.Vocabulary.{Hubs, entries_of, entry_of, hub_rows, is_hub, refl, sym}
 use Rattle.dv_vault.proofs.VaultFacts.{found_none, if_none, seen_none, seen_rows}
+use Rattle.dv_catalog.specs.declared.tables.TableId.TheVariants as ids
 use Rattle.dv_vault.proofs.raw_tables.RawTables.hub_at.Goals as goal
 
 pub returns-in_err-table-clause-none : goal.returns-in_err-table-clause-none

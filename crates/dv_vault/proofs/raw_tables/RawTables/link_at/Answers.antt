@@ -1,6 +1,6 @@
-use Rattle.dv_vault.proofs.Vocabulary.{refl, sym, Links, link_rows, entries_of, entry_of, is_link}
-use Rattle.dv_catalog.specs.declared.tables.TableId.TheVariants as ids
+use Rattle.dv_vault.proofs.Vocabulary.{Links, entries_of, entry_of, is_link, link_rows, refl, sym}
 use Rattle.dv_vault.proofs.VaultFacts.{found_none, if_none, seen_none, seen_rows}
+use Rattle.dv_catalog.specs.declared.tables.TableId.TheVariants as ids
 use Rattle.dv_vault.proofs.raw_tables.RawTables.link_at.Goals as goal
 
 pub returns-in_err-table-clause-none : goal.returns-in_err-table-clause-none

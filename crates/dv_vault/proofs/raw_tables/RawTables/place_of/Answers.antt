@@ -1,5 +1,4 @@
-use Rattle.dv_vault.proofs.Vocabulary.{ap, table_eq, ◌∙◌, Table, TableRows, entry_of}
-use Rattle.std.specs.List.{position}
+use Rattle.dv_vault.proofs.Vocabulary.{Table, TableRows, ap, entry_of, position, table_eq, ◌∙◌}
 use Rattle.dv_vault.proofs.VaultFacts.{position-seen, rows_of_kind}
 use Rattle.dv_vault.proofs.raw_tables.RawTables.place_of.Goals as goal
 

@@ -1,6 +1,6 @@
-use Rattle.dv_vault.proofs.Vocabulary.{refl, sym, Sats, sat_rows, entries_of, entry_of, is_sat}
-use Rattle.dv_catalog.specs.declared.tables.TableId.TheVariants as ids
+use Rattle.dv_vault.proofs.Vocabulary.{Sats, entries_of, entry_of, is_sat, refl, sat_rows, sym}
 use Rattle.dv_vault.proofs.VaultFacts.{found_none, if_none, seen_none, seen_rows, seen_there}
+use Rattle.dv_catalog.specs.declared.tables.TableId.TheVariants as ids
 use Rattle.dv_vault.proofs.raw_tables.RawTables.sat.Goals as goal
 
 pub returns-in_err-table-clause-none : goal.returns-in_err-table-clause-none

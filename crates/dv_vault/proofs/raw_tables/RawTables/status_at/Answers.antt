@@ -1,6 +1,6 @@
-use Rattle.dv_vault.proofs.Vocabulary.{refl, sym, Statuses, status_rows, entries_of, entry_of, is_status}
-use Rattle.dv_catalog.specs.declared.tables.TableId.TheVariants as ids
+use Rattle.dv_vault.proofs.Vocabulary.{Statuses, entries_of, entry_of, is_status, refl, status_rows, sym}
 use Rattle.dv_vault.proofs.VaultFacts.{found_none, if_none, seen_none, seen_rows}
+use Rattle.dv_catalog.specs.declared.tables.TableId.TheVariants as ids
 use Rattle.dv_vault.proofs.raw_tables.RawTables.status_at.Goals as goal
 
 pub returns-in_err-table-clause-none : goal.returns-in_err-table-clause-none

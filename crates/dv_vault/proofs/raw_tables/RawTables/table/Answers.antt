@@ -1,4 +1,4 @@
-use Rattle.dv_vault.proofs.Vocabulary.{◌∙◌, ap, find, option_map, TableRows, table_eq, Table, entry_of}
+use Rattle.dv_vault.proofs.Vocabulary.{Table, TableRows, ap, entry_of, find, option_map, table_eq, ◌∙◌}
 use Rattle.dv_vault.proofs.VaultFacts.{find-seen, seen-twice}
 use Rattle.dv_vault.proofs.raw_tables.RawTables.table.Goals as goal
 

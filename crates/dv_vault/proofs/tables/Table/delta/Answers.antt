@@ -1,7 +1,4 @@
-use Rattle.dv_vault.proofs.Vocabulary.{◌∙◌, [], ap, hashes_of, source, extract_added, statuses_added, Statuses}
-use Rattle.dv_records.specs.declared.stores.Rows.TheVariants.{Effects, Multis}
-use Rattle.dv_sat.specs.MultiFeedTables.{multis_added}
-use Rattle.dv_track.specs.EffectFeedTables.{effects_added}
+use Rattle.dv_vault.proofs.Vocabulary.{Effects, Multis, Statuses, [], ap, effects_added, extract_added, hashes_of, multis_added, source, statuses_added, ◌∙◌}
 use Rattle.dv_vault.proofs.TableFacts.{same_extract}
 use Rattle.dv_vault.proofs.tables.Table.delta.Goals as goal
 

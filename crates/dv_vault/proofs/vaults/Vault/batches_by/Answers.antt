@@ -1,5 +1,4 @@
-use Rattle.dv_vault.proofs.Vocabulary.{◌≡◌, None, subst, sym, late_after, IfErr, IfOk, AreApart, RawVault, entries_of, hashes_of, last_head}
-use Rattle.dv_vault.specs.Additions.{Clashes}
+use Rattle.dv_vault.proofs.Vocabulary.{AreApart, Clashes, IfErr, IfOk, None, RawVault, entries_of, hashes_of, last_head, late_after, subst, sym, ◌≡◌}
 use Rattle.dv_vault.proofs.Taken.{rows_not_later}
 use Rattle.dv_vault.proofs.vaults.Vault.batches_by.Goals as goal
 

@@ -1,6 +1,5 @@
-use Rattle.dv_vault.proofs.Vocabulary.{◌≡◌, ◌∙◌, ◌+◌, List, Rows, TableRows, ArePartsOf, FollowAll, RawVault, Window, ap, arith, entries_with, entry_of, is_window, last_head, late_after, map, no_rows, opened_in, rest_in, row_count, rows_weight, subst, sum_by, sym, tables_weight, whole_in}
-use Rattle.dv_vault.proofs.NewWindows.{new_kinds, new_whole, none_counted}
-use Rattle.dv_vault.proofs.Taken.{weight_grows}
+use Rattle.dv_vault.proofs.Vocabulary.{ArePartsOf, FollowAll, List, RawVault, Rows, TableRows, Window, ap, arith, entries_with, entry_of, is_window, last_head, late_after, map, no_rows, opened_in, rest_in, row_count, rows_weight, subst, sum_by, sym, tables_weight, whole_in, ◌+◌, ◌∙◌, ◌≡◌}
+use Rattle.dv_vault.proofs.{NewWindows.new_kinds, NewWindows.new_whole, NewWindows.none_counted, Taken.weight_grows}
 use Rattle.dv_vault.proofs.vaults.Vault.begun.Goals as goal
 
 pub returns-clause-adds : goal.returns-clause-adds

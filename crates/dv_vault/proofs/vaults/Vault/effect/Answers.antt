@@ -1,6 +1,6 @@
-use Rattle.dv_vault.proofs.Vocabulary.{subst, Contains, IfNone, IfSome, tables, RawVault, entries_of}
-use Rattle.dv_catalog.specs.declared.tables.TableId.TheVariants as ids
+use Rattle.dv_vault.proofs.Vocabulary.{Contains, IfNone, IfSome, RawVault, entries_of, subst, tables}
 use Rattle.dv_vault.proofs.VaultFacts.{not_of_mapping, of_mapping}
+use Rattle.dv_catalog.specs.declared.tables.TableId.TheVariants as ids
 use Rattle.dv_vault.proofs.vaults.Vault.effect.Goals as goal
 
 pub returns-clause-there : goal.returns-clause-there

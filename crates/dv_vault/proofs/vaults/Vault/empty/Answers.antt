@@ -1,4 +1,4 @@
-use Rattle.dv_vault.proofs.Vocabulary.{◌≡◌, ap, sym, true, subst, List, WindowHead, are_heads_of, are_rows_kept, entries_of}
+use Rattle.dv_vault.proofs.Vocabulary.{List, WindowHead, ap, are_heads_of, are_rows_kept, entries_of, subst, sym, true, ◌≡◌}
 use Rattle.dv_vault.proofs.EmptyTables.{new_kept}
 use Rattle.dv_vault.proofs.vaults.Vault.empty.Goals as goal
 

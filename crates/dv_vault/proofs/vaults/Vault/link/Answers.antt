@@ -1,4 +1,4 @@
-use Rattle.dv_vault.proofs.Vocabulary.{◌<◌, length, subst, sym, RawVault, entries_of}
+use Rattle.dv_vault.proofs.Vocabulary.{RawVault, entries_of, length, subst, sym, ◌<◌}
 use Rattle.dv_vault.proofs.VaultFacts.{link_there}
 use Rattle.dv_vault.proofs.vaults.Vault.link.Goals as goal
 

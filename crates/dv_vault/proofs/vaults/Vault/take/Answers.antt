@@ -1,7 +1,5 @@
-use Rattle.dv_vault.proofs.Vocabulary.{AllZip, Follow, ◌≡◌, ◌++◌, ◌∷◌, [], ◌∙◌, List, Rows, Some, ap, map, subst, sym, true, with_items, BreaksWindow, IsBegunIn, TakesWindow, TableRows, Told, head_of, tables_weight, Fits, RawVault, entries_with, entry_of, tables_whole, whole_in}
-use Rattle.dv_vault.proofs.Taken.{entries_after, entries_now, follows, heads_still, rows_still, vault_still}
-use Rattle.dv_vault.proofs.Broken.{nothing_breaks, opening_breaks, then_begun, then_breaks, then_takes}
-use Rattle.dv_vault.proofs.TablesApart.{vault_apart}
+use Rattle.dv_vault.proofs.Vocabulary.{AllZip, BreaksWindow, Fits, Follow, IsBegunIn, List, RawVault, Rows, Some, TableRows, TakesWindow, Told, [], ap, entries_with, entry_of, head_of, map, subst, sym, tables_weight, tables_whole, true, whole_in, with_items, ◌++◌, ◌∙◌, ◌∷◌, ◌≡◌}
+use Rattle.dv_vault.proofs.{Taken.entries_after, Taken.entries_now, Taken.follows, Taken.heads_still, Taken.rows_still, Taken.vault_still, Broken.nothing_breaks, Broken.opening_breaks, Broken.then_begun, Broken.then_breaks, Broken.then_takes, TablesApart.vault_apart}
 use Rattle.dv_vault.proofs.vaults.Vault.take.Goals as goal
 
 pub returns-in_default-clause-broke : goal.returns-in_default-clause-broke
