@@ -1,25 +1,8 @@
 -- The bridge that the vault's tables say is that of the sealed windows, and so are the sizes of its prefixes.
-use Rattle.std.proofs.lemmas.List.{length-map}
-use Rattle.std.proofs.lemmas.List.Folds.{list_all-append}
-use Rattle.std.proofs.lemmas.Simd.{map-map}
-use Rattle.std.proofs.Common.{length-take-le, take-append-drop}
-use Rattle.std.specs.Cmp.Lexicographic.{slice_cmp}
-use Rattle.std.specs.Prelude.{◌-◌, filter}
-use Rattle.dv_catalog.proofs.ValidReads.{valid_path}
-use Rattle.dv_catalog.proofs.Vocabulary.{are_joined_by, is_link_feed}
-use Rattle.dv_catalog.specs.declared.entries.PathDef.{PathDef}
-use Rattle.dv_catalog.specs.Mappings.{is_place_of_step}
-use Rattle.dv_records.proofs.Vocabulary.{Bool, Contains, Hashes, Key, List, Mapping, Some, Window, [], and_from, and_parts, ap, are_windows_valid, arith, drop, feed_hubs}
-use Rattle.dv_records.proofs.Vocabulary.{is_valid, length, list_all, map, passes_at, refl, refs_cmp, slice_get, sorted_by, suc, sym, take, true, vault, zero, ℕ, ◌&&◌, ◌+◌, ◌∙◌, ◌∷◌, ◌≡◌, ◌≤◌}
-use Rattle.dv_records.specs.declared.mart_rows.PathRow.{PathRow}
-use Rattle.dv_records.specs.declared.raw_rows.LinkRow.{LinkRow}
-use Rattle.dv_records.specs.Marts.{agrees, choices, contents, path_rows, path_rows_by, prefix_rows, whole_refs}
-use Rattle.dv_records.specs.Snapshots.{bridge, bridge_cmp, bridge_row}
-use Rattle.dv_bridge.proofs.FeedLinks.{LinkFeed, feed_links_tell, feeds_apart, link_feed}
-use Rattle.dv_bridge.proofs.Joined.{joined, joined_long}
-use Rattle.dv_bridge.proofs.LinkedFeeds.{AreKeysApart, AreLinksOf}
-use Rattle.dv_bridge.specs.BridgeTables.{are_linked, bridge_read, feed_links, place_of, row_over}
-use Rattle.dv_bridge.specs.ZeroKeys.{HasZeroKeys}
+use Rattle.dv_bridge.proofs.Vocabulary.{Bool, Contains, HasZeroKeys, Hashes, Key, LinkRow, List, Mapping, PathDef, PathRow, Some, Window, [], agrees, and_from, and_parts, ap, are_joined_by, are_linked, are_windows_valid, arith, bridge, bridge_cmp, bridge_read, bridge_row, choices, contents, drop}
+use Rattle.dv_bridge.proofs.Vocabulary.{feed_hubs, feed_links, filter, is_link_feed, is_place_of_step, is_valid, length, length-map, length-take-le, list_all, list_all-append, map, map-map, passes_at, path_rows, path_rows_by, place_of, prefix_rows, refl, refs_cmp, row_over, slice_cmp, slice_get}
+use Rattle.dv_bridge.proofs.Vocabulary.{sorted_by, suc, sym, take, take-append-drop, true, valid_path, vault, whole_refs, zero, ℕ, ◌&&◌, ◌+◌, ◌-◌, ◌∙◌, ◌∷◌, ◌≡◌, ◌≤◌}
+use Rattle.dv_bridge.proofs.{FeedLinks.LinkFeed, FeedLinks.feed_links_tell, FeedLinks.feeds_apart, FeedLinks.link_feed, Joined.joined, Joined.joined_long, LinkedFeeds.AreKeysApart, LinkedFeeds.AreLinksOf}
 
 -- ---- paths
 
@@ -84,25 +67,17 @@ module _ (mapping : Mapping) (hashes : Hashes) (sealed : List Window) (zeros : H
     joined_by : are_joined_by mapping path.feeds path.via ≡ true
     joined_by = (valid_path mapping valid place path at).joined
 
-    -- the links of its feeds have as many hubs as the feeds
-    pub links_long : (feed : ℕ) → Contains path.feeds feed → (row : LinkRow) → Contains (feed_links mapping (vault mapping hashes sealed) date feed) row → length row.hubs ≡ length (feed_hubs mapping feed)
-    links_long feed has row row_in =
-        let are = links_of path.feeds path.via of_links one_less joined_by feed has in
-        let (refs, refs_in, is) = are.refs_of row row_in in
-        ap length is.hubs ∙ length-map refs (λ key. hashes.hash (key ∷ [])) ∙ are.long refs refs_in
-
     -- the bridge by the tables is that of the path mart
     pub bridges_tell : bridge_read mapping (vault mapping hashes sealed) date path.feeds path.via ≡ bridge mapping hashes sealed place date
     bridges_tell =
         rows_tell path.feeds path.via of_links one_less joined_by
         ∙ ap (λ o. sorted_by bridge_cmp (map (bridge_row hashes) (path_rows_by mapping (contents sealed date) o))) (sym at)
 
-    -- and that of its first feeds has as many rows as the path mart of these
-    pub prefixes_tell : (n : ℕ) → 1 ≤ n → n ≤ length path.feeds
-        → length (bridge_read mapping (vault mapping hashes sealed) date (take n path.feeds) (take (n - 1) path.via)) ≡ length (prefix_rows mapping (contents sealed date) path n)
-    prefixes_tell zero some within = absurd (omega (arith, some))
-    prefixes_tell (suc n) some within =
-        as_many (take (suc n) path.feeds) (take (suc n - 1) path.via) (first_pass _ (suc n) path.feeds of_links) still_less first
+    -- the first feeds of a path are joined by its first hubs
+    pub first_path : (n : ℕ) → 1 ≤ n → n ≤ length path.feeds
+        → (list_all (λ feed. is_link_feed (slice_get mapping.feeds feed)) (take n path.feeds) ≡ true) × (length (take (n - 1) path.via) + 1 ≡ length (take n path.feeds)) × (are_joined_by mapping (take n path.feeds) (take (n - 1) path.via) ≡ true)
+    first_path zero some within = absurd (omega (arith, some))
+    first_path (suc n) some within = (first_pass _ (suc n) path.feeds of_links, still_less, first)
       where
         less : suc n - 1 ≡ n
         less = omega arith
@@ -115,3 +90,10 @@ module _ (mapping : Mapping) (hashes : Hashes) (sealed : List Window) (zeros : H
 
         first : are_joined_by mapping (take (suc n) path.feeds) (take (suc n - 1) path.via) ≡ true
         first = ap (λ k. are_joined_by mapping (take (suc n) path.feeds) (take k path.via)) less ∙ first_joined mapping n path.feeds path.via joined_by
+
+    -- and that of its first feeds has as many rows as the path mart of these
+    pub prefixes_tell : (n : ℕ) → 1 ≤ n → n ≤ length path.feeds
+        → length (bridge_read mapping (vault mapping hashes sealed) date (take n path.feeds) (take (n - 1) path.via)) ≡ length (prefix_rows mapping (contents sealed date) path n)
+    prefixes_tell n some within =
+        let (links, less, together) = first_path n some within in
+        as_many (take n path.feeds) (take (n - 1) path.via) links less together

@@ -1,15 +1,6 @@
 -- The choices of one item from each list: their parts, their order, and choices that tell the same.
-use Rattle.std.proofs.Common.{◌≡◌, List, [], ◌∷◌, sym, ◌∙◌, ap, subst, arith, map, inl, inr}
-use Rattle.std.specs.Cmp.{IsTotalOrder, tied_itself}
-use Rattle.std.specs.Cmp.Lexicographic.{slice_cmp}
-use Rattle.std.specs.List.Sorted.{IsStrictlySortedBy}
-use Rattle.std.specs.Ordering.{ordering_then}
-use Rattle.std.specs.Prelude.{Contains}
-use Rattle.std.specs.declared.cmp.Ordering.{Ordering}
-use Rattle.std.specs.declared.cmp.Ordering.TheVariants.{Less}
-use Rattle.dv_text.proofs.Members.{Contains-cons_cases, Contains-cons_here, Contains-cons_there, Contains-flat_map, Contains-map, Contains-nil, all_members, flat_map_member, map_member, member_of_all}
-use Rattle.dv_text.proofs.SortedLists.{ascending-append, few_ascend}
-use Rattle.dv_records.specs.Marts.{choices}
+use Rattle.dv_bridge.proofs.Vocabulary.{Contains, Contains-cons_cases, Contains-cons_here, Contains-cons_there, Contains-flat_map, Contains-map, Contains-nil, IsStrictlySortedBy, IsTotalOrder, Less, List, Ordering, [], all_members, ap, arith, ascending-append, choices, few_ascend}
+use Rattle.dv_bridge.proofs.Vocabulary.{flat_map_member, inl, inr, map, map_member, member_of_all, ordering_then, slice_cmp, subst, sym, tied_itself, ◌∙◌, ◌∷◌, ◌≡◌}
 
 -- ---- the parts of a choice
 

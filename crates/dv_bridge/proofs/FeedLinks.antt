@@ -1,32 +1,12 @@
 -- The link rows that the vault tells of a feed are those of the whole reference lists of its content.
-use Rattle.std.proofs.lemmas.List.Kept.{IsStrictlySortedBy-filter}
-use Rattle.std.specs.List.Sorted.{IsStrictlySortedBy}
-use Rattle.dv_text.proofs.Members.{IsStrictlySortedBy-filter_map}
-use Rattle.dv_text.proofs.Places.{position-cons}
-use Rattle.dv_text.proofs.Options.{got_member}
-use Rattle.dv_text.proofs.Passing.{none_passes}
-use Rattle.dv_text.proofs.Vocabulary.{false_from_ne_true, filter}
-use Rattle.dv_catalog.specs.Mappings.{is_link_feed, is_of_link}
-use Rattle.dv_records.proofs.Vocabulary.{Contains, Contains-cons_here, Contains-cons_there, Contains-map, Contains-nil, FeedDef, Hashes, Hub, IsApart, Key, LinkDef, Link, List, Mapping, NRow, None, Option, Parent, Some, Window, Bool, [], all_pass_replicate, all_refs, and_parts, ap}
-use Rattle.dv_records.proofs.Vocabulary.{are_windows_valid, arith, ascending-sorted_by, bytes_eq, bytes_eq-Decides, cond, content, delivered_refs, digest_cmp, each_hash, eqb-true, false, false≢true, feed_hubs, filter_map, filter_map_member, filtered_members, fit_hubs, fits_hub, found_member}
-use Rattle.dv_records.proofs.Vocabulary.{hashed_refs, is_declared, is_hub, is_known, is_missing, is_valid, keys_at, length, link_hubs, link_row_by, link_rows_in, list_all, list_any, ltb-true, map, map_member, member_of_filter_map, missing_key, missing_refs, nat_list_cmp_total, not, not-true}
-use Rattle.dv_records.proofs.Vocabulary.{one_value, option_map, option_map_or, parent_hubs, parts_of, passes_at, position, present_at, present_parents, refl, replicate, reverse, slice_get, sorted_by, status_rows_in, subst, suc, sym, true, valid_feed, valid_link, vault, ℕ, ◌<◌, ◌==◌, ◌||◌, ◌∙◌, ◌∷◌, ◌≡◌}
-use Rattle.dv_records.proofs.FeedContents.{content_delivered, content_row, feed_apart, present_has, row_form, row_present}
-use Rattle.dv_records.proofs.KnownLists.{key_at_first, key_known, row_known}
-use Rattle.dv_records.proofs.KnownRefs.{known_apart, known_hashed, known_there, list_found}
-use Rattle.dv_records.proofs.ValidWindows.{hub_apart, link_apart}
-use Rattle.dv_records.proofs.VaultRows.{vault_link}
-use Rattle.dv_records.proofs.WindowRows.{HasForm}
-use Rattle.dv_records.specs.declared.raw_rows.LinkRow.{LinkRow}
-use Rattle.dv_records.specs.declared.raw_rows.StatusRow.{StatusRow}
-use Rattle.dv_records.specs.declared.stores.TableRows.{TableRows}
-use Rattle.dv_records.specs.Hubs.{link_cmp}
-use Rattle.dv_records.specs.Marts.{whole_refs}
+use Rattle.dv_bridge.proofs.Vocabulary.{Bool, Contains, Contains-cons_here, Contains-cons_there, Contains-map, Contains-nil, FeedDef, HasForm, HasZeroKeys, Hashes, Hub, IsApart, IsStrictlySortedBy, IsStrictlySortedBy-filter, IsStrictlySortedBy-filter_map, Key, Link, LinkDef, LinkRow, List}
+use Rattle.dv_bridge.proofs.Vocabulary.{Mapping, NRow, None, Option, Parent, Some, StatusRow, TableRows, Window, [], all_pass_replicate, all_refs, and_parts, ap, are_windows_valid, arith, as_many, ascending-sorted_by, bytes_eq, bytes_eq-Decides, cond, content, content_delivered, content_row}
+use Rattle.dv_bridge.proofs.Vocabulary.{delivered_refs, digest_cmp, each_hash, eqb-true, false, false_from_ne_true, false≢true, feed_apart, feed_hubs, feed_links, filter, filter_map, filter_map_member, filtered_members, fit_hubs, fits_hub, found_member, got_member, hashed_refs, hub_apart}
+use Rattle.dv_bridge.proofs.Vocabulary.{is_declared, is_hub, is_known, is_link_feed, is_missing, is_of_link, is_valid, is_whole, is_zero, key_at_first, key_at_later, key_known, keys_at, known_apart, known_hashed, known_there, length, link_apart, link_cmp, link_hubs, link_row_by, link_rows_in}
+use Rattle.dv_bridge.proofs.Vocabulary.{links_at, links_by, list_all, list_any, list_found, ltb-true, map, map_member, member_of_filter_map, missing_key, missing_refs, nat_list_cmp_total, none_passes, not, not-true, one_value, option_map, option_map_or, parent_hubs, parent_links, parts_of}
+use Rattle.dv_bridge.proofs.Vocabulary.{passes_at, place_of, position, position-cons, present_at, present_has, present_parents, refl, replicate, reverse, row_form, row_known, row_present, slice_get, sorted_by, status_rows_in, subst, suc, sym, true, valid_feed, valid_link, vault, vault_link}
+use Rattle.dv_bridge.proofs.Vocabulary.{whole_refs, ℕ, ◌<◌, ◌==◌, ◌||◌, ◌∙◌, ◌∷◌, ◌≡◌}
 use Rattle.dv_bridge.proofs.LinkedFeeds.{AreKeysApart, AreLinksOf, IsRowOf}
-use Rattle.dv_bridge.specs.BridgeRows.{is_whole, links_at}
-use Rattle.dv_bridge.specs.BridgeTables.{feed_links, links_by, parent_links, place_of}
-use Rattle.dv_bridge.specs.ZeroKeys.{HasZeroKeys, is_zero}
-use Rattle.dv_records.proofs.FeedRefs.{as_many, key_at_later}
 
 -- ---- references and their hubs
 

@@ -1,26 +1,27 @@
 -- What a join makes row by row, and that it makes the next rows of a bridge.
-use Rattle.dv_bridge.proofs.Vocabulary.{◌≡◌, ◌∙◌, ◌++◌, ◌+◌, ◌<◌, ◌≤◌, ◌∷◌, ℕ, Bool, true, false, List, [], Option, Some, None, BridgeRow, KeyedLink, LinkRow, ap, append-nil, arith, bytes_eq, filter, filter_map, flat_map, flat_map-append, get_or, length, length-flat_map-take, length-append, length-map, map, refl, slice_get, sym, take, take_more}
-use Rattle.dv_bridge.proofs.LongerBridges.{filter-map, filter_no, filter_same}
-use Rattle.std.proofs.lemmas.Simd.{map-map}
-use Rattle.dv_bridge.specs.BridgeRows.{first_row, is_same_key, longer_row, meets, next_rows}
-use Rattle.dv_bridge.specs.Joins.{joined_rows, keyed_at, met_links, row_of, row_with, rows_with, with_key}
-use Rattle.dv_bridge.specs.declared.whole_links.WholeLink.{WholeLink}
+use Rattle.dv_bridge.proofs.Vocabulary.{BridgeRow, KeyedLink, KeyedRow, LinkRow, List, None, Option, Some, [], ap, append-nil, arith, bare, filter, flat_map, flat_map-append, get_or, is_same_key, joined_rows, key_of, keyed_met, length, length-append, length-flat_map-take, length-map, longer_row}
+use Rattle.dv_bridge.proofs.Vocabulary.{map, map-map, meets, met_by, next_rows, refl, row_with, slice_get, sym, take, take_more, with_key, ℕ, ◌++◌, ◌+◌, ◌<◌, ◌∙◌, ◌∷◌, ◌≡◌, ◌≤◌}
+use Rattle.dv_bridge.proofs.LongerWays.{filter-map, filter_no}
 
 -- ---- a row more
 
+-- a row with each link that it meets
+abbrev rows_with : ℕ → List KeyedLink → BridgeRow → List BridgeRow
+rows_with place links row = map (row_with row) (keyed_met (slice_get row.hubs place) links)
+
 module _ (place : ℕ) (links : List KeyedLink) (rows : List BridgeRow) (i : ℕ) (row : BridgeRow) (under : i < length rows) (is : row ≡ get_or rows i row) (made : List BridgeRow) (so_far : made ≡ joined_rows place links (take i rows))
-    (met : List KeyedLink) (met_is : met ≡ met_links place links row) where
-  pub joined_more : made ++ map (λ (one : KeyedLink). row_with row one.link) met ≡ joined_rows place links (take (i + 1) rows)
+    (met : List KeyedLink) (met_is : met ≡ keyed_met (slice_get row.hubs place) links) where
+  pub joined_more : made ++ map (row_with row) met ≡ joined_rows place links (take (i + 1) rows)
   joined_more =
-      let here : flat_map (rows_with place links) (row ∷ []) ≡ map (λ (one : KeyedLink). row_with row one.link) met =
-      append-nil (rows_with place links row) ∙ ap (map (λ (one : KeyedLink). row_with row one.link)) (sym met_is) in
+      let here : flat_map (rows_with place links) (row ∷ []) ≡ map (row_with row) met =
+      append-nil (rows_with place links row) ∙ ap (map (row_with row)) (sym met_is) in
       rw (so_far, ← here) (sym (flat_map-append (rows_with place links) (take i rows) (row ∷ [])) ∙ ap (joined_rows place links) (sym (take_more rows i row under ∙ ap (λ r. take i rows ++ r ∷ []) (sym is))))
 
   -- where there is no room for the rows that a row makes, there are too many
   pub too_many : (most : ℕ) → most < length made + length met → most < length (joined_rows place links rows)
   too_many most over =
       let more = length-flat_map-take (rows_with place links) rows i row under in
-      let last : length (rows_with place links (get_or rows i row)) ≡ length met = ap (λ r. length (rows_with place links r)) (sym is) ∙ length-map (met_links place links row) (λ (one : KeyedLink). row_with row one.link) ∙ ap length (sym met_is) in
+      let last : length (rows_with place links (get_or rows i row)) ≡ length met = ap (λ r. length (rows_with place links r)) (sym is) ∙ length-map (keyed_met (slice_get row.hubs place) links) (row_with row) ∙ ap length (sym met_is) in
       let first : length made ≡ length (joined_rows place links (take i rows)) = ap length so_far in
       omega (arith, more, last, first, over)
 
@@ -32,53 +33,26 @@ few_more made items f met most same room =
 
 -- ---- all rows
 
--- a row, and another one's hash keys behind its own
-abbrev row_then : BridgeRow → BridgeRow → BridgeRow
-row_then row more = record { links = row.links ++ more.links; hubs = row.hubs ++ more.hubs }
+-- where there is no key, no link is met
+pub none_met : (key : Option (List ℕ)) (links : List KeyedLink) → ((x : List ℕ) → key ≡ Some x → ⊥) → [] ≡ keyed_met key links
+none_met None links none = sym (filter_no links)
+none_met (Some key) links none = absurd (none key refl)
 
-module _ (row : BridgeRow) (place : ℕ) (key : List ℕ) where
-  abbrev with_lent : List WholeLink → List BridgeRow
-  with_lent links = map (λ (one : KeyedLink). row_with row one.link) (with_key key (filter_map (keyed_at place) links))
+module _ (right : ℕ) (lent : List KeyedRow) (links : List KeyedLink) (are_keyed : (key : List ℕ) → with_key key links ≡ met_by right (Some key) lent) where
+  -- the lent links of a key, if there is one, are those that have it at the place
+  pub met_told : (key : Option (List ℕ)) → map (λ (one : KeyedLink). one.link.now) (keyed_met key links) ≡ met_by right key lent
+  met_told None = ap (map (λ (one : KeyedLink). one.link.now)) (filter_no links) ∙ sym (filter_no lent)
+  met_told (Some key) = are_keyed key
 
-  abbrev at_key : BridgeRow → Bool
-  at_key link = is_same_key (Some key) (slice_get link.hubs place)
+  module _ (left : ℕ) (told : List LinkRow) (are_told : lent ≡ map bare told) where
+    rows_are : (row : BridgeRow) → rows_with left links row ≡ map (longer_row row) (filter (meets left right row) told)
+    rows_are row =
+        let key = slice_get row.hubs left in
+        sym (map-map (λ (link : KeyedRow). longer_row row link.row) (λ (one : KeyedLink). one.link.now) (keyed_met key links))
+        ∙ ap (map (λ (link : KeyedRow). longer_row row link.row))
+        (met_told key ∙ ap (met_by right key) are_told ∙ filter-map (λ link. is_same_key key (key_of right link)) bare told)
+        ∙ map-map (λ (link : KeyedRow). longer_row row link.row) bare (filter (meets left right row) told)
 
-  -- the rows with the links of a key, where they are lent and where they are told
-  with_links : (links : List WholeLink) → with_lent links ≡ map (row_then row) (filter at_key (map row_of links))
-  with_links [] = refl
-  with_links (link ∷ links) = by (slice_get link.hubs.now place) refl (with_links links)
-    where
-      by : (o : Option (List ℕ)) → slice_get link.hubs.now place ≡ o → with_lent links ≡ map (row_then row) (filter at_key (map row_of links)) → with_lent (link ∷ links) ≡ map (row_then row) (filter at_key (map row_of (link ∷ links)))
-      by None e rest = rw e rest
-      by (Some other) e rest = same (bytes_eq key other) refl
-        where
-          same : (b : Bool) → bytes_eq key other ≡ b → with_lent (link ∷ links) ≡ map (row_then row) (filter at_key (map row_of (link ∷ links)))
-          same true t = rw (e, t) (ap (λ rows. row_with row link ∷ rows) rest)
-          same false t = rw (e, t) rest
-
-module _ (left right : ℕ) (told : List LinkRow) (lent : List WholeLink) (links : List KeyedLink) (are_told : map row_of lent ≡ map first_row told)
-    (are_keyed : (key : List ℕ) → with_key key links ≡ with_key key (filter_map (keyed_at right) lent)) where
-  rows_are : (row : BridgeRow) → rows_with left links row ≡ map (longer_row row) (filter (meets left right row) told)
-  rows_are row = by (slice_get row.hubs left) refl
-    where
-      by : (o : Option (List ℕ)) → slice_get row.hubs left ≡ o → rows_with left links row ≡ map (longer_row row) (filter (meets left right row) told)
-      by None e =
-          ap (map (λ (one : KeyedLink). row_with row one.link)) (filter_same _ (λ one. false) links (λ one. rw e refl) ∙ filter_no links)
-          ∙ sym (ap (map (longer_row row)) (filter_same (meets left right row) (λ link. false) told (λ link. rw e refl) ∙ filter_no told))
-      by (Some key) e =
-          ap (map (λ (one : KeyedLink). row_with row one.link)) (filter_same _ (λ (one : KeyedLink). bytes_eq key one.key) links (λ one. rw e refl) ∙ are_keyed key)
-          ∙ with_links row right key lent ∙ ap (λ all. map (row_then row) (filter (at_key row right key) all)) are_told
-          ∙ ap (map (row_then row)) (filter-map (at_key row right key) first_row told)
-          ∙ map-map (row_then row) first_row (filter (λ link. at_key row right key (first_row link)) told)
-          ∙ ap (map (longer_row row)) (filter_same (λ link. at_key row right key (first_row link)) (meets left right row) told (λ link. rw e refl))
-
-  pub joined_next : (rows : List BridgeRow) → joined_rows left links rows ≡ next_rows left right told rows
-  joined_next [] = refl
-  joined_next (row ∷ rows) = rw (rows_are row, joined_next rows) refl
-
--- ---- what is met
-
-pub none_met : (place : ℕ) (links : List KeyedLink) (row : BridgeRow) (hubs : List (List ℕ)) → hubs ≡ row.hubs → slice_get hubs place ≡ None → [] ≡ met_links place links row
-none_met place links row hubs same past =
-    let none : slice_get row.hubs place ≡ None = ap (λ keys. slice_get keys place) (sym same) ∙ past in
-    sym (filter_same _ (λ one. false) links (λ one. rw none refl) ∙ filter_no links)
+    pub joined_next : (rows : List BridgeRow) → joined_rows left links rows ≡ next_rows left right told rows
+    joined_next [] = refl
+    joined_next (row ∷ rows) = rw (rows_are row, joined_next rows) refl

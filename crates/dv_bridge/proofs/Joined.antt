@@ -1,38 +1,8 @@
 -- The join on hash keys, over the link rows of feeds, is the join on keys, over the reference lists of their contents.
-use Rattle.std.proofs.Common.{◌≡◌, ℕ, ◌+◌, true, List, [], ◌∷◌, refl, sym, ◌∙◌, ap, subst, length, map, filter}
-use Rattle.std.proofs.lemmas.List.{length-map}
-use Rattle.std.proofs.lemmas.List.Kept.{IsStrictlySortedBy-filter}
-use Rattle.std.specs.Cmp.{IsTotalOrder, on_total, then_total}
-use Rattle.std.specs.Cmp.Lexicographic.{lists_total, nat_list_cmp_total, slice_cmp}
-use Rattle.std.specs.FinMap.{IsAntisymmetric, slice_cmp-IsAntisymmetric}
-use Rattle.std.specs.List.{list_all}
-use Rattle.std.specs.List.Sorted.{IsStrictlySortedBy}
-use Rattle.std.specs.Ordering.{ordering_then}
-use Rattle.std.specs.Prelude.{Contains, slice_get}
-use Rattle.std.specs.declared.cmp.Ordering.{Ordering}
-use Rattle.std.specs.declared.cmp.Ordering.TheVariants.{Less, Equal, Greater}
-use Rattle.dv_text.proofs.Deciding.{refs_exact, refs_total}
-use Rattle.dv_text.proofs.Members.{Contains-map, filtered_members, map_member}
-use Rattle.dv_text.proofs.SortedLists.{ascending-sorted_by, member_after_sort, member_before_sort, sorted_by-members}
-use Rattle.dv_text.specs.Exact.{text_cmp-IsAntisymmetric}
-use Rattle.dv_text.specs.Keys.{Hashes}
-use Rattle.dv_text.specs.Orders.{refs_cmp}
-use Rattle.dv_text.specs.Sorting.{sorted_by}
-use Rattle.dv_text.specs.declared.rows.Key.{Key}
-use Rattle.dv_catalog.specs.Entries.{Mapping}
-use Rattle.dv_catalog.specs.Feeds.{feed_hubs}
-use Rattle.dv_catalog.specs.Mappings.{are_joined_by, is_link_feed, is_valid}
-use Rattle.dv_records.specs.declared.raw_rows.LinkRow.{LinkRow}
-use Rattle.dv_records.specs.declared.snapshots.BridgeRow.{BridgeRow}
-use Rattle.dv_records.specs.Batches.{digest_cmp}
-use Rattle.dv_records.specs.Hubs.{link_cmp}
-use Rattle.dv_records.specs.Marts.{agrees, choices}
-use Rattle.dv_records.specs.Snapshots.{bridge_cmp, bridge_row}
-use Rattle.dv_bridge.proofs.Choices.{alike_choice, alike_turned, ascending-choices, ascending-map, choices_apart}
-use Rattle.dv_bridge.proofs.LinkedFeeds.{AreLinksOf}
-use Rattle.dv_bridge.proofs.MatchingRows.{AreHubsApart, IsMatch, linked_alike, row_alike}
-use Rattle.dv_bridge.proofs.SortedLengths.{as_long}
-use Rattle.dv_bridge.specs.BridgeTables.{are_linked, row_over}
+use Rattle.dv_bridge.proofs.Vocabulary.{BridgeRow, Contains, Contains-map, Equal, Greater, Hashes, IsAntisymmetric, IsStrictlySortedBy, IsStrictlySortedBy-filter, IsTotalOrder, Key, Less, LinkRow, List, Mapping, Ordering, [], agrees, ap, are_joined_by, are_linked, ascending-sorted_by, bridge_cmp}
+use Rattle.dv_bridge.proofs.Vocabulary.{bridge_row, choices, digest_cmp, feed_hubs, filter, filtered_members, is_link_feed, is_valid, length, length-map, link_cmp, list_all, lists_total, map, map_member, member_after_sort, member_before_sort, nat_list_cmp_total, on_total, ordering_then, refl}
+use Rattle.dv_bridge.proofs.Vocabulary.{refs_cmp, refs_exact, refs_total, row_over, slice_cmp, slice_cmp-IsAntisymmetric, slice_get, sorted_by, sorted_by-members, subst, sym, text_cmp-IsAntisymmetric, then_total, true, ℕ, ◌+◌, ◌∙◌, ◌∷◌, ◌≡◌}
+use Rattle.dv_bridge.proofs.{Choices.alike_choice, Choices.alike_turned, Choices.ascending-choices, Choices.ascending-map, Choices.choices_apart, LinkedFeeds.AreLinksOf, MatchingRows.AreHubsApart, MatchingRows.IsMatch, MatchingRows.linked_alike, MatchingRows.row_alike, SortedLengths.as_long}
 
 -- ---- the orders
 

@@ -1,25 +1,7 @@
 -- The keys of a hub among the references of a link: the one key at the hub's place.
-use Rattle.std.proofs.Common.{◌≡◌, ℕ, ◌==◌, Bool, true, false, List, [], ◌∷◌, ◌++◌, Option, Some, None, refl, sym, ◌∙◌, ap, subst, arith, cond, length, suc, inl, inr, eq-eqb}
-use Rattle.std.proofs.lemmas.Bool.{eqb-true, false≢true}
-use Rattle.std.proofs.lemmas.List.Elements.{Contains-append_left, Contains-append_right}
-use Rattle.std.specs.List.{list_any}
-use Rattle.std.specs.Option.{option_map}
-use Rattle.std.specs.Prelude.{Contains, nat_eq, position, slice_get}
-use Rattle.dv_text.proofs.Members.{Contains-cons_cases, Contains-cons_here, Contains-cons_there, Contains-nil}
-use Rattle.dv_text.proofs.Options.{made_of, or_none}
-use Rattle.dv_text.proofs.Passing.{some_passes, some_passes_at}
-use Rattle.dv_text.proofs.Places.{none_placed, position-cons}
-use Rattle.dv_text.specs.declared.rows.Key.{Key}
-use Rattle.dv_catalog.proofs.ValidReads.{valid_link}
-use Rattle.dv_catalog.specs.Entries.{Mapping}
-use Rattle.dv_catalog.specs.Feeds.{feed_hubs, hubs_by, keys_at, link_hubs, parent_hubs}
-use Rattle.dv_catalog.specs.Lookups.{again, again_after, number_twice}
-use Rattle.dv_catalog.specs.Mappings.{has_number, is_place_of_step, is_valid, link_places, step_places}
-use Rattle.dv_catalog.specs.declared.entries.FeedDef.{FeedDef}
-use Rattle.dv_catalog.specs.declared.entries.LinkDef.{LinkDef}
-use Rattle.dv_catalog.specs.declared.entries.Parent.{Parent}
-use Rattle.dv_catalog.specs.declared.entries.Parent.TheVariants.{Hub, Link}
-use Rattle.dv_bridge.specs.BridgeTables.{place_of}
+use Rattle.dv_bridge.proofs.Vocabulary.{Bool, Contains, Contains-append_left, Contains-append_right, Contains-cons_cases, Contains-cons_here, Contains-cons_there, Contains-nil, FeedDef, Hub, Key, Link, LinkDef, List, Mapping, None, Option, Parent, Some, [], again, again_after, ap, arith, cond}
+use Rattle.dv_bridge.proofs.Vocabulary.{eq-eqb, eqb-true, false, false≢true, feed_hubs, has_number, hubs_by, inl, inr, is_place_of_step, is_valid, keys_at, length, link_hubs, link_places, list_any, made_of, nat_eq, none_placed, number_twice, option_map, or_none, parent_hubs, place_of, position}
+use Rattle.dv_bridge.proofs.Vocabulary.{position-cons, refl, slice_get, some_passes, some_passes_at, step_places, subst, suc, sym, true, valid_link, ℕ, ◌++◌, ◌==◌, ◌∙◌, ◌∷◌, ◌≡◌}
 
 -- ---- hubs of which none stands earlier
 

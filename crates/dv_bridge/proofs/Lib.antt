@@ -6,9 +6,12 @@ pub mod Joined
 pub mod KeyPlaces
 pub mod KeyedLinks
 pub mod LinkedFeeds
-pub mod LongerBridges
+pub mod LongerWays
 pub mod MatchingRows
+pub mod PathBridges
+pub mod PathFeeds
+pub mod PathLinks
 pub mod SortedLengths
 pub mod Vocabulary
-pub mod WholeLinks
+pub mod WayEnds
 pub mod ZeroKeys

@@ -1,11 +1,5 @@
 -- What the laws of bridges ask of each feed of a path: its link rows and the reference lists of its content tell the same.
-use Rattle.std.specs.List.Sorted.{IsStrictlySortedBy}
-use Rattle.std.specs.Prelude.{◌≡◌, ℕ, List, [], ◌∷◌, Some, Contains, length, slice_get}
-use Rattle.dv_text.specs.declared.rows.Key.{Key}
-use Rattle.dv_text.specs.Keys.{Hashes}
-use Rattle.dv_records.specs.declared.raw_rows.LinkRow.{LinkRow}
-use Rattle.dv_records.specs.Collisions.{IsApart}
-use Rattle.dv_records.specs.Hubs.{each_hash, link_cmp}
+use Rattle.dv_bridge.proofs.Vocabulary.{Contains, Hashes, IsApart, IsStrictlySortedBy, Key, LinkRow, List, Some, [], each_hash, length, link_cmp, slice_get, ℕ, ◌∷◌, ◌≡◌}
 
 -- a link row has the hash keys of a reference list
 pub record IsRowOf (hashes : Hashes) (refs : List Key) (row : LinkRow) : Type 0 where

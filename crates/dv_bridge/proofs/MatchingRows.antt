@@ -1,30 +1,8 @@
 -- Reference lists and the link rows of them, one of each feed: rows are linked exactly where their lists agree, and the
 -- bridge rows over both are one.
-use Rattle.std.proofs.Common.{◌≡◌, ℕ, ◌&&◌, true, List, [], ◌∷◌, ◌++◌, Some, refl, sym, ◌∙◌, ap, length, map}
-use Rattle.std.proofs.lemmas.Bool.{and_from, and_parts}
-use Rattle.std.proofs.lemmas.Option.{slice_get-map}
-use Rattle.std.proofs.lemmas.Slice.Eq.{bytes_eq-Decides}
-use Rattle.std.specs.Cmp.Lexicographic.{pointwise}
-use Rattle.std.specs.List.{flat_map}
-use Rattle.std.specs.Option.{option_map}
-use Rattle.std.specs.Prelude.{Contains, slice_get}
-use Rattle.std.specs.Str.{bytes_eq}
-use Rattle.dv_text.proofs.Deciding.{key_eq-Decides}
-use Rattle.dv_text.proofs.Members.{Contains-cons_here, Contains-cons_there}
-use Rattle.dv_text.proofs.Passing.{same_answer}
-use Rattle.dv_text.specs.Keys.{Hashes, key_eq}
-use Rattle.dv_text.specs.declared.rows.Key.{Key}
-use Rattle.dv_catalog.specs.Entries.{Mapping}
-use Rattle.dv_catalog.specs.Feeds.{feed_hubs, keys_at}
-use Rattle.dv_catalog.specs.Mappings.{are_joined_by, is_place_of_step, is_valid}
-use Rattle.dv_records.specs.declared.raw_rows.LinkRow.{LinkRow}
-use Rattle.dv_records.specs.Hubs.{each_hash}
-use Rattle.dv_records.specs.Marts.{agrees}
-use Rattle.dv_records.specs.Snapshots.{bridge_row}
-use Rattle.dv_bridge.proofs.Choices.{AreAlike, more, none}
-use Rattle.dv_bridge.proofs.KeyPlaces.{hub_of_step, key_at_place}
-use Rattle.dv_bridge.proofs.LinkedFeeds.{AreKeysApart, IsRowOf}
-use Rattle.dv_bridge.specs.BridgeTables.{are_linked, place_of, row_over, share}
+use Rattle.dv_bridge.proofs.Vocabulary.{Contains, Contains-cons_here, Contains-cons_there, Hashes, Key, LinkRow, List, Mapping, Some, [], agrees, and_from, and_parts, ap, are_joined_by, are_linked, bridge_row, bytes_eq, bytes_eq-Decides, each_hash, feed_hubs, flat_map, is_place_of_step, is_valid}
+use Rattle.dv_bridge.proofs.Vocabulary.{key_eq, key_eq-Decides, keys_at, length, map, option_map, place_of, pointwise, refl, row_over, same_answer, share, slice_get, slice_get-map, sym, true, ℕ, ◌&&◌, ◌++◌, ◌∙◌, ◌∷◌, ◌≡◌}
+use Rattle.dv_bridge.proofs.{Choices.AreAlike, Choices.more, Choices.none, KeyPlaces.hub_of_step, KeyPlaces.key_at_place, LinkedFeeds.AreKeysApart, LinkedFeeds.IsRowOf}
 
 module _ (mapping : Mapping) (hashes : Hashes) (lists : ℕ → List (List Key)) where
   -- a reference list of a feed, and the row of it

@@ -1,14 +1,5 @@
 -- A sort leaves out none of the items, where no two of them tie.
-use Rattle.std.proofs.Common.{◌≡◌, List, [], ◌∷◌, refl, ◌∙◌, ap, map, suc, length}
-use Rattle.std.specs.Cmp.{IsTotalOrder}
-use Rattle.std.specs.List.Sorted.{IsStrictlySortedBy}
-use Rattle.std.specs.Prelude.{Contains}
-use Rattle.std.specs.declared.cmp.Ordering.{Ordering}
-use Rattle.std.specs.declared.cmp.Ordering.TheVariants.{Less, Equal, Greater}
-use Rattle.dv_text.proofs.Members.{Contains-cons_here, Contains-cons_there, map_member, member_of_all}
-use Rattle.dv_text.proofs.Orderings.{irreflexive}
-use Rattle.dv_text.proofs.SortedLists.{member_before_sort}
-use Rattle.dv_text.specs.Sorting.{insert_by, sorted_by}
+use Rattle.dv_bridge.proofs.Vocabulary.{Contains, Contains-cons_here, Contains-cons_there, Equal, Greater, IsStrictlySortedBy, IsTotalOrder, Less, List, Ordering, [], ap, insert_by, irreflexive, length, map, map_member, member_before_sort, member_of_all, refl, sorted_by, suc, ◌∙◌, ◌∷◌, ◌≡◌}
 
 module _ {Y : Type 0} (S : Y → Y → Ordering) where
   one_longer : (x : Y) (ys : List Y) → ((y : Y) → Contains ys y → S x y ≡ Equal → ⊥) → length (insert_by S x ys) ≡ suc (length ys)

@@ -1,11 +1,5 @@
 -- Hash keys by a digest function of one width have zero keys.
-use Rattle.std.proofs.lemmas.List.{length-replicate}
-use Rattle.std.specs.List.{list_all}
-use Rattle.std.specs.Prelude.{◌≡◌, ℕ, Bool, true, false, List, length, replicate, if◌then◌else◌}
-use Rattle.dv_records.proofs.Vocabulary.{refl}
-use Rattle.dv_text.specs.declared.rows.Key.{Key}
-use Rattle.dv_text.specs.Keys.{DigestFunction, hashes_of, is_missing, refs_text}
-use Rattle.dv_bridge.specs.ZeroKeys.{HasZeroKeys}
+use Rattle.dv_bridge.proofs.Vocabulary.{Bool, DigestFunction, HasZeroKeys, Key, List, false, hashes_of, if◌then◌else◌, is_missing, length, length-replicate, list_all, refl, refs_text, replicate, true, ◌≡◌}
 
 module _ (function : DigestFunction) where
   of_width : (missing : Bool) (refs : List Key) → length (if missing then replicate function.width 0 else function.digest (refs_text refs)) ≡ function.width

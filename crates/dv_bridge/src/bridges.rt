@@ -5,7 +5,7 @@ ghost use Rattle.dv_records.specs.Limits.{most_path_rows};
 use crate::fault::BridgeFault;
 use crate::joins::{check_room, joined, rows_of};
 use crate::keyed_links::by_key;
-use crate::whole_links::whole_links;
+use crate::lent_links::path_links;
 use dv_hub_link::LinkTable;
 use dv_records::BridgeRow;
 use dv_text::{List, Stamp};
@@ -24,7 +24,7 @@ pub fn bridge_first(
     ensures few { IfOk result (λ rows. length rows ≤ most_path_rows) }
     ensures too_large { IsErrOf result BridgeFault.TooLarge → most_path_rows < length (links_at links.now.rows status.now.rows date) }
 {
-    let found = whole_links(alloc, links, status, date)?;
+    let found = path_links(alloc, links, status, date)?;
     check_room(0, found.len())?;
     let rows = rows_of(alloc, &found)?;
     Ok(rows)
@@ -47,7 +47,7 @@ pub fn bridge_step(
     ensures few { IfOk result (λ made. length made ≤ most_path_rows) }
     ensures too_large { IsErrOf result BridgeFault.TooLarge → most_path_rows < length (next_rows left right (links_at links.now.rows status.now.rows date) rows.now) }
 {
-    let found = whole_links(alloc, links, status, date)?;
+    let found = path_links(alloc, links, status, date)?;
     let keyed = by_key(alloc, &found, right)?;
     let made = joined(alloc, rows.items(), left, &keyed)?;
     Ok(made)

@@ -1,15 +1,15 @@
 // Rows of bridges made of links, as many as there may be.
 ghost use Rattle.std.specs.Prelude.{◌≡◌, ◌+◌, ◌<◌, ◌≤◌, ◌++◌, IfOk, IsErrOf, OnOk, length, map};
 ghost use Rattle.std.specs.List.Sorted.{IsSortedByKey};
-ghost use Rattle.dv_bridge.specs.Joins as spec;
+ghost use Rattle.dv_bridge.specs.BridgeRows.{first_row, longer_row};
 ghost use Rattle.dv_bridge.specs.Joins.{joined_rows, row_with};
 ghost use Rattle.dv_records.specs.Batches.{digest_cmp};
 ghost use Rattle.dv_records.specs.Limits.{most_path_rows};
 
 use crate::fault::BridgeFault;
-use crate::keyed_links::{KeyedLink, met_links};
-use crate::whole_links::WholeLink;
-use dv_records::BridgeRow;
+use crate::keyed_links::{KeyedLink, key_at, met_links};
+use crate::lent_links::PathLink;
+use dv_records::{BridgeRow, LinkRow};
 use dv_text::{Digest, List, Memory};
 use std::alloc::Global;
 
@@ -28,8 +28,8 @@ pub(crate) fn check_room(made: usize, more: usize) -> Result<(), BridgeFault>
     Ok(())
 }
 
-// Puts hash keys at the end.
-fn push_all(keys: &mut List<Digest>, more: &[Digest]) -> Result<(), Memory>
+/// Puts hash keys at the end.
+pub(crate) fn push_all(keys: &mut List<Digest>, more: &[Digest]) -> Result<(), Memory>
     ensures { OnOk result (keys.new ≡ keys.old ++ more.now) }
 {
     for key in more {
@@ -49,8 +49,8 @@ fn both(alloc: Global, first: &[Digest], second: &[Digest]) -> Result<List<Diges
 }
 
 // The row of a link alone.
-fn row_of(alloc: Global, link: &WholeLink<'_>) -> Result<BridgeRow, Memory>
-    ensures { IfOk result (λ row. row ≡ spec.row_of link.now) }
+fn row_alone(alloc: Global, link: &LinkRow) -> Result<BridgeRow, Memory>
+    ensures { IfOk result (λ row. row ≡ first_row link.now) }
 {
     let links = both(alloc, &[link.digest], &[])?;
     let hubs = both(alloc, link.hubs.items(), &[])?;
@@ -58,8 +58,8 @@ fn row_of(alloc: Global, link: &WholeLink<'_>) -> Result<BridgeRow, Memory>
 }
 
 // A row with a link more.
-fn longer(alloc: Global, row: &BridgeRow, link: &WholeLink<'_>) -> Result<BridgeRow, Memory>
-    ensures { IfOk result (λ made. made ≡ row_with row.now link.now) }
+fn longer(alloc: Global, row: &BridgeRow, link: &LinkRow) -> Result<BridgeRow, Memory>
+    ensures { IfOk result (λ made. made ≡ longer_row row.now link.now) }
 {
     let links = both(alloc, row.links.items(), &[link.digest])?;
     let hubs = both(alloc, row.hubs.items(), link.hubs.items())?;
@@ -67,12 +67,12 @@ fn longer(alloc: Global, row: &BridgeRow, link: &WholeLink<'_>) -> Result<Bridge
 }
 
 /// A row for each link.
-pub(crate) fn rows_of(alloc: Global, links: &[WholeLink<'_>]) -> Result<List<BridgeRow>, Memory>
-    ensures { IfOk result (λ rows. rows ≡ map spec.row_of links.now) }
+pub(crate) fn rows_of(alloc: Global, links: &[PathLink<'_>]) -> Result<List<BridgeRow>, Memory>
+    ensures { IfOk result (λ rows. rows ≡ map (λ link. first_row link.row) links.now) }
 {
     let mut rows = List::with_room(alloc, links.len())?;
     for link in links {
-        rows.push(row_of(alloc, link)?)?;
+        rows.push(row_alone(alloc, link.row())?)?;
     }
     Ok(rows)
 }
@@ -82,12 +82,12 @@ fn push_longer(
     alloc: Global,
     made: &mut List<BridgeRow>,
     row: &BridgeRow,
-    links: &[KeyedLink<'_>],
+    links: &[KeyedLink<'_, '_>],
 ) -> Result<(), Memory>
-    ensures { OnOk result (made.new ≡ made.old ++ map (λ one. row_with row.now one.link) links.now) }
+    ensures { OnOk result (made.new ≡ made.old ++ map (row_with row.now) links.now) }
 {
     for one in links {
-        made.push(longer(alloc, row, &one.link)?)?;
+        made.push(longer(alloc, row, one.link.row())?)?;
     }
     Ok(())
 }
@@ -97,7 +97,7 @@ pub(crate) fn joined(
     alloc: Global,
     rows: &[BridgeRow],
     place: u32,
-    links: &[KeyedLink<'_>],
+    links: &[KeyedLink<'_, '_>],
 ) -> Result<List<BridgeRow>, BridgeFault>
     requires { IsSortedByKey (λ one. one.key) digest_cmp links.now }
     ensures ok { IfOk result (λ made. made ≡ joined_rows place links.now rows.now) }
@@ -106,7 +106,8 @@ pub(crate) fn joined(
 {
     let mut made = List::new(alloc);
     for row in rows {
-        let met = met_links(links, row, place);
+        let key = key_at(row.hubs.items(), place);
+        let met = met_links(links, key);
         check_room(made.items().len(), met.len())?;
         push_longer(alloc, &mut made, row, met)?;
     }

@@ -1,8 +1,5 @@
 -- What the endings of parts say, and what of it is left behind more of a command.
-use Rattle.dv_given.proofs.Vocabulary.{List, ap, arith, sym, ℕ, ◌∙◌, ◌≡◌, ◌≤◌, Ok, Err, Result, Rose, IfOk, IfErr, EndsBy, EndsOrMemory, FileEnds, IsBringEnd, IsReadCause, IsTextFor, QueryEnds, Seen, TextEnds, line_of_ending, status_of, Hashes, HasSealed, RawVault, Window, hashes_of}
-use Rattle.dv_given.proofs.Vocabulary.{Ending, Absent, BadMapping, BadQuery, Memory, Unread, QueryRule, TooLarge, Status, Mapping, What, mart_text, path_name}
-use Rattle.dv_bridge.specs.ZeroKeys.{HasZeroKeys}
-use Rattle.dv_bridge.proofs.ZeroKeys.{zero_keys}
+use Rattle.dv_given.proofs.Vocabulary.{Absent, BadMapping, BadQuery, Ending, EndsBy, EndsOrMemory, Err, FileEnds, IfErr, IfOk, IsBringEnd, IsReadCause, List, Memory, Ok, QueryEnds, QueryRule, Result, Rose, Seen, Status, Unread, arith, line_of_ending, status_of, ℕ, ◌≤◌}
 
 -- what is said of the reading of files, by what is said of each
 pub file_ends_so : {A B C D : List ℕ → Type 0} → ((file : List ℕ) → A file → C file) → ((file : List ℕ) → B file → D file) → (ending : Ending) → FileEnds A B ending → FileEnds C D ending
@@ -39,27 +36,9 @@ module _ (before then now : ℕ) (later : before ≤ then) where
   pub rose_later : Rose then now → Rose before now
   rose_later rose = omega (arith, later, rose)
 
-  pub read_cause_so : (ending : Ending) → IsReadCause then now ending → IsReadCause before now ending
-  read_cause_so (Unread file) rose = rose_later rose
-  read_cause_so ending any = any
-
   pub bring_end_so : (ending : Ending) → IsBringEnd then now ending → IsBringEnd before now ending
   bring_end_so (Unread file) rose = rose_later rose
   bring_end_so ending any = any
-
--- what is said of the text by hashes that have zero keys is said by digest functions
-pub for_functions : (vault : RawVault) (what : What) (date : ℕ) (text : Result (List ℕ) QueryRule)
-    → ((hashes : Hashes) (sealed : List Window) → HasZeroKeys hashes → HasSealed hashes sealed vault → mart_text vault.mapping hashes sealed vault.tables what date ≡ text) → IsTextFor vault what date text
-for_functions vault what date text so function sealed has = so (hashes_of function) sealed (zero_keys function) has
-
--- what is asked for is of a path that is too large
-pub text_ends : (vault : RawVault) (what : What) (date : ℕ) (catalog : Mapping) → catalog ≡ vault.mapping
-    → ((hashes : Hashes) (sealed : List Window) → HasZeroKeys hashes → HasSealed hashes sealed vault → mart_text vault.mapping hashes sealed vault.tables what date ≡ Err (TooLarge (path_name vault.mapping what)))
-    → (ending : Ending) → QueryEnds (λ rule. rule ≡ TooLarge (path_name catalog what)) ending → TextEnds vault what date ending
-text_ends vault what date catalog same large (BadQuery rule) is =
-    for_functions vault what date (Err rule) (λ hashes sealed zero has. large hashes sealed zero has ∙ ap (λ m. Err (TooLarge (path_name m what))) (sym same) ∙ ap Err (sym is))
-text_ends vault what date catalog same large Memory memory = memory
-text_ends vault what date catalog same large ending none = absurd none
 
 -- what ends the reading of a folder has a line
 pub ends_or : (before now : ℕ) (err : Seen (List ℕ)) (result : Status) (ending : Ending) → IsReadCause before now ending → EndsBy ending err result

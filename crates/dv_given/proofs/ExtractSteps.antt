@@ -1,14 +1,10 @@
 -- How the reading of an extract's file is a part of the reading of a manifest's.
-use Rattle.dv_given.proofs.Vocabulary.{Contains, if◌then◌else◌, Contains-get_or, List, None, Option, Some, [], ap, false, get_or, inl, inr, length, refl, subst, sym, take, ℕ, ◌+◌, ◌<◌, ◌∙◌, ◌∷◌, ◌≡◌, option_map, Ok, drop, Err, Result, drop_more, BringEnds, ExtractEnds}
-use Rattle.dv_given.proofs.Vocabulary.{ExtractsEnd, FilesEnd, ReadsExtract, ReadsNamed, ReadsNext, Seen, extract_bytes, with_extract}
-use Rattle.dv_given.proofs.Vocabulary.{ReadEnds, given, Brings, Reading, allowed, no_reading, read_from, read_more, read_next, read_on, arrival, arrival_by, brought, brought_if, brought_with, first_absent, manifest_bytes, whole_window, Arrived, Ending, most_manifest_bytes}
-use Rattle.dv_given.proofs.Vocabulary.{ExtractIn, manifest_in}
-use Rattle.dv_given.proofs.Vocabulary.{Manifest, ManifestExtract, NamedFile}
+use Rattle.dv_given.proofs.Vocabulary.{Arrived, BringEnds, Brings, Contains, Contains-get_or, Ending, Err, ExtractEnds, ExtractIn, ExtractsEnd, FilesEnd, List, Manifest, ManifestExtract, NamedFile, None, Ok, Option, ReadEnds, Reading, ReadsExtract, ReadsNamed, ReadsNext, Result, Seen, Some, []}
+use Rattle.dv_given.proofs.Vocabulary.{allowed, ap, arrival, arrival_by, brought, brought_if, brought_with, drop, drop_more, extract_bytes, false, first_absent, get_or, given, if◌then◌else◌, inl, inr, length, manifest_bytes, manifest_in, most_manifest_bytes, no_reading, option_map, read_from}
+use Rattle.dv_given.proofs.Vocabulary.{read_more, read_next, read_on, refl, subst, sym, take, whole_window, with_extract, ℕ, ◌+◌, ◌<◌, ◌∙◌, ◌∷◌, ◌≡◌}
+use Rattle.dv_given.proofs.{EndSteps.file_ends_so, ReadSteps.reads_made, ReadSteps.reads_so, WholeSteps.absent_whole, WholeSteps.none_absent, WholeSteps.stands_for_whole}
 use Rattle.dv_given.specs.declared.arrivals.Arrived.TheVariants as arrived
 use Rattle.dv_given.specs.Tried as spec
-use Rattle.dv_given.proofs.EndSteps.{file_ends_so}
-use Rattle.dv_given.proofs.ReadSteps.{reads_made, reads_so}
-use Rattle.dv_given.proofs.WholeSteps.{absent_whole, none_absent, stands_for_whole}
 
 -- the bytes of the next extract's file are read, behind none with too many
 module _ (r : Reading) (extract : ManifestExtract) (over : r.is_over ≡ false) where

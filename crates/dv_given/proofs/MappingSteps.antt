@@ -1,6 +1,6 @@
 -- How the reading of the mapping's file may end.
-use Rattle.dv_given.proofs.Vocabulary.{List, Some, ap, sym, take, ℕ, ◌+◌, ◌∙◌, ◌≡◌, ◌≢◌, option_map, Err, Result, read_mapping, Mapping, IsMappingEnd, IsReadCause, MappingEnds, ReadEnds, given, mapping_file, mapping_at}
-use Rattle.dv_given.proofs.Vocabulary.{Ending, Absent, BadMapping, Memory, Unread, most_mapping_bytes, MapError, NamedFile}
+use Rattle.dv_given.proofs.Vocabulary.{Absent, BadMapping, Ending, Err, IsMappingEnd, IsReadCause, List, MapError, Mapping, MappingEnds, Memory, NamedFile, ReadEnds, Result, Some, Unread, ap, given, mapping_at, mapping_file, most_mapping_bytes, option_map, read_mapping, sym, take, ℕ, ◌+◌, ◌∙◌}
+use Rattle.dv_given.proofs.Vocabulary.{◌≡◌, ◌≢◌}
 use Rattle.dv_catalog.specs.declared.map_error.MapError.TheVariants as errors
 
 module _ (files : List NamedFile) (name : List ℕ) (named : name ≡ mapping_file) where

@@ -1,15 +1,6 @@
 -- The number that a word says, as it is read.
-use Rattle.std.specs.Char.{is_ascii_digit}
-use Rattle.std.specs.List.{list_all}
-use Rattle.std.specs.Prelude.{◌≡◌, ℕ, ◌<◌, ◌≤◌, ◌^◌, ◌==◌, nat_le, not, true, false, List, [], ◌∷◌, length, None}
-use Rattle.std.specs.Str.{IsUtf8}
-use Rattle.std.specs.Str.Parse.{AllDigits, IsNumeral, digits_value, without_leading_plus}
-use Rattle.std.proofs.Common.{◌∙◌, ap, arith, refl}
-use Rattle.std.proofs.lemmas.Bool.{and_parts}
-use Rattle.std.proofs.lemmas.Fmt.{IsAscii-from_digits}
-use Rattle.std.proofs.lemmas.Str.{IsUtf8-from_ascii, digit_value_digit}
-use Rattle.std.proofs.lemmas.Str.Parse.{IsDigitsTest, digit_at, digits_value-take-le, numerals_by_value, without_leading_plus_none}
-use Rattle.dv_given.specs.Numbers.{is_number, number_in}
+use Rattle.dv_given.proofs.Vocabulary.{AllDigits, IsAscii-from_digits, IsDigitsTest, IsNumeral, IsUtf8, IsUtf8-from_ascii, List, None, [], and_parts, ap, arith, digit_at, digit_value_digit, digits_value, digits_value-take-le, false, is_ascii_digit, is_number, length, list_all, nat_le, not}
+use Rattle.dv_given.proofs.Vocabulary.{number_in, numerals_by_value, refl, true, without_leading_plus, without_leading_plus_none, ℕ, ◌<◌, ◌==◌, ◌^◌, ◌∙◌, ◌∷◌, ◌≡◌, ◌≤◌}
 
 -- what all bytes of a number pass is a test of digits
 told : IsDigitsTest (λ word. list_all is_ascii_digit word ≡ true)
@@ -42,10 +33,6 @@ no_plus : (word : List ℕ) → is_number word ≡ true → without_leading_plus
 no_plus word is =
     let within = digit_at word 0 (all_digits word (are_digits word is)) (some_digit word is) in
     without_leading_plus_none word (λ plus. absurd (omega (arith, plus, within.0)))
-
--- what is no number says none
-pub no_number : (most : ℕ) (word : List ℕ) → is_number word ≡ false → None ≡ number_in most word
-no_number most word is = rw is refl
 
 module _ (most : ℕ) (word : List ℕ) (is : is_number word ≡ true) where
   -- its bytes are a text

@@ -1,7 +1,6 @@
 -- What comes of reading a folder, behind what was read of it before and by what its parts come to.
-use Rattle.dv_given.proofs.Vocabulary.{List, Option, Some, arith, ℕ, ◌∙◌, ◌≡◌, ◌≤◌, Err, Ok, Result, IsBringEnd, Reads, Ending, NamedFile, Seen}
+use Rattle.dv_given.proofs.Vocabulary.{Ending, Err, IsBringEnd, IsReadCause, List, NamedFile, Ok, Option, Reads, Result, Seen, Some, arith, ℕ, ◌∙◌, ◌≡◌, ◌≤◌}
 use Rattle.dv_given.proofs.EndSteps.{bring_cause, bring_end_so, if_err_so, if_ok_so}
-use Rattle.dv_given.specs.Endings.{IsReadCause}
 
 -- what reads a folder
 abbrev Given : Type 0 → Type 1

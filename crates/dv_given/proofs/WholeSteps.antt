@@ -1,10 +1,8 @@
 -- The bytes that are not read of a manifest's files change no outcome.
-use Rattle.dv_given.proofs.Vocabulary.{Bool, List, None, Option, Some, [], ap, append_assoc, arith, cond, false, length, map, refl, subst, sym, take, true, ℕ, ◌++◌, ◌+◌, ◌<◌, ◌==◌, ◌||◌, ◌∙◌, ◌∷◌, ◌≡◌, ◌≤◌, option_map, Ok, nat_lt, min, Err, Result, le-ltb, lt-ltb, ltb-false}
-use Rattle.dv_given.proofs.Vocabulary.{ltb-true, length-map}
-use Rattle.dv_given.proofs.Vocabulary.{append-nil, take_all, length-take, option_or, option_map_or, first_of, if◌then◌else◌, find, not, unwrap_or, State, accepted, collides, differs, feed_twice, if_new, late, no_extracts, open_other, outcome, refusal, unknown_feed, vault_full, is_feed}
-use Rattle.dv_given.proofs.Vocabulary.{repeated_name, too_long_behind, window_of, window_rule, Mapping, file_at, Hashes, given, Reading, StandsForWhole, allowed, no_reading, read_from, read_more, read_on, with_extract, absent_or, first_absent, is_past, whole_extract}
-use Rattle.dv_given.proofs.Vocabulary.{whole_window, Rule, FeedTwice}
-use Rattle.dv_given.proofs.Vocabulary.{NoExtracts, TooLong, UnknownFeed, ExtractIn, WindowIn, Manifest, ManifestExtract, NamedFile, most_extract_bytes, most_window_bytes, Outcome, Window}
+use Rattle.dv_given.proofs.Vocabulary.{Bool, Err, ExtractIn, FeedTwice, Hashes, List, Manifest, ManifestExtract, Mapping, NamedFile, NoExtracts, None, Ok, Option, Outcome, Reading, Result, Rule, Some, StandsForWhole, State, TooLong, UnknownFeed, Window, WindowIn, [], absent_or, accepted, allowed}
+use Rattle.dv_given.proofs.Vocabulary.{ap, append-nil, append_assoc, arith, collides, cond, differs, false, feed_twice, file_at, find, first_absent, first_of, given, if_new, if◌then◌else◌, is_feed, is_past, late, le-ltb, length, length-map, length-take, lt-ltb, ltb-false, ltb-true, map, min}
+use Rattle.dv_given.proofs.Vocabulary.{most_extract_bytes, most_window_bytes, nat_lt, no_extracts, no_reading, not, open_other, option_map, option_map_or, option_or, outcome, read_from, read_more, read_on, refl, refusal, repeated_name, subst, sym, take, take_all, too_long_behind, true}
+use Rattle.dv_given.proofs.Vocabulary.{unknown_feed, unwrap_or, vault_full, whole_extract, whole_window, window_of, window_rule, with_extract, ℕ, ◌++◌, ◌+◌, ◌<◌, ◌==◌, ◌||◌, ◌∙◌, ◌∷◌, ◌≡◌, ◌≤◌}
 use Rattle.dv_records.specs.declared.answers.Outcome.TheVariants as outcomes
 
 -- the feeds' names of extracts

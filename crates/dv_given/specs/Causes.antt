@@ -1,7 +1,7 @@
 -- What is read off what a command wrote, whatever the folder and the sinks tell of their contents.
 use Rattle.std.specs.Prelude.{◌≡◌, ◌⊎◌, ℕ, List, ◌++◌, Option}
 use Rattle.dv_catalog.specs.declared.rules.Rule.{Rule}
-use Rattle.dv_mart.specs.declared.query_rules.QueryRule.{QueryRule}
+use Rattle.dv_print.specs.declared.query_rules.QueryRule.{QueryRule}
 use Rattle.dv_outside.specs.Bytes.{after}
 use Rattle.dv_given.specs.Given.{absent_line, query_line, read_fault_line}
 use Rattle.dv_given.specs.Tried.{refusal_text, window_line}

@@ -1,16 +1,12 @@
 -- How a command ends that does not come to its end, and what may end its parts.
-use Rattle.std.specs.Prelude.{◌≡◌, ◌≢◌, ◌⊎◌, ℕ, List, [], Some, None, Result, Ok, Err, Contains}
+use Rattle.std.specs.Prelude.{◌≡◌, ◌≢◌, ◌⊎◌, ℕ, List, [], Some, None, Err, Contains}
 use Rattle.dv_text.specs.Causes.{Rose}
-use Rattle.dv_text.specs.Keys.{DigestFunction, hashes_of}
 use Rattle.dv_text.specs.Stamps.{stamp_of}
-use Rattle.dv_text.specs.declared.rows.Window.{Window}
 use Rattle.dv_catalog.specs.declared.map_error.MapError.{MapError}
 use Rattle.dv_catalog.specs.declared.map_error.MapError.TheVariants as errors
 use Rattle.dv_mapfile.specs.declared.manifests.ManifestExtract.{ManifestExtract}
-use Rattle.dv_mart.specs.MartTexts.{mart_text}
-use Rattle.dv_mart.specs.declared.query_rules.QueryRule.{QueryRule}
-use Rattle.dv_mart.specs.declared.query_rules.QueryRule.TheVariants.{BadDate}
-use Rattle.dv_mart.specs.declared.whats.What.{What}
+use Rattle.dv_print.specs.declared.query_rules.QueryRule.{QueryRule}
+use Rattle.dv_print.specs.declared.query_rules.QueryRule.TheVariants.{BadDate}
 use Rattle.dv_outside.specs.Ends.{Ends}
 use Rattle.dv_outside.specs.Files.{file_at}
 use Rattle.dv_outside.specs.Seen.{Seen}
@@ -21,7 +17,6 @@ use Rattle.dv_records.specs.declared.keepers.KeeperError.{KeeperError}
 use Rattle.dv_records.specs.declared.keepers.KeeperError.TheVariants as keeper_errors
 use Rattle.dv_restore.specs.declared.faults.StoreFault.{StoreFault}
 use Rattle.dv_restore.specs.declared.faults.StoreFault.TheVariants as store_faults
-use Rattle.dv_vault.specs.Vaults.{HasSealed, RawVault}
 use Rattle.dv_restore.specs.declared.faults.StartFault.{StartFault}
 use Rattle.dv_restore.specs.declared.faults.StartFault.TheVariants as start_faults
 use Rattle.dv_given.specs.declared.endings.Ending.{Ending}
@@ -162,18 +157,3 @@ QueryEnds IsBroken ending = ⊥
 -- the date
 abbrev pub DateEnds : List ℕ → Ending → Type 0
 DateEnds date ending = QueryEnds (λ rule. (rule ≡ BadDate date) × (stamp_of date ≡ None)) ending
-
--- what of a vault's sealed windows is asked for at a date: its text, or the rule that it breaks, by every digest function of which the
--- vault is
-abbrev pub IsTextFor : RawVault → What → ℕ → Result (List ℕ) QueryRule → Type 0
-IsTextFor vault what date text =
-    (function : DigestFunction) (sealed : List Window) → HasSealed (hashes_of function) sealed vault
-    → mart_text vault.mapping (hashes_of function) sealed vault.tables what date ≡ text
-
--- its text
-abbrev pub IsTextOf : RawVault → What → ℕ → List ℕ → Type 0
-IsTextOf vault what date text = IsTextFor vault what date (Ok text)
-
--- why there is none
-abbrev pub TextEnds : RawVault → What → ℕ → Ending → Type 0
-TextEnds vault what date ending = QueryEnds (λ rule. IsTextFor vault what date (Err rule)) ending

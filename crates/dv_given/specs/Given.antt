@@ -4,8 +4,8 @@ use Rattle.std.specs.Option.{option_map}
 use Rattle.dv_catalog.specs.MapTexts.{map_error_text}
 use Rattle.dv_catalog.specs.Printed.{printed}
 use Rattle.dv_catalog.specs.declared.map_error.MapError.{MapError}
-use Rattle.dv_mart.specs.QueryTexts.{query_text}
-use Rattle.dv_mart.specs.declared.query_rules.QueryRule.{QueryRule}
+use Rattle.dv_print.specs.QueryTexts.{query_text}
+use Rattle.dv_print.specs.declared.query_rules.QueryRule.{QueryRule}
 use Rattle.dv_outside.specs.Ends.{line_of}
 use Rattle.dv_outside.specs.Files.{file_at}
 use Rattle.dv_outside.specs.declared.folders.NamedFile.{NamedFile}

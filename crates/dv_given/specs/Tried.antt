@@ -108,10 +108,18 @@ window_line name text = line_of (printed name) text
 abbrev pub refusal_text : Rule → List ℕ
 refusal_text rule = codes ": " ++ rule_text rule
 
+-- a line's words for a window that was loaded, with the number of its rows
+abbrev pub loaded_text : ℕ → List ℕ
+loaded_text rows = codes ": Loaded " ++ decimal rows
+
+-- a line's words for a window that repeats a sealed one
+abbrev pub repeated_text : List ℕ
+repeated_text = codes ": Repeated"
+
 -- a line's words for what came of a window
 abbrev pub outcome_text : Mapping → Hashes → State → WindowIn → Outcome → List ℕ
-outcome_text mapping hashes state given outcomes.Load = codes ": Loaded " ++ decimal (loaded mapping hashes state.sealed (window_of mapping given))
-outcome_text mapping hashes state given outcomes.Repeated = codes ": Repeated"
+outcome_text mapping hashes state given outcomes.Load = loaded_text (loaded mapping hashes state.sealed (window_of mapping given))
+outcome_text mapping hashes state given outcomes.Repeated = repeated_text
 outcome_text mapping hashes state given (outcomes.Refused rule) = refusal_text rule
 
 -- whether a window was refused

@@ -4,7 +4,7 @@ ghost use Rattle.dv_text.specs.Stamps.{stamp_of};
 ghost use Rattle.dv_given.specs.Endings.{DateEnds};
 
 use crate::endings::Ending;
-use dv_mart::QueryRule;
+use dv_print::QueryRule;
 use dv_text::{Duplicate, Stamp, Text};
 
 /// The date that a text is.

@@ -8,8 +8,8 @@ use crate::lines::{
     READ_FAULT, damage_text, line_text,
 };
 use dv_catalog::{MapError, printed};
-use dv_mart::QueryRule;
 use dv_outside::{Sink, Status, end};
+use dv_print::QueryRule;
 use dv_records::{Damage, KeeperError};
 use dv_restore::{StartFault, StoreFault};
 use dv_text::{Memory, Text};

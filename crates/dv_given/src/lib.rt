@@ -1,6 +1,6 @@
 //! What a folder gives a command, and how a command ends: the mapping's file, manifests and the
-//! files that they name, dates, the numbers that words say, the lines of windows, the text that is
-//! asked for, and the endings that commands share, with their lines.
+//! files that they name, dates, the numbers that words say, the lines of windows, and the endings
+//! that commands share, with their lines.
 #![tactic(auto)]
 
 mod arrivals;
@@ -10,7 +10,6 @@ mod lines;
 mod mapping_files;
 mod numbers;
 mod reads;
-mod texts;
 mod windows;
 
 pub use arrivals::{Arrived, bring};
@@ -22,5 +21,4 @@ pub use lines::{
 };
 pub use mapping_files::{MappingFile, read_mapping_file};
 pub use numbers::{WORKERS, number_in, value_behind, workers_in};
-pub use texts::text_of;
 pub use windows::{Taken, is_refusal, status_of_windows, window_line};

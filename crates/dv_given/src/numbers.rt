@@ -2,7 +2,7 @@
 ghost use Rattle.std.specs.Char.{is_ascii_digit};
 ghost use Rattle.std.specs.List.{list_all};
 ghost use Rattle.std.specs.Prelude.{◌≡◌, ◌≤◌, IfSome, option_map};
-ghost use Rattle.dv_mart.specs.Whats.{behind};
+ghost use Rattle.dv_print.specs.Words.{behind};
 ghost use Rattle.dv_given.specs.Numbers as spec;
 
 /// How many workers load a window, where no words say it.

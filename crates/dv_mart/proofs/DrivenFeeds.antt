@@ -1,11 +1,7 @@
 -- A feed with a driver has an effectivity table.
-use Rattle.dv_mart.proofs.Vocabulary.{◌≡◌, ℕ, ◌+◌, ◌==◌, true, false, List, [], ◌∷◌, ◌++◌, arith, length, map, range_with_len, slice_get, subst, Contains, TableId, Effect, Mapping, tables, has_driver}
-use Rattle.dv_text.proofs.Vocabulary.{zero, suc, not}
-use Rattle.dv_text.proofs.Members.{Contains-cons_here, Contains-cons_there}
-use Rattle.std.proofs.lemmas.List.Elements.{Contains-append_left, Contains-append_right}
-use Rattle.dv_catalog.specs.declared.entries.FeedDef.{FeedDef}
+use Rattle.dv_mart.proofs.Vocabulary.{Contains, Contains-append_left, Contains-append_right, Contains-cons_here, Contains-cons_there, Effect, FeedDef, List, Mapping, TableId, [], arith, effect_tables, false, feed_tables, has_driver, length, map, not, range_with_len, sat_tables, slice_get, subst}
+use Rattle.dv_mart.proofs.Vocabulary.{suc, tables, true, zero, ℕ, ◌++◌, ◌+◌, ◌==◌, ◌∷◌, ◌≡◌}
 use Rattle.dv_catalog.specs.declared.tables.TableId.TheVariants as ids
-use Rattle.dv_catalog.specs.Tables.{effect_tables, feed_tables, sat_tables}
 
 effect_there : (feed : ℕ) (driver : List ℕ) → not (length driver == 0) ≡ true → Contains (effect_tables feed driver) (Effect feed)
 effect_there feed [] some = let no : false ≡ true = some in cc

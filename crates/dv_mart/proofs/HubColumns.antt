@@ -1,26 +1,9 @@
 -- The rows of a content beside keys, found one after another as both ascend.
-use Rattle.std.proofs.Common.{◌≡◌, ◌∙◌, ◌+◌, ◌<◌, ◌++◌, ◌∷◌, [], List, ℕ, ap, append_assoc, get_or, length, map, refl, sym, drop, take}
-use Rattle.std.proofs.lemmas.List.{drop_more, length-drop, map-append, take_more}
-use Rattle.std.proofs.Math.Seq.{take-length}
-use Rattle.std.specs.Prelude.{◌-◌, Bool, true, false, Option, Some, None, cond, find, if◌then◌else◌, not, option_map, position, slice_get, suc}
-use Rattle.std.specs.declared.cmp.Ordering.{Ordering}
-use Rattle.std.specs.declared.cmp.Ordering.TheVariants.{Less, Equal, Greater}
-use Rattle.std.specs.Ordering.{is_eq, is_lt, ordering_reverse, ordering_then}
+use Rattle.dv_mart.proofs.Vocabulary.{Bool, Equal, FeedRows, Greater, HubColumn, Key, Less, List, NRow, None, Option, Ordering, Some, [], ap, append_assoc, column_of, column_told, cond, drop, drop_more, false, find, find_none, get_or, if◌then◌else◌, is_eq, is_lt, key_cmp, length, length-drop}
+use Rattle.dv_mart.proofs.Vocabulary.{map, map-append, map_alike, member_of_all, not, not_before, option_map, ordering_reverse, ordering_then, position, position-cons, refl, refs-tie, refs_cmp, refs_eq, refs_total, row_cmp, slice_cmp, suc, sym, take, take-length, take_more, text_cmp, true}
+use Rattle.dv_mart.proofs.Vocabulary.{turned, ℕ, ◌++◌, ◌+◌, ◌-◌, ◌<◌, ◌∙◌, ◌∷◌, ◌≡◌}
+use Rattle.dv_mart.specs.HubContents.{first_of}
 unfoldable use Rattle.std.specs.List.Sorted.{IsStrictlySortedBy}
-use Rattle.dv_text.specs.declared.rows.Key.{Key}
-use Rattle.dv_text.specs.declared.rows.NRow.{NRow}
-use Rattle.dv_text.specs.Keys.{refs_eq}
-use Rattle.dv_text.specs.Orders.{key_cmp, refs_cmp, row_cmp, text_cmp}
-use Rattle.std.specs.Cmp.Lexicographic.{slice_cmp}
-use Rattle.dv_text.proofs.Deciding.{refs-tie, refs_total}
-use Rattle.dv_text.proofs.Members.{member_of_all}
-use Rattle.dv_text.proofs.Orderings.{turned}
-use Rattle.dv_text.proofs.Passing.{find_none}
-use Rattle.dv_text.proofs.Places.{position-cons}
-use Rattle.dv_mart.specs.declared.hub_columns.HubColumn.{HubColumn}
-use Rattle.dv_mart.specs.declared.hub_contents.FeedRows.{FeedRows}
-use Rattle.dv_mart.specs.HubContents.{column_of, column_told, first_of, not_before}
-use Rattle.dv_pit.proofs.PitTells.{map_alike}
 
 -- a row is of a key
 abbrev pub has : Key → NRow → Bool
@@ -110,20 +93,6 @@ walked_more found more whole rest left row key keys i under at left_is row_is mo
     step = (λ j. (row_is ∙ ap (first_of key) left_is) j ∷ walked (left_is j) (drop (i + 1) keys)) ∙ sym (ap (walked rest) keys_are)
 
 -- ---- the first row
-
-first_is : (key : Key) (rows : List NRow) (row : NRow) → Some row ≡ slice_get rows 0 → first_of key rows ≡ (if is_eq (refs_cmp row.refs (key ∷ [])) then Some row else None)
-first_is key [] row e = cc
-first_is key (other ∷ rows) row e = let same : other ≡ row = cc in λ i. if is_eq (refs_cmp (same i).refs (key ∷ [])) then Some (same i) else None
-
-pub first_none : (key : Key) (rows : List NRow) → None ≡ slice_get rows 0 → None ≡ first_of key rows
-first_none key [] e = refl
-first_none key (row ∷ rows) e = cc
-
-pub first_here : (key : Key) (rows : List NRow) (row : NRow) (o : Ordering) → Some row ≡ slice_get rows 0 → o ≡ refs_cmp row.refs (key ∷ []) → true ≡ is_eq o → Some row ≡ first_of key rows
-first_here key rows row o got is equal = (λ i. if (equal ∙ ap is_eq is) i then Some row else None) ∙ sym (first_is key rows row got)
-
-pub first_not_here : (key : Key) (rows : List NRow) (row : NRow) (o : Ordering) → Some row ≡ slice_get rows 0 → o ≡ refs_cmp row.refs (key ∷ []) → false ≡ is_eq o → None ≡ first_of key rows
-first_not_here key rows row o got is unequal = (λ i. if (unequal ∙ ap is_eq is) i then Some row else None) ∙ sym (first_is key rows row got)
 
 -- ---- the rows from a place on
 

@@ -1,26 +1,7 @@
 -- The contents of a hub's feeds: each stands in order, and what a key's cells are by them.
-use Rattle.std.proofs.Common.{◌≡◌, ◌∙◌, ◌+◌, ◌<◌, ◌++◌, ◌∷◌, [], List, ℕ, ap, arith, get_or, length, map, refl, sym, take}
-use Rattle.std.specs.Prelude.{◌==◌, Bool, true, false, Option, Some, None, if◌then◌else◌, slice_get}
-use Rattle.std.specs.List.Sorted.{IsStrictlySortedBy}
-use Rattle.std.proofs.lemmas.List.{map-append, take_more}
-use Rattle.dv_text.specs.Orders.{key_cmp, row_cmp}
-use Rattle.dv_text.specs.Sorting.{sorted_by}
-use Rattle.std.proofs.lemmas.List.Folds.{flat_map-map}
-use Rattle.dv_text.specs.declared.rows.NRow.{NRow}
-use Rattle.dv_text.proofs.Deciding.{row_total}
-use Rattle.dv_text.proofs.SortedLists.{ascending-sorted_by, few_ascend}
-use Rattle.dv_catalog.specs.declared.entries.FeedDef.{FeedDef}
-use Rattle.dv_catalog.specs.Entries.{Mapping}
-use Rattle.dv_records.specs.declared.stores.TableRows.{TableRows}
-use Rattle.dv_records.specs.ReadBack.{any_content_read, any_content_read_by, content_read, content_read_by, multi_content_read, multi_content_read_by, present_parents, row_read, rows_read, status_rows_in}
-use Rattle.std.specs.List.{filter_map, flat_map}
-use Rattle.dv_mart.specs.declared.hub_contents.FeedRows.{FeedRows}
-use Rattle.dv_print.specs.declared.hub_feeds.HubFeed.{HubFeed}
-use Rattle.dv_text.specs.declared.rows.Key.{Key}
-use Rattle.dv_records.specs.Marts.{hub_cell, hub_feeds, hub_rows}
-use Rattle.dv_mart.specs.HubContents.{cell_of, keys_of, row_of, rows_of, told_rows}
-use Rattle.dv_print.specs.HubFeeds.{told}
-use Rattle.std.proofs.lemmas.Simd.{map-map}
+use Rattle.dv_mart.proofs.Vocabulary.{Bool, FeedDef, FeedRows, HubFeed, IsStrictlySortedBy, Key, List, Mapping, NRow, None, Option, Some, TableRows, [], any_content_read, any_content_read_by, ap, arith, ascending-sorted_by, cell_of, content_read, content_read_by, false, few_ascend, filter_map}
+use Rattle.dv_mart.proofs.Vocabulary.{flat_map, flat_map-map, get_or, hub_cell, hub_feeds, hub_rows, if◌then◌else◌, key_cmp, keys_of, length, map, map-append, map-map, multi_content_read, multi_content_read_by, present_parents, refl, row_cmp, row_of, row_read, row_total, rows_of, rows_read}
+use Rattle.dv_mart.proofs.Vocabulary.{slice_get, sorted_by, status_rows_in, sym, take, take_more, told, told_rows, true, ℕ, ◌++◌, ◌+◌, ◌<◌, ◌==◌, ◌∙◌, ◌∷◌, ◌≡◌}
 
 -- ---- what is read from the tables stands in order
 

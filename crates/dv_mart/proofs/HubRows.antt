@@ -1,21 +1,7 @@
 -- The rows that columns lend are those of the contents.
-use Rattle.std.proofs.Common.{◌≡◌, ◌∙◌, ◌+◌, ◌<◌, ◌++◌, ◌∷◌, [], List, ℕ, ap, append_assoc, arith, drop, get_or, length, map, refl, subst, sym}
-use Rattle.std.proofs.lemmas.List.{drop_more}
-use Rattle.std.specs.List.{enumerate_from}
-use Rattle.std.specs.Option.{is_some, option_map, option_map_or}
-use Rattle.std.specs.Prelude.{◌==◌, Option, Some, None, find, if◌then◌else◌, slice_get, suc}
-use Rattle.dv_text.specs.declared.rows.Key.{Key}
-use Rattle.dv_text.specs.declared.rows.NRow.{NRow}
-use Rattle.dv_text.proofs.Vocabulary.{slice_get-map}
-use Rattle.dv_catalog.specs.declared.entries.FeedDef.{FeedDef}
-use Rattle.dv_hub_link.proofs.Placed.{some_found}
-use Rattle.dv_records.specs.Marts.{attrs_or_blanks}
-use Rattle.dv_mart.specs.declared.hub_columns.HubColumn.{HubColumn}
-use Rattle.dv_mart.specs.declared.hub_contents.FeedRows.{FeedRows}
-use Rattle.dv_mart.specs.HubContents.{cell_at, cell_of, column_of, column_told, lent_row, lent_rows, row_at, row_of}
+use Rattle.dv_mart.proofs.Vocabulary.{Bor, FeedDef, FeedRows, HubColumn, Key, List, NRow, None, Option, Some, [], ap, append_assoc, arith, attrs_or_blanks, cell_at, cell_of, column_of, column_told, drop, drop_more, enumerate_from, find, get_or, if◌then◌else◌, is_some, length, lent_row, lent_rows}
+use Rattle.dv_mart.proofs.Vocabulary.{map, option_map, option_map_or, refl, row_at, row_of, slice_get, slice_get-map, some_found, subst, suc, sym, told, ℕ, ◌++◌, ◌+◌, ◌<◌, ◌==◌, ◌∙◌, ◌∷◌, ◌≡◌}
 use Rattle.dv_mart.proofs.HubColumns.{has}
-use Rattle.dv_print.specs.HubFeeds.{told}
-use Rattle.std.specs.Borrow.{Bor}
 
 -- whether there is an item, whatever is told of it
 pub some_told : {A B : Type 0} (f : A → B) (item : Option A) → is_some item ≡ is_some (option_map f item)

@@ -6,10 +6,9 @@ pub mod KeyFronts
 pub mod NoNames
 pub mod OfferedMarts
 pub mod OfferedTables
-pub mod PathBridges
-pub mod PathFeeds
+pub mod PathMarts
+pub mod PathTexts
 pub mod PathsBack
-pub mod PitCells
 pub mod TableRecords
 pub mod VaultMarts
 pub mod Vocabulary

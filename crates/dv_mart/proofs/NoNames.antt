@@ -1,5 +1,5 @@
 -- Where nothing has the name behind a kind, a word of that kind names nothing.
-use Rattle.dv_mart.proofs.Vocabulary.{◌≡◌, ℕ, List, Option, Some, None, option_map, ap, ◌∙◌, option_and_then, behind, What}
+use Rattle.dv_mart.proofs.Vocabulary.{List, None, Option, Some, What, ap, behind, option_and_then, option_map, ℕ, ◌∙◌, ◌≡◌}
 
 module _ (place : List ℕ → Option ℕ) (mart : ℕ → What) where
   abbrev named : Option (List ℕ) → Option What

@@ -1,6 +1,5 @@
 -- A mart that a word names is what the word names.
-use Rattle.dv_mart.proofs.Vocabulary.{◌≡◌, ℕ, List, Option, Some, None, sym, IfSome, option_and_then, Mapping, What, Table, IsOffered, if_mart, offered_mart, what_of}
-use Rattle.dv_mart.specs.declared.whats.What.TheVariants.{Bridge, Pit}
+use Rattle.dv_mart.proofs.Vocabulary.{Bridge, IfSome, IsOffered, List, Mapping, None, Option, Pit, Some, Table, What, if_mart, offered_mart, option_and_then, sym, what_of, ℕ, ◌≡◌}
 
 mart_itself : (named : Option What) (what : What) → option_and_then if_mart named ≡ Some what → named ≡ Some what
 mart_itself None what e = let no : None ≡ Some what = e in cc

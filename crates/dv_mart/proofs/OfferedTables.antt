@@ -1,9 +1,9 @@
 -- What an offered word can name: a feed, a hub or a path of the mapping, a feed that has an effectivity table, or a table.
-use Rattle.dv_mart.proofs.Vocabulary.{◌≡◌, ℕ, ◌<◌, Bool, true, false, List, [], ◌∷◌, Option, Some, None, refl, subst, arith, codes, length, nat_lt, option_map, slice_get, Contains, cond, if◌then◌else◌, option_and_then, position_or_len, bytes_eq, nat_tests, TableId, Effect}
-use Rattle.dv_mart.proofs.Vocabulary.{Mapping, first_of, table_name, tables, found_member, What, Feed, Period, Table, IsOffered, behind, driver_feed_place, feed_place, feed_word, has_driver, if_driver, period_word, table_named, table_word}
+use Rattle.dv_mart.proofs.Vocabulary.{Bool, Bridge, Contains, Effect, Feed, IsOffered, List, Mapping, None, Option, Path, Period, Pit, Some, Table, TableId, What, [], arith, behind, bridge_word, bytes_eq, codes, cond, driver_feed_place, false, feed_place, feed_word, first_of, found_member}
+use Rattle.dv_mart.proofs.Vocabulary.{has_driver, hub_place, hub_word, if_driver, if◌then◌else◌, length, nat_lt, nat_tests, option_and_then, option_map, path_place, path_word, period_word, pit_word, position_or_len, refl, slice_get, subst, table_name, table_named, table_word, tables, true, ℕ}
+use Rattle.dv_mart.proofs.Vocabulary.{◌<◌, ◌∷◌, ◌≡◌}
 use Rattle.dv_mart.proofs.DrivenFeeds.{has_effect}
-use Rattle.dv_mart.specs.Whats.{bridge_word, hub_place, hub_word, path_place, path_word, pit_word}
-use Rattle.dv_mart.specs.declared.whats.What.TheVariants.{Bridge, Hub, Path, Pit}
+use Rattle.dv_mart.specs.declared.whats.What.TheVariants.{Hub}
 
 abbrev pub CanBe : Mapping → What → Type 0
 CanBe mapping (Feed feed) = feed < length mapping.feeds

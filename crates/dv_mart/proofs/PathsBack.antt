@@ -1,71 +1,20 @@
--- The reference lists of a path mart are read back from the rows of its bridge.
-use Rattle.std.proofs.Common.{◌≡◌, ◌∙◌, ◌++◌, ◌∷◌, [], List, ℕ, ap, arith, inl, inr, length, map, refl, subst, sym}
-use Rattle.std.proofs.lemmas.Bool.{and_parts}
-use Rattle.std.proofs.lemmas.List.{length-map}
-use Rattle.std.proofs.lemmas.Option.{same_Some}
-use Rattle.std.proofs.Math.Seq.{drop-append_seam}
-use Rattle.std.specs.Cmp.{IsTotalOrder}
-use Rattle.std.specs.Cmp.Lexicographic.{lists_total, slice_cmp}
-use Rattle.std.specs.FinMap.{IsAntisymmetric, slice_cmp-IsAntisymmetric}
-use Rattle.std.specs.List.{filter_map, flat_map, list_all}
-use Rattle.std.specs.Option.{option_map}
-use Rattle.std.specs.Prelude.{◌↔◌, Contains, Some, drop, filter, not, slice_get, true}
-use Rattle.std.specs.List.{list_any}
-use Rattle.std.specs.Str.{bytes_eq}
-use Rattle.dv_text.proofs.Deciding.{refs_exact, refs_total}
-use Rattle.dv_text.proofs.Members.{Contains-cons_cases, Contains-map, Contains-nil, filter_map_member, filtered_members, flat_map_member, map_member}
-use Rattle.dv_text.proofs.Passing.{found_member}
-use Rattle.dv_text.proofs.SortedLists.{ascending-sorted_by, member_after_sort, member_before_sort, sorted_by-members}
-use Rattle.dv_text.specs.declared.rows.Key.{Key}
-use Rattle.dv_text.specs.declared.rows.NRow.{NRow}
-use Rattle.dv_text.specs.declared.rows.Window.{Window}
-use Rattle.dv_text.specs.Exact.{both_tied, text_cmp-IsAntisymmetric}
-use Rattle.dv_text.specs.Keys.{Hashes, is_missing}
-use Rattle.dv_text.specs.Orders.{refs_cmp}
-use Rattle.dv_text.specs.Sorting.{sorted_by}
-use Rattle.std.proofs.lemmas.Slice.Eq.{bytes_eq-Decides}
-use Rattle.dv_catalog.proofs.ValidReads.{valid_path}
-use Rattle.dv_catalog.specs.declared.entries.Parent.{Parent}
+-- The mart of a path is told by the ways along its feeds: their links, in the order of their keys, have the reference
+-- lists of the contents.
+use Rattle.dv_mart.proofs.Vocabulary.{AreAlike, AreHubsApart, AreLinksOf, AreMatching, Contains, Contains-map, Equal, HasZeroKeys, Hashes, IsAntisymmetric, IsMatch, IsRowOf, IsStrictlySortedBy, IsStrictlySortedBy-filter, IsTotalOrder, Key, KeyedRow, LinkFeed, LinkRow, List, Mapping, NRow, Parent}
+use Rattle.dv_mart.proofs.Vocabulary.{Some, TableRows, Window, agrees, alike_choice, alike_turned, all_refs, ap, are_joined_by, are_linked, are_windows_valid, ascending-choices, ascending-map, ascending-sorted_by, choices, content, content_row, contents, digest_cmp, each_hash, feed_hubs}
+use Rattle.dv_mart.proofs.Vocabulary.{feed_links, feed_links_tell, feeds_apart, filter, filtered_members, is_declared, is_known, is_link_feed, is_missing, is_valid, keyed_cmp, keyed_links, keyed_row, keyed_total, keys_read, length, lex_map, link_apart, link_feed, link_row_by, link_rows_in}
+use Rattle.dv_mart.proofs.Vocabulary.{linked_alike, list_all, list_any, list_found, lists_total, ltb-true, map, map-map, map_member, member_after_sort, member_before_sort, more, nat_list_cmp_total, none, not, on_total, one_of_ties, one_value, option_map, parent_hubs, passes_at, path_row}
+use Rattle.dv_mart.proofs.Vocabulary.{path_rows, refl, refs_cmp, refs_exact, refs_read, refs_total, reverse, row_form, row_known, row_refs, slice_cmp, slice_cmp-IsAntisymmetric, slice_get, sorted_by-members, steps_along, subst, sym, tied_itself, true, valid_feed, vault, vault_link, whole_refs, ℕ}
+use Rattle.dv_mart.proofs.Vocabulary.{◌+◌, ◌<◌, ◌∙◌, ◌∷◌, ◌≡◌}
 use Rattle.dv_catalog.specs.declared.entries.Parent.TheVariants.{Link}
-use Rattle.dv_catalog.specs.declared.entries.PathDef.{PathDef}
-use Rattle.dv_catalog.specs.Entries.{Mapping}
-use Rattle.dv_catalog.specs.Feeds.{feed_hubs, hubs_by, parent_hubs}
-use Rattle.dv_catalog.specs.Mappings.{is_link_feed, is_valid}
-use Rattle.dv_records.proofs.FeedContents.{row_refs}
-use Rattle.dv_records.specs.declared.mart_rows.PathRow.{PathRow}
-use Rattle.dv_records.specs.declared.raw_rows.LinkRow.{LinkRow}
-use Rattle.dv_records.specs.declared.snapshots.BridgeRow.{BridgeRow}
-use Rattle.dv_records.specs.declared.stores.TableRows.{TableRows}
-use Rattle.dv_records.specs.History.{all_refs, content}
-use Rattle.dv_records.specs.Hubs.{each_hash}
-use Rattle.dv_records.specs.Marts.{agrees, choices, contents, path_mart, path_rows_by, whole_refs}
-use Rattle.dv_records.specs.ReadBack.{key_read, keys_read, link_row_by, link_rows_in, present_parents, refs_read, status_rows_in}
-use Rattle.dv_records.specs.Snapshots.{bridge, bridge_cmp, bridge_row}
-use Rattle.dv_records.specs.States.{are_windows_valid}
-use Rattle.dv_records.specs.Vault.{vault}
-use Rattle.dv_bridge.proofs.FeedLinks.{LinkFeed, feed_links_tell, link_feed}
-use Rattle.dv_bridge.specs.BridgeRows.{is_whole}
-use Rattle.dv_bridge.specs.ZeroKeys.{HasZeroKeys}
-use Rattle.dv_mart.specs.PathTables.{path_row, steps_read}
-use Rattle.dv_mart.proofs.PathFeeds.{links_are}
 
--- ---- lists
+-- ---- the orders
 
--- bridge rows that tie are equal
-bridge_exact : IsAntisymmetric bridge_cmp
-bridge_exact x y e =
-    let tied = both_tied _ _ e in
-    let links = slice_cmp-IsAntisymmetric text_cmp-IsAntisymmetric x.links y.links tied.0 in
-    let hubs = slice_cmp-IsAntisymmetric text_cmp-IsAntisymmetric x.hubs y.hubs tied.1 in
-    λ i. record { links = links i; hubs = hubs i }
+steps_total : IsTotalOrder (slice_cmp refs_cmp)
+steps_total = lists_total refs_total
 
--- what stands behind the hash keys of all hubs isn't read
-keys_before : (mapping : Mapping) (tables : List TableRows) (hubs : List ℕ) (digests more : List (List ℕ)) → length digests ≡ length hubs → keys_read mapping tables hubs (digests ++ more) ≡ keys_read mapping tables hubs digests
-keys_before mapping tables [] digests more long = refl
-keys_before mapping tables (hub ∷ hubs) [] more long = absurd (omega (arith, long))
-keys_before mapping tables (hub ∷ hubs) (digest ∷ digests) more long = ap (λ keys. key_read mapping tables hub digest ∷ keys) (keys_before mapping tables hubs digests more (omega (arith, long)))
-
--- ---- one feed
+steps_exact : IsAntisymmetric (slice_cmp refs_cmp)
+steps_exact = slice_cmp-IsAntisymmetric refs_exact
 
 module _ (mapping : Mapping) (hashes : Hashes) (sealed : List Window) (zeros : HasZeroKeys hashes) (valid : is_valid mapping ≡ true) (windows_valid : are_windows_valid mapping hashes sealed ≡ true) (date : ℕ) where
   abbrev tables : List TableRows
@@ -74,121 +23,151 @@ module _ (mapping : Mapping) (hashes : Hashes) (sealed : List Window) (zeros : H
   abbrev lists : ℕ → List (List Key)
   lists feed = whole_refs (contents sealed date feed)
 
-  module _ (feed : ℕ) (its : LinkFeed mapping feed) (refs : List Key) (has : Contains (lists feed) refs) where
-    abbrev links : List LinkRow
-    links = link_rows_in its.link tables
+  abbrev links : ℕ → List KeyedRow
+  links = keyed_links mapping tables date
 
-    -- its hash key is that of a row of the content
-    refs_there : refs_read mapping tables its.definition.parent (hashes.hash refs) ≡ Some refs
-    refs_there =
-        let (within, kept) = (filtered_members (λ (refs : List Key). not (list_any is_missing refs)) (all_refs (content feed sealed date)) refs).0 has in
+  -- ---- a feed
+
+  module _ (feed : ℕ) (its : LinkFeed mapping feed) where
+    abbrev hubs : List ℕ
+    hubs = parent_hubs mapping (Link its.link)
+
+    hubs_are : hubs ≡ feed_hubs mapping feed
+    hubs_are = rw its.at (ap (parent_hubs mapping) (sym its.parent))
+
+    link_under : its.link < length mapping.links
+    link_under = ltb-true its.link (length mapping.links) (subst (λ (p : Parent). is_declared mapping p ≡ true) its.parent (valid_feed mapping valid feed its.definition its.at).declared)
+
+    -- the references of a row of its content are read back from the hash keys of their keys
+    row_told : (row : NRow) → Contains (content feed sealed date) row → keys_read mapping tables (feed_hubs mapping feed) (each_hash hashes row.refs) ≡ row.refs
+    row_told row has = subst (λ hubs. keys_read mapping tables hubs (each_hash hashes row.refs) ≡ row.refs) hubs_are keys_told
+      where
+        known : is_known mapping (Link its.link) (reverse sealed) row.refs ≡ true
+        known =
+            let (extract, in_history, row_in) = content_row mapping hashes sealed feed its.definition valid windows_valid its.at date row has in
+            let form = row_form mapping hashes sealed feed its.definition valid windows_valid its.at date row has in
+            subst (λ (p : Parent). is_known mapping p (reverse sealed) row.refs ≡ true) its.parent (row_known mapping sealed feed its.definition its.at extract in_history row row_in form)
+
+        read : refs_read mapping tables (Link its.link) (hashes.hash row.refs) ≡ Some row.refs
+        read =
+            subst (λ (p : Parent). refs_read mapping tables p (hashes.hash row.refs) ≡ Some row.refs) its.parent
+            (row_refs mapping hashes sealed feed its.definition valid windows_valid its.at date row has)
+
+        keys_told : keys_read mapping tables hubs (each_hash hashes row.refs) ≡ row.refs
+        keys_told =
+            let (found, is, hubs_of) = list_found mapping hashes sealed its.link (link_apart mapping hashes sealed windows_valid its.link link_under) row.refs known in
+            let there : link_row_by (link_rows_in its.link tables) (hashes.hash row.refs) ≡ Some found =
+            ap (λ all. link_row_by all (hashes.hash row.refs)) (vault_link mapping hashes sealed its.link link_under) ∙ is in
+            let of_row : Some (keys_read mapping tables hubs found.hubs) ≡ Some row.refs = ap (option_map (λ (link : LinkRow). keys_read mapping tables hubs link.hubs)) (sym there) ∙ read in
+            ap (keys_read mapping tables hubs) (sym hubs_of) ∙ one_value (Some row.refs) (keys_read mapping tables hubs found.hubs) row.refs (sym of_row) refl
+
+    -- so are its reference lists that miss none
+    list_told : (refs : List Key) → Contains (lists feed) refs → keys_read mapping tables (feed_hubs mapping feed) (each_hash hashes refs) ≡ refs
+    list_told refs has =
+        let (within, whole) = (filtered_members (λ (refs : List Key). not (list_any is_missing refs)) (all_refs (content feed sealed date)) refs).0 has in
         let (row, row_in, same) = map_member (λ (row : NRow). row.refs) (content feed sealed date) refs within in
-        subst (λ refs. refs_read mapping tables its.definition.parent (hashes.hash refs) ≡ Some refs) same (row_refs mapping hashes sealed feed its.definition valid windows_valid its.at date row row_in)
+        subst (λ refs. keys_read mapping tables (feed_hubs mapping feed) (each_hash hashes refs) ≡ refs) same (row_told row row_in)
 
-    -- the link's row with the hash key has the hash keys of its keys
-    link_there : (found : LinkRow) × (link_row_by links (hashes.hash refs) ≡ Some found) × (found.hubs ≡ each_hash hashes refs)
-    link_there =
-        let tell = feed_links_tell mapping hashes sealed valid windows_valid date feed its zeros in
-        let (found, found_in, is) = tell.link_of refs has in
-        let among = subst (λ (links : List LinkRow). Contains links found) (links_are mapping tables feed its.link its.definition links its.at its.parent refl date) found_in in
-        let (listed, whole) = (filtered_members is_whole (filter_map (link_row_by links) (present_parents (status_rows_in feed tables) date)) found).0 among in
-        let (digest, parent_in, by_digest) = filter_map_member (link_row_by links) (present_parents (status_rows_in feed tables) date) found listed in
-        let same : found.digest ≡ digest = (bytes_eq-Decides found.digest digest).0 (found_member (λ (row : LinkRow). bytes_eq row.digest digest) links found by_digest).1 in
-        (found, ap (link_row_by links) (sym is.digest ∙ same) ∙ by_digest, is.hubs)
+    -- a link with the keys of a reference list
+    record IsOf (refs : List Key) (link : KeyedRow) : Type 0 where
+      pub matches : IsMatch mapping hashes lists feed refs link.row
+      pub keys : link.keys ≡ refs
 
-    hubs_are : feed_hubs mapping feed ≡ parent_hubs mapping (Link its.link)
-    hubs_are = ap (hubs_by mapping) its.at ∙ ap (parent_hubs mapping) its.parent
+    abbrev of_row : LinkRow → KeyedRow
+    of_row = keyed_row mapping tables (feed_hubs mapping feed)
 
-    -- its keys are read back from the hash keys of its keys, whatever follows them
-    keys_back : (more : List (List ℕ)) → keys_read mapping tables (feed_hubs mapping feed) (each_hash hashes refs ++ more) ≡ refs
-    keys_back more =
-        let (found, found_is, found_hubs) = link_there in
-        let tell = feed_links_tell mapping hashes sealed valid windows_valid date feed its zeros in
-        let long : length (each_hash hashes refs) ≡ length (feed_hubs mapping feed) = length-map refs (λ key. hashes.hash (key ∷ [])) ∙ tell.long refs has in
-        let read : Some (keys_read mapping tables (parent_hubs mapping (Link its.link)) found.hubs) ≡ Some refs =
-        sym (ap (option_map (λ (row : LinkRow). keys_read mapping tables (parent_hubs mapping (Link its.link)) row.hubs)) found_is)
-        ∙ ap (λ (parent : Parent). refs_read mapping tables parent (hashes.hash refs)) (sym its.parent) ∙ refs_there in
-        keys_before mapping tables (feed_hubs mapping feed) (each_hash hashes refs) more long
-        ∙ (λ i. keys_read mapping tables (hubs_are i) (sym found_hubs i))
-        ∙ same_Some _ _ read
+    abbrev rows : List LinkRow
+    rows = feed_links mapping tables date feed
+
+    tell : AreLinksOf hashes (feed_hubs mapping feed) (feed_links mapping (vault mapping hashes sealed) date feed) (lists feed)
+    tell = feed_links_tell mapping hashes sealed valid windows_valid date feed its zeros
+
+    of_refs : (refs : List Key) (row : LinkRow) → Contains (lists feed) refs → IsRowOf hashes refs row → IsOf refs (of_row row)
+    of_refs refs row has is = record {
+      matches = record { within = has; is = is; long = tell.long refs has };
+      keys = ap (keys_read mapping tables (feed_hubs mapping feed)) is.hubs ∙ list_told refs has;
+    }
+
+    -- links with equal keys are one
+    one_link : (row : LinkRow) → Contains rows row → (other : KeyedRow) → Contains (map of_row rows) other → keyed_cmp other (of_row row) ≡ Equal → other ≡ of_row row
+    one_link row row_in other other_in tie =
+        let (second, second_in, is) = map_member of_row rows other other_in in
+        let (refs, refs_in, of) = tell.refs_of row row_in in
+        let (others, others_in, of_second) = tell.refs_of second second_in in
+        let same : others ≡ refs = sym (of_refs others second others_in of_second).keys ∙ ap (λ (link : KeyedRow). link.keys) is ∙ refs_exact other.keys (of_row row).keys tie ∙ (of_refs refs row refs_in of).keys in
+        let digests : second.digest ≡ row.digest = of_second.digest ∙ ap hashes.hash same ∙ sym of.digest in
+        let one : second ≡ row = one_of_ties (on_total (λ (link : LinkRow). link.digest) nat_list_cmp_total) rows tell.ascending second row second_in row_in (ap (λ digest. digest_cmp digest row.digest) digests ∙ tied_itself nat_list_cmp_total row.digest) in
+        sym is ∙ ap of_row one
+
+    link_of : (refs : List Key) → Contains (lists feed) refs → (link : KeyedRow) × Contains (links feed) link × IsOf refs link
+    link_of refs has =
+        let (row, row_in, is) = tell.link_of refs has in
+        (of_row row, member_after_sort keyed_cmp (map of_row rows) (of_row row) (one_link row row_in) (Contains-map of_row rows row row_in), of_refs refs row has is)
+
+    refs_of : (link : KeyedRow) → Contains (links feed) link → (refs : List Key) × Contains (lists feed) refs × IsOf refs link
+    refs_of link has =
+        let (row, row_in, is) = map_member of_row rows link (member_before_sort keyed_cmp (map of_row rows) link has) in
+        let (refs, refs_in, of) = tell.refs_of row row_in in
+        (refs, refs_in, subst (IsOf refs) is (of_refs refs row refs_in of))
 
   -- ---- several feeds
 
-  steps_back : (feeds : List ℕ) → list_all (λ feed. is_link_feed (slice_get mapping.feeds feed)) feeds ≡ true → (steps : List (List Key)) → Contains (choices (map lists feeds)) steps
-      → steps_read mapping tables feeds (flat_map (each_hash hashes) steps) ≡ steps
-  steps_back [] all steps has =
-      elim (Contains-cons_cases [] [] steps has) [
-        | inl none ↦ none
-        | inr nothing ↦ absurd (Contains-nil steps nothing)
-      ]
-  steps_back (feed ∷ feeds) all steps has =
-      let (is, others) = and_parts (is_link_feed (slice_get mapping.feeds feed)) (list_all (λ feed. is_link_feed (slice_get mapping.feeds feed)) feeds) all in
-      let (refs, refs_in, among) = flat_map_member (λ (refs : List Key). map (λ chosen. refs ∷ chosen) (choices (map lists feeds))) (lists feed) steps has in
-      let (rest, rest_in, parts) = map_member (λ chosen. refs ∷ chosen) (choices (map lists feeds)) steps among in
-      let its = link_feed mapping feed is in
-      let tell = feed_links_tell mapping hashes sealed valid windows_valid date feed its zeros in
-      let later = flat_map (each_hash hashes) rest in
-      let long : length (each_hash hashes refs) ≡ length (feed_hubs mapping feed) = length-map refs (λ key. hashes.hash (key ∷ [])) ∙ tell.long refs refs_in in
-      let behind : drop (length (feed_hubs mapping feed)) (each_hash hashes refs ++ later) ≡ later = ap (λ n. drop n (each_hash hashes refs ++ later)) (sym long) ∙ drop-append_seam (each_hash hashes refs) later in
-      let first = keys_back feed its refs refs_in later in
-      let others_back = ap (steps_read mapping tables feeds) behind ∙ steps_back feeds others rest rest_in in
-      subst (λ steps. steps_read mapping tables (feed ∷ feeds) (flat_map (each_hash hashes) steps) ≡ steps) parts (λ i. first i ∷ others_back i)
+  abbrev IsAlike : ℕ → List Key → KeyedRow → Type 0
+  IsAlike feed refs link = IsMatch mapping hashes lists feed refs link.row × (link.keys ≡ refs)
 
-  -- ---- a path
+  rows_alike : {feeds : List ℕ} {steps : List (List Key)} {way : List KeyedRow} → AreAlike IsAlike feeds steps way → AreMatching mapping hashes lists feeds steps (map (λ (link : KeyedRow). link.row) way)
+  rows_alike none = none
+  rows_alike (more first rest) = more first.0 (rows_alike rest)
 
-  module _ (place : ℕ) (path : PathDef) (at : slice_get mapping.paths place ≡ Some path) where
-    abbrev chosen : List (List (List Key))
-    chosen = sorted_by (slice_cmp refs_cmp) (filter (agrees mapping path.feeds path.via) (choices (map lists path.feeds)))
+  keys_alike : {feeds : List ℕ} {steps : List (List Key)} {way : List KeyedRow} → AreAlike IsAlike feeds steps way → steps_along way ≡ steps
+  keys_alike none = refl
+  keys_alike (more first rest) = λ i. first.1 i ∷ keys_alike rest i
 
-    abbrev bridge_of : List (List Key) → BridgeRow
-    bridge_of steps = bridge_row hashes (path_row steps)
+  module _ (feeds via : List ℕ) (of_links : list_all (λ feed. is_link_feed (slice_get mapping.feeds feed)) feeds ≡ true) (one_less : length via + 1 ≡ length feeds) (joined_by : are_joined_by mapping feeds via ≡ true) where
+    its_link : (feed : ℕ) → Contains feeds feed → LinkFeed mapping feed
+    its_link feed has = link_feed mapping feed (passes_at (λ feed. is_link_feed (slice_get mapping.feeds feed)) feeds feed of_links has)
 
-    abbrev read : BridgeRow → List (List Key)
-    read row = steps_read mapping tables path.feeds row.hubs
+    apart : AreHubsApart mapping hashes lists feeds
+    apart f g hub f_in g_in f_has g_has = feeds_apart mapping hashes sealed valid windows_valid date f g hub (its_link f f_in) (its_link g g_in)
 
-    mart_is : path_mart mapping sealed place date ≡ map path_row chosen
-    mart_is = ap (path_rows_by mapping (contents sealed date)) at
+    abbrev agreeing : List (List (List Key))
+    agreeing = filter (agrees mapping feeds via) (choices (map lists feeds))
 
-    bridge_is : bridge mapping hashes sealed place date ≡ sorted_by bridge_cmp (map bridge_of chosen)
-    bridge_is = ap (λ (rows : List PathRow). sorted_by bridge_cmp (map (bridge_row hashes) rows)) mart_is ∙ ap (sorted_by bridge_cmp) (twice chosen)
-      where
-        twice : (all : List (List (List Key))) → map (bridge_row hashes) (map path_row all) ≡ map bridge_of all
-        twice [] = refl
-        twice (steps ∷ all) = ap (λ rest. bridge_of steps ∷ rest) (twice all)
+    abbrev joined : List (List KeyedRow)
+    joined = filter (λ way. are_linked mapping feeds via (map (λ (link : KeyedRow). link.row) way)) (choices (map links feeds))
 
-    each_back : (steps : List (List Key)) → Contains chosen steps → read (bridge_of steps) ≡ steps
-    each_back steps has =
-        let among = member_before_sort (slice_cmp refs_cmp) (filter (agrees mapping path.feeds path.via) (choices (map lists path.feeds))) steps has in
-        let (choice, kept) = (filtered_members (agrees mapping path.feeds path.via) (choices (map lists path.feeds)) steps).0 among in
-        steps_back path.feeds (valid_path mapping valid place path at).of_links steps choice
+    linked_as : {steps : List (List Key)} {way : List KeyedRow} → AreAlike IsAlike feeds steps way → agrees mapping feeds via steps ≡ are_linked mapping feeds via (map (λ (link : KeyedRow). link.row) way)
+    linked_as alike = linked_alike mapping hashes lists valid via (rows_alike alike) joined_by apart
 
-    steps_total : IsTotalOrder (slice_cmp refs_cmp)
-    steps_total = lists_total refs_total
+    there : (steps : List (List Key)) → Contains agreeing steps → Contains (map steps_along joined) steps
+    there steps has =
+        let (within, agree) = (filtered_members (agrees mapping feeds via) (choices (map lists feeds)) steps).0 has in
+        let (way, way_in, alike) =
+        alike_choice IsAlike lists links feeds (λ feed feed_in refs refs_in.
+        let (link, link_in, of) = link_of feed (its_link feed feed_in) refs refs_in in
+        (link, link_in, (of.matches, of.keys))) steps within in
+        let kept = (filtered_members (λ way. are_linked mapping feeds via (map (λ (link : KeyedRow). link.row) way)) (choices (map links feeds)) way).1 (way_in, sym (linked_as alike) ∙ agree) in
+        subst (Contains (map steps_along joined)) (keys_alike alike) (Contains-map steps_along joined way kept)
 
-    steps_exact : IsAntisymmetric (slice_cmp refs_cmp)
-    steps_exact = slice_cmp-IsAntisymmetric refs_exact
+    back : (steps : List (List Key)) → Contains (map steps_along joined) steps → Contains agreeing steps
+    back steps has =
+        let (way, way_in, is) = map_member steps_along joined steps has in
+        let (within, link) = (filtered_members (λ way. are_linked mapping feeds via (map (λ (link : KeyedRow). link.row) way)) (choices (map links feeds)) way).0 way_in in
+        let (chosen, chosen_in, turned) =
+        alike_choice (λ feed link refs. IsAlike feed refs link) links lists feeds (λ feed feed_in link link_in.
+        let (refs, refs_in, of) = refs_of feed (its_link feed feed_in) link link_in in
+        (refs, refs_in, (of.matches, of.keys))) way within in
+        let alike = alike_turned turned in
+        let kept = (filtered_members (agrees mapping feeds via) (choices (map lists feeds)) chosen).1 (chosen_in, linked_as alike ∙ link) in
+        subst (Contains agreeing) (sym (keys_alike alike) ∙ is) kept
 
-    members : (steps : List (List Key)) → Contains chosen steps ↔ Contains (map read (sorted_by bridge_cmp (map bridge_of chosen))) steps
-    members steps = (there, back)
-      where
-        there : Contains chosen steps → Contains (map read (sorted_by bridge_cmp (map bridge_of chosen))) steps
-        there has =
-            let row_in = member_after_sort bridge_cmp (map bridge_of chosen) (bridge_of steps) (λ row row_in tied. bridge_exact row (bridge_of steps) tied) (Contains-map bridge_of chosen steps has) in
-            subst (Contains (map read (sorted_by bridge_cmp (map bridge_of chosen)))) (each_back steps has) (Contains-map read (sorted_by bridge_cmp (map bridge_of chosen)) (bridge_of steps) row_in)
+    ascend : IsStrictlySortedBy (slice_cmp refs_cmp) (map steps_along joined)
+    ascend =
+        let chosen = ascending-choices keyed_cmp keyed_total links feeds (λ feed feed_in. ascending-sorted_by keyed_cmp keyed_total (map (keyed_row mapping tables (feed_hubs mapping feed)) (feed_links mapping tables date feed))) in
+        ascending-map (slice_cmp keyed_cmp) (slice_cmp refs_cmp) steps_along (λ a b less. lex_map (λ (link : KeyedRow). link.keys) refs_cmp a b ∙ less) joined
+        (IsStrictlySortedBy-filter (slice_cmp keyed_cmp) (λ way. are_linked mapping feeds via (map (λ (link : KeyedRow). link.row) way)) (choices (map links feeds)) chosen)
 
-        back : Contains (map read (sorted_by bridge_cmp (map bridge_of chosen))) steps → Contains chosen steps
-        back has =
-            let (row, row_in, read_is) = map_member read (sorted_by bridge_cmp (map bridge_of chosen)) steps has in
-            let (other, other_in, row_is) = map_member bridge_of chosen row (member_before_sort bridge_cmp (map bridge_of chosen) row row_in) in
-            subst (Contains chosen) (sym (each_back other other_in) ∙ ap read row_is ∙ read_is) other_in
-
-    -- the mart, read back from the bridge
-    pub mart_back : (rows : List BridgeRow) (all sorted : List (List (List Key))) → rows ≡ bridge mapping hashes sealed place date → all ≡ map read rows → sorted ≡ sorted_by (slice_cmp refs_cmp) all
-        → map path_row sorted ≡ path_mart mapping sealed place date
-    mart_back rows all sorted rows_are all_are sorted_are =
-        ap (map path_row)
-        (sorted_are
-        ∙ ap (sorted_by (slice_cmp refs_cmp)) (all_are ∙ ap (map read) (rows_are ∙ bridge_is))
-        ∙ sym (sorted_by-members steps_total steps_exact (map read (sorted_by bridge_cmp (map bridge_of chosen))) chosen
-        (ascending-sorted_by (slice_cmp refs_cmp) steps_total (filter (agrees mapping path.feeds path.via) (choices (map lists path.feeds)))) members))
-        ∙ sym mart_is
+    -- the rows along the ways are those of the mart
+    pub ways_tell : map (λ way. path_row (steps_along way)) (filter (λ way. are_linked mapping feeds via (map (λ (link : KeyedRow). link.row) way)) (choices (map (keyed_links mapping (vault mapping hashes sealed) date) feeds)))
+        ≡ path_rows mapping (contents sealed date) feeds via
+    ways_tell = sym (map-map path_row steps_along joined) ∙ ap (map path_row) (sorted_by-members steps_total steps_exact agreeing (map steps_along joined) ascend (λ steps. (back steps, there steps)))

@@ -1,6 +1,5 @@
 -- The records of rows of raw tables: of rows with others behind them they are those of both.
-use Rattle.dv_mart.proofs.Vocabulary.{◌≡◌, true, [], ◌++◌, Option, Some, None, append-nil, map-append, sym, IfSome, option_map, option_map_or, rows_behind, TableId, Effect, Hub, Link, Multi, Sat, Status, Rows, Effects, Hubs, Links, Multis, Sats, Statuses, is_of_kind, raw_records, rows_then}
-use Rattle.std.proofs.Common.{Bor}
+use Rattle.dv_mart.proofs.Vocabulary.{Bor, Effect, Effects, Hub, Hubs, IfSome, Link, Links, Multi, Multis, None, Option, Rows, Sat, Sats, Some, Status, Statuses, TableId, [], append-nil, is_of_kind, map-append, option_map, option_map_or, raw_records, rows_behind, rows_then, sym, true, ◌++◌, ◌≡◌}
 
 pub records_then : (table : TableId) (a b : Rows) → is_of_kind table a ≡ true → is_of_kind table b ≡ true → raw_records (rows_then a b) ≡ raw_records a ++ raw_records b
 records_then (Hub n) (Hubs a) (Hubs b) k l = map-append _ a b

@@ -1,8 +1,8 @@
 -- What the tables of a vault hold: of each table rows of its kind, and by them its text.
-use Rattle.dv_mart.proofs.Vocabulary.{◌≡◌, ℕ, ◌<◌, true, false≢true, List, ◌∙◌, ap, refl, subst, sym, arith, length, nat_lt, Contains, nat_tests, Window, Hashes, TableId, Mapping, is_of_kind, is_table_of, tables, tables_in, Rows, rows_in, rows_up_to, table_after}
-use Rattle.dv_mart.proofs.Vocabulary.{vault_holds, HasSealed, RawVault, passes_at, HasKind, raw_text, table_text, TableRows, Effects, Hubs, Links, Multis, Sats, Statuses, effect_rows, hub_rows, link_rows, multi_rows, sat_rows, status_rows}
+use Rattle.dv_mart.proofs.Vocabulary.{Backwards, Contains, Effects, HasKind, HasSealed, Hashes, Hubs, Links, List, Mapping, Multis, RawVault, Rows, Sats, Statuses, TableId, TableRows, Window, ap, arith, backwards, effect_rows, false≢true, is_of_kind, is_table_of, length, link_rows, multi_rows}
+use Rattle.dv_mart.proofs.Vocabulary.{nat_lt, nat_tests, passes_at, raw_text, refl, rows_in, rows_up_to, sat_rows, status_rows, subst, sym, table_after, table_text, tables, tables_in, true, vault_holds, ℕ, ◌<◌, ◌∙◌, ◌≡◌}
+use Rattle.dv_records.specs.ReadBack.{hub_rows}
 use Rattle.dv_catalog.specs.declared.tables.TableId.TheVariants as ids
-use Rattle.dv_records.specs.Backwards.{Backwards, backwards}
 
 -- ---- a table of the mapping
 
@@ -14,12 +14,6 @@ hub_within mapping hub has = let test : nat_lt hub (length mapping.hubs) ≡ tru
 
 pub link_within : (mapping : Mapping) (link : ℕ) → Contains (tables mapping) (ids.Link link) → link < length mapping.links
 link_within mapping link has = let test : nat_lt link (length mapping.links) ≡ true = of_mapping mapping (ids.Link link) has in grind (arith, nat_tests, test)
-
-pub sat_within : (mapping : Mapping) (feed : ℕ) → Contains (tables mapping) (ids.Sat feed) → feed < length mapping.feeds
-sat_within mapping feed has = let test : nat_lt feed (length mapping.feeds) ≡ true = of_mapping mapping (ids.Sat feed) has in grind (arith, nat_tests, test)
-
-pub multi_within : (mapping : Mapping) (feed : ℕ) → Contains (tables mapping) (ids.Multi feed) → feed < length mapping.feeds
-multi_within mapping feed has = let test : nat_lt feed (length mapping.feeds) ≡ true = of_mapping mapping (ids.Multi feed) has in grind (arith, nat_tests, test)
 
 pub status_within : (mapping : Mapping) (feed : ℕ) → Contains (tables mapping) (ids.Status feed) → feed < length mapping.feeds
 status_within mapping feed has = let test : nat_lt feed (length mapping.feeds) ≡ true = of_mapping mapping (ids.Status feed) has in grind (arith, nat_tests, test)

@@ -3,6 +3,4 @@ pub mod KeyOrder
 pub mod MartTexts
 pub mod OfferedMarts
 pub mod PathTables
-pub mod PitCells
-pub mod QueryTexts
 pub mod Whats

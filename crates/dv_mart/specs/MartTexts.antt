@@ -1,21 +1,20 @@
 -- The text of a mart or a table at a date: of marts over the sealed windows, of raw tables by the rows that the store has.
-use Rattle.std.specs.Prelude.{◌≡◌, ℕ, Bool, true, false, List, [], Option, Some, None, Result, Ok, Err, slice_get, if◌then◌else◌}
-use Rattle.std.specs.Option.{option_map_or}
+use Rattle.std.specs.Prelude.{◌≡◌, ℕ, true, List, [], Option, Some, None, Result, Ok, Err, slice_get, if◌then◌else◌}
 use Rattle.dv_text.specs.declared.rows.Window.{Window}
 use Rattle.dv_text.specs.Keys.{Hashes}
 use Rattle.dv_catalog.specs.declared.entries.FeedDef.{FeedDef}
 use Rattle.dv_catalog.specs.declared.entries.PathDef.{PathDef}
 use Rattle.dv_catalog.specs.declared.tables.TableId.{TableId}
 use Rattle.dv_catalog.specs.Entries.{Mapping}
-use Rattle.dv_records.specs.declared.stores.Rows.{Rows}
 use Rattle.dv_records.specs.declared.stores.TableRows.{TableRows}
 use Rattle.dv_records.specs.Marts.{feed_mart, hub_mart, path_mart, period_mart}
 use Rattle.dv_records.specs.Snapshots.{bridge, pit}
 use Rattle.dv_records.specs.Steps.{is_too_large}
-use Rattle.dv_records.specs.Stores.{is_of_kind, rows_in, rows_then}
+use Rattle.dv_records.specs.Stores.{is_of_kind, rows_in}
 use Rattle.dv_records.specs.Vault.{rows_up_to}
-use Rattle.dv_mart.specs.declared.query_rules.QueryRule.{QueryRule}
-use Rattle.dv_mart.specs.declared.query_rules.QueryRule.TheVariants.{TooLarge}
+use Rattle.dv_bridge.specs.Paths.{name_of_path, path_feeds}
+use Rattle.dv_print.specs.declared.query_rules.QueryRule.{QueryRule}
+use Rattle.dv_print.specs.declared.query_rules.QueryRule.TheVariants.{TooLarge}
 use Rattle.dv_mart.specs.declared.whats.What.{What}
 use Rattle.dv_mart.specs.declared.whats.What.TheVariants as what
 use Rattle.dv_print.specs.TableTexts.{table_text}
@@ -26,11 +25,6 @@ use Rattle.dv_print.specs.Texts.{bridge_text, feed_text, hub_text, path_text, pe
 -- a table has rows of its kind
 abbrev pub HasKind : List TableRows → TableId → Type 0
 HasKind tables table = is_of_kind table (rows_in table tables) ≡ true
-
--- rows, and those behind them where there are any
-abbrev pub rows_behind : Rows → Option Rows → Rows
-rows_behind rows None = rows
-rows_behind rows (Some more) = rows_then rows more
 
 -- the text of a raw table: its rows in the store that are not later than the date
 abbrev pub raw_text : Mapping → List TableRows → TableId → ℕ → List ℕ
@@ -46,20 +40,12 @@ abbrev pub period_text_by : List Window → ℕ → ℕ → Option FeedDef → L
 period_text_by sealed feed date None = []
 period_text_by sealed feed date (Some def) = period_text def (period_mart sealed feed date)
 
-abbrev pub path_feeds : Option PathDef → List ℕ
-path_feeds None = []
-path_feeds (Some path) = path.feeds
-
 abbrev pub path_text_by : Mapping → List Window → ℕ → ℕ → Option PathDef → List ℕ
 path_text_by mapping sealed path date def = path_text mapping (path_feeds def) (path_mart mapping sealed path date)
 
 abbrev pub bridge_text_by : Mapping → Hashes → List Window → ℕ → ℕ → Option PathDef → List ℕ
 bridge_text_by mapping hashes sealed path date def =
     bridge_text mapping (path_feeds def) date (bridge mapping hashes sealed path date)
-
--- some first steps of the path at a place give too many rows
-abbrev pub is_path_too_large : Mapping → List Window → ℕ → ℕ → Bool
-is_path_too_large mapping sealed path date = option_map_or (is_too_large mapping sealed date) (slice_get mapping.paths path) false
 
 -- what is asked of a path: its text, or the rule Q3, where some first steps of the path give too many rows
 abbrev pub if_not_too_large : Mapping → List Window → ℕ → Option PathDef → List ℕ → Result (List ℕ) QueryRule
@@ -82,10 +68,6 @@ mart_text mapping hashes sealed tables (what.Bridge path) date =
     (bridge_text_by mapping hashes sealed path date (slice_get mapping.paths path))
 
 -- ---- the path of a mart
-
-abbrev pub name_of_path : Option PathDef → List ℕ
-name_of_path None = []
-name_of_path (Some path) = path.name
 
 -- the name of the path that a path's mart or bridge is of; of anything else it has no bytes
 abbrev pub path_name : Mapping → What → List ℕ

@@ -1,46 +1,50 @@
--- The bridge of a path by the raw tables, one feed after another, and the reference lists that are read back from it.
-use Rattle.std.specs.Prelude.{◌≡◌, ℕ, ◌-◌, ◌≤◌, ◌<◌, List, [], ◌∷◌, drop, length, take}
+-- The links of the feeds of a path with their keys, and what stands in the mart along its ways.
+use Rattle.std.specs.Prelude.{ℕ, List, map}
+use Rattle.std.specs.List.{flat_map}
+use Rattle.std.specs.declared.cmp.Ordering.{Ordering}
 use Rattle.dv_text.specs.declared.rows.Key.{Key}
-use Rattle.dv_text.specs.declared.rows.Window.{Window}
-use Rattle.dv_text.specs.Keys.{Hashes}
-use Rattle.dv_catalog.specs.declared.entries.PathDef.{PathDef}
+use Rattle.dv_text.specs.Orders.{refs_cmp}
+use Rattle.dv_text.specs.Sorting.{sorted_by}
 use Rattle.dv_catalog.specs.Entries.{Mapping}
 use Rattle.dv_catalog.specs.Feeds.{feed_hubs}
 use Rattle.dv_records.specs.declared.mart_rows.PathRow.{PathRow}
-use Rattle.dv_records.specs.declared.snapshots.BridgeRow.{BridgeRow}
+use Rattle.dv_records.specs.declared.raw_rows.LinkRow.{LinkRow}
 use Rattle.dv_records.specs.declared.stores.TableRows.{TableRows}
-use Rattle.dv_records.specs.Limits.{most_path_rows}
 use Rattle.dv_records.specs.ReadBack.{keys_read}
-use Rattle.dv_bridge.specs.BridgeTables.{bridge_read}
-use Rattle.dv_bridge.specs.ZeroKeys.{HasZeroKeys}
-use Rattle.dv_vault.specs.Vaults.{HasSealed, RawVault}
+use Rattle.dv_bridge.specs.BridgeTables.{feed_links}
+use Rattle.dv_bridge.specs.KeyedRows.{KeyedRow}
+use Rattle.dv_bridge.specs.declared.fault.BridgeFault.{BridgeFault}
+use Rattle.dv_bridge.specs.declared.fault.BridgeFault.TheVariants as bridge
+use Rattle.dv_mart.specs.declared.mart_faults.MartFault.{MartFault}
+use Rattle.dv_mart.specs.declared.mart_faults.MartFault.TheVariants as mart
+use Rattle.dv_print.specs.Texts.{all_parts}
 
--- a fact of the tables of a vault that has sealed windows
-abbrev pub IfSealed : RawVault → Type 0 → Type 0
-IfSealed raw P = (hashes : Hashes) (sealed : List Window) → HasZeroKeys hashes → HasSealed hashes sealed raw → P
+-- a link with the keys that the hash keys of its references stand for
+abbrev pub keyed_row : Mapping → List TableRows → List ℕ → LinkRow → KeyedRow
+keyed_row mapping tables hubs row = record { row = row; keys = keys_read mapping tables hubs row.hubs }
 
--- the bridge over the first feeds of a path
-abbrev pub first_bridge : RawVault → ℕ → PathDef → ℕ → List BridgeRow
-first_bridge raw date path n = bridge_read raw.mapping raw.tables date (take n path.feeds) (take (n - 1) path.via)
+-- the order of links by their keys
+abbrev pub keyed_cmp : KeyedRow → KeyedRow → Ordering
+keyed_cmp a b = refs_cmp a.keys b.keys
 
--- rows are those of the bridge over the first n feeds of a path, and neither these nor fewer feeds give too many
-pub record AreFirstRows (raw : RawVault) (date : ℕ) (path : PathDef) (n : ℕ) (rows : List BridgeRow) : Type 0 where
-  pub rows_are : rows ≡ first_bridge raw date path n
-  pub few : (k : ℕ) → 1 ≤ k → k ≤ n → length (first_bridge raw date path k) ≤ most_path_rows
+-- the links that a feed has at a date and that miss no reference with their keys, in the order of these
+abbrev pub keyed_links : Mapping → List TableRows → ℕ → ℕ → List KeyedRow
+keyed_links mapping tables date feed =
+    sorted_by keyed_cmp (map (keyed_row mapping tables (feed_hubs mapping feed)) (feed_links mapping tables date feed))
 
--- some first feeds of a path give too many rows
-pub record HasTooMany (raw : RawVault) (date : ℕ) (path : PathDef) : Type 0 where
-  pub count : ℕ
-  pub some : 1 ≤ count
-  pub within : count ≤ length path.feeds
-  pub many : most_path_rows < length (first_bridge raw date path count)
-
--- the reference lists of feeds, read back from the hash keys of all their hubs, which stand one after another
-abbrev pub steps_read : Mapping → List TableRows → List ℕ → List (List ℕ) → List (List Key)
-steps_read mapping tables [] digests = []
-steps_read mapping tables (feed ∷ feeds) digests =
-    keys_read mapping tables (feed_hubs mapping feed) digests ∷ steps_read mapping tables feeds (drop (length (feed_hubs mapping feed)) digests)
+-- the reference lists along a way
+abbrev pub steps_along : List KeyedRow → List (List Key)
+steps_along way = map (λ link. link.keys) way
 
 -- the row of a path mart with these reference lists
 abbrev pub path_row : List (List Key) → PathRow
 path_row steps = record { steps = steps }
+
+-- the record of the row along a way: the parts of its keys
+abbrev pub way_record : List KeyedRow → List (List ℕ)
+way_record way = flat_map (λ link. all_parts link.keys) way
+
+-- what a path's mart says of a fault of its ways
+abbrev pub fault_of : BridgeFault → MartFault
+fault_of bridge.TooLarge = mart.TooLarge
+fault_of bridge.Memory = mart.Memory

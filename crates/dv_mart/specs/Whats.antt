@@ -1,18 +1,14 @@
 -- The word for a mart or a table: its kind, a colon and a name.
-use Rattle.std.specs.Prelude.{ℕ, ◌==◌, Bool, false, not, List, [], ◌∷◌, Option, Some, None, codes, drop, find, length, nat_eq, option_and_then, option_map, position, slice_get, if◌then◌else◌}
-use Rattle.std.specs.List.{starts_with}
+use Rattle.std.specs.Prelude.{ℕ, ◌==◌, Bool, false, not, List, [], ◌∷◌, Option, Some, None, codes, find, length, option_and_then, option_map, position, slice_get, if◌then◌else◌}
 use Rattle.std.specs.Str.{bytes_eq}
 use Rattle.dv_catalog.specs.declared.entries.FeedDef.{FeedDef}
 use Rattle.dv_catalog.specs.declared.tables.TableId.{TableId}
 use Rattle.dv_catalog.specs.Entries.{Mapping}
 use Rattle.dv_catalog.specs.FirstOf.{first_of}
 use Rattle.dv_catalog.specs.Tables.{table_name, tables}
+use Rattle.dv_print.specs.Words.{behind}
 use Rattle.dv_mart.specs.declared.whats.What.{What}
 use Rattle.dv_mart.specs.declared.whats.What.TheVariants.{Feed, Hub, Path, Period, Table, Pit, Bridge}
-
--- what stands behind a kind and a colon
-abbrev pub behind : List ℕ → List ℕ → Option (List ℕ)
-behind kind word = if starts_with nat_eq word kind then Some (drop (length kind) word) else None
 
 -- the place of the hub, feed or path with a name
 abbrev pub hub_place : Mapping → List ℕ → Option ℕ

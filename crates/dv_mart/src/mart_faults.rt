@@ -1,9 +1,11 @@
 ghost use Rattle.std.specs.Prelude.{◌≡◌, IfOk, slice_get};
+ghost use Rattle.dv_bridge.specs.Paths.{name_of_path};
 ghost use Rattle.dv_mart.specs.MartTexts as spec;
 
-use crate::query_rules::QueryRule;
 use crate::whats::What;
+use dv_bridge::BridgeFault;
 use dv_catalog::Catalog;
+use dv_print::QueryRule;
 use dv_text::{Memory, Text};
 use std::alloc::Global;
 
@@ -27,9 +29,23 @@ impl From<Memory> for MartFault {
     }
 }
 
+impl From<BridgeFault> for MartFault {
+    ghost use Rattle.std.specs.Prelude.{◌≡◌};
+    ghost use Rattle.dv_mart.specs.PathTables.{fault_of};
+
+    ghost from_gives = { λ error fault. fault ≡ fault_of error };
+
+    fn from(error: BridgeFault) -> MartFault {
+        match error {
+            BridgeFault::TooLarge => MartFault::TooLarge,
+            BridgeFault::Memory => MartFault::Memory,
+        }
+    }
+}
+
 // The name of the path at a place; without bytes where there is no such path.
 fn name_at(catalog: &Catalog, path: u32) -> &[u8]
-    ensures { result.now ≡ spec.name_of_path (slice_get catalog.now.paths path) }
+    ensures { result.now ≡ name_of_path (slice_get catalog.now.paths path) }
 {
     if path < catalog.path_count() {
         catalog.path(path).name.bytes()

@@ -10,20 +10,20 @@ ghost use Rattle.dv_records.specs.Snapshots as snapshots;
 ghost use Rattle.dv_bridge.specs.ZeroKeys.{HasZeroKeys};
 ghost use Rattle.dv_mart.specs.MartTexts as spec;
 ghost use Rattle.dv_print.specs.Texts as texts;
-ghost use Rattle.dv_mart.specs.declared.query_rules.QueryRule.TheVariants as rules;
+ghost use Rattle.dv_print.specs.declared.query_rules.QueryRule.TheVariants as rules;
 ghost use Rattle.dv_mart.specs.OfferedMarts.{IsOffered};
 
-use crate::bridges::bridge_rows;
 use crate::hub_marts::hub_mart_text;
 use crate::lent_texts::lent_feed_text;
 use crate::mart_faults::MartFault;
-use crate::path_marts::path_mart;
-use crate::pits::pit_rows;
+use crate::path_marts::path_mart_text;
 use crate::vault_tables::table_text;
 use crate::whats::What;
+use dv_bridge::bridge_rows;
 use dv_catalog::TableId;
 use dv_contents::{content, lent_content, missing_keys, periods};
-use dv_print::{bridge_text, path_text, period_text, pit_text};
+use dv_pit::pit_rows;
+use dv_print::{bridge_text, period_text, pit_text};
 use dv_records::PeriodRow;
 use dv_text::{List, Memory, NRow, Stamp, Text};
 use dv_vault::Vault;
@@ -74,20 +74,6 @@ fn pit_mart_text(alloc: Global, vault: &Vault, hub: u32, date: Stamp) -> Result<
 {
     let rows = pit_rows(alloc, vault, hub, date)?;
     pit_text(alloc, vault.catalog(), hub, date, rows.items())
-}
-
-// The text of a path's mart.
-fn path_mart_text(alloc: Global, vault: &Vault, path: u32, date: Stamp) -> Result<Text, MartFault>
-    requires { path < length vault.now.mapping.paths }
-    ensures text { IfOk result (λ text. (hashes : Hashes) (sealed : list_of Window) → HasZeroKeys hashes → HasSealed hashes sealed vault.now
-        → spec.mart_text vault.now.mapping hashes sealed vault.now.tables (What.Path path) date ≡ Ok text) }
-    ensures too_large { IsErrOf result MartFault.TooLarge → (hashes : Hashes) (sealed : list_of Window) → HasZeroKeys hashes → HasSealed hashes sealed vault.now
-        → spec.mart_text vault.now.mapping hashes sealed vault.now.tables (What.Path path) date ≡ Err (rules.TooLarge (spec.path_name vault.now.mapping (What.Path path))) }
-{
-    let rows = path_mart(alloc, vault, path, date)?;
-    let catalog = vault.catalog();
-    let text = path_text(alloc, catalog, catalog.path(path), rows.items())?;
-    Ok(text)
 }
 
 // The text of a path's bridge table.

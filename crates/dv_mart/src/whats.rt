@@ -1,4 +1,5 @@
 ghost use Rattle.std.specs.Prelude.{◌≡◌, IfOk, IfSome, Some, None, option_and_then, option_map};
+ghost use Rattle.dv_print.specs.Words.{behind as behind_front};
 ghost use Rattle.dv_mart.specs.OfferedMarts.{IsOffered};
 ghost use Rattle.dv_mart.specs.Whats as spec;
 
@@ -27,7 +28,7 @@ pub enum What {
 
 // What stands behind a kind, where the word begins with it.
 fn behind<'a>(kind: &[u8], word: &'a [u8]) -> Option<&'a [u8]>
-    ensures { option_map (λ rest. rest.now) result ≡ spec.behind kind.now word.now }
+    ensures { option_map (λ rest. rest.now) result ≡ behind_front kind.now word.now }
 {
     word.strip_prefix(kind)
 }
@@ -53,7 +54,7 @@ fn hub_behind(
     kind: &[u8],
     word: &Text,
 ) -> Result<Option<u32>, Memory>
-    ensures { IfOk result (λ hub. hub ≡ option_and_then (spec.hub_place catalog.now) (spec.behind kind.now word.now)) }
+    ensures { IfOk result (λ hub. hub ≡ option_and_then (spec.hub_place catalog.now) (behind_front kind.now word.now)) }
 {
     let Some(rest) = behind(kind, word.bytes()) else {
         return Ok(None);
@@ -91,7 +92,7 @@ fn path_behind(
     kind: &[u8],
     word: &Text,
 ) -> Result<Option<u32>, Memory>
-    ensures { IfOk result (λ path. path ≡ option_and_then (spec.path_place catalog.now) (spec.behind kind.now word.now)) }
+    ensures { IfOk result (λ path. path ≡ option_and_then (spec.path_place catalog.now) (behind_front kind.now word.now)) }
 {
     let Some(rest) = behind(kind, word.bytes()) else {
         return Ok(None);

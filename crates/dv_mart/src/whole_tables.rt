@@ -7,9 +7,8 @@ ghost use Rattle.csv.specs.Writing.{text_written};
 ghost use Rattle.dv_catalog.specs.Tables.{tables};
 ghost use Rattle.dv_records.specs.Stores.{is_of_kind, rows_in};
 ghost use Rattle.dv_print.specs.TableTexts.{table_text};
-ghost use Rattle.dv_mart.specs.MartTexts as spec;
 ghost use Rattle.dv_mart.specs.MartTexts.{HasKind};
-ghost use Rattle.dv_print.specs.TableTexts.{raw_records};
+ghost use Rattle.dv_print.specs.TableTexts.{raw_records, rows_behind};
 ghost use Rattle.dv_print.specs.Texts.{csv_text};
 ghost use Rattle.dv_print.specs.Writers.{IsBetweenRecords};
 
@@ -102,7 +101,7 @@ pub fn whole_table_text(
     requires among { Contains (tables vault.now.mapping) table }
     requires kind { IfSome behind (λ rows. IsTrue (is_of_kind table rows.now)) }
     ensures { IfOk result (λ text. HasKind vault.now.tables table
-        → text ≡ table_text vault.now.mapping table (spec.rows_behind (rows_in table vault.now.tables) (option_map (λ rows. rows.now) behind.entry))) }
+        → text ≡ table_text vault.now.mapping table (rows_behind (rows_in table vault.now.tables) (option_map (λ rows. rows.now) behind.entry))) }
 {
     let mut fields = table_header(alloc, vault.catalog(), table)?;
     let mut writer = new_writer(alloc);

@@ -1,20 +1,9 @@
 -- The load date of a point-in-time cell is that of the satellite rows that are valid at its date.
-use Rattle.dv_pit.proofs.Vocabulary.{option_map, Contains, find, ◌&&◌, nat_le, ◌≡◌, ◌↔◌, ℕ, ◌==◌, Bool, true, false, List, ◌∷◌, Option, Some, None, refl, sym, ◌∙◌, ap, reverse, inl, inr, bytes_eq, and_from, and_parts, eq-eqb, eqb-true, false≢true}
-use Rattle.dv_pit.proofs.Vocabulary.{Contains-append_left, Contains-cons_here, Contains-cons_there, Contains-map, Contains-nil, filtered_members, reverse_member, refs_eq, refs_eq-Decides, some_passes, some_passes_at, Key, NRow, Window, Hashes, Mapping}
-use Rattle.dv_pit.proofs.Vocabulary.{Extract, IsApart, IsInLoadOrder, IsOnePerSub, SatRow, MultiRow, Multis, Multi, all_refs, appended, apart-reversed, delivered_refs, delivers, feed_rows, history, history-newest_first, history_member, lists_of, source, table_after, up_to}
-use Rattle.dv_pit.proofs.Vocabulary.{IsNewestFirst, multi_batch, multi_cmp, multi_rows, multi_tied, sat_cmp, sat_tied, all_valid_at, loaded_with, HasOneRowPerSub}
-use Rattle.std.specs.Prelude.{if◌then◌else◌}
-use Rattle.std.specs.declared.cmp.Ordering.{Ordering}
-use Rattle.dv_catalog.specs.declared.tables.TableId.TheVariants.{Sat}
-use Rattle.dv_records.proofs.LastChange.{AreApart, Changes, IsStep, Tells, apart-older, last_change}
-use Rattle.dv_records.specs.declared.stores.Rows.TheVariants.{Sats}
-use Rattle.dv_records.specs.Batches.{IsBatchOf}
-use Rattle.dv_records.specs.ReadBack.{sat_rows}
-use Rattle.dv_records.specs.Reconstruction.{HasOneRowEach, valid_at}
-use Rattle.dv_records.specs.Satellites.{is_changed, sat_batch, IsOnePerList, IsSatBatch, IsMultiBatch}
-use Rattle.dv_records.specs.Snapshots.{changed_at}
-use Rattle.dv_text.proofs.Passing.{found_member}
-use Rattle.dv_records.specs.Backwards.{backwards}
+use Rattle.dv_pit.proofs.Vocabulary.{AreApart, Bool, Changes, Contains, Contains-append_left, Contains-cons_here, Contains-cons_there, Contains-map, Contains-nil, Extract, HasOneRowEach, HasOneRowPerSub, Hashes, IsApart, IsBatchOf, IsInLoadOrder, IsMultiBatch, IsNewestFirst, IsOnePerList}
+use Rattle.dv_pit.proofs.Vocabulary.{IsOnePerSub, IsSatBatch, IsStep, Key, List, Mapping, Multi, MultiRow, Multis, NRow, None, Option, Ordering, Sat, SatRow, Sats, Some, Tells, Window, all_refs, all_valid_at, and_from, and_parts, ap, apart-older, apart-reversed, appended, backwards, bytes_eq}
+use Rattle.dv_pit.proofs.Vocabulary.{changed_at, delivered_refs, delivers, eq-eqb, eqb-true, false, false≢true, feed_rows, filtered_members, find, found_member, history, history-newest_first, history_member, if◌then◌else◌, inl, inr, is_changed, last_change, lists_of, loaded_with, multi_batch}
+use Rattle.dv_pit.proofs.Vocabulary.{multi_cmp, multi_rows, multi_tied, nat_le, option_map, refl, refs_eq, refs_eq-Decides, reverse, reverse_member, sat_batch, sat_cmp, sat_rows, sat_tied, some_passes, some_passes_at, source, sym, table_after, true, up_to, valid_at, ℕ, ◌&&◌, ◌==◌, ◌↔◌, ◌∙◌, ◌∷◌}
+use Rattle.dv_pit.proofs.Vocabulary.{◌≡◌}
 
 -- a kind of row made of an extract's row, and its batches: the rows of the lists whose rows are other ones than when they
 -- were last there

@@ -1,4 +1,5 @@
 pub mod CellLoads
+pub mod PitCells
 pub mod PitTells
 pub mod UpTo
 pub mod Vocabulary

@@ -1,35 +1,11 @@
 -- The point-in-time table that the vault's tables say is that of the sealed windows.
-use Rattle.dv_pit.proofs.Vocabulary.{Bool, Contains, Contains-cons_cases, Contains-cons_here, Contains-cons_there, Contains-flat_map, Contains-map, FeedDef, Hashes, HubRow, IsApart, Key, List, Mapping, MultiRow, Multis, None, Option, SatRow, Sats, Some, Statuses, Window, Parent, Hub}
-use Rattle.dv_pit.proofs.Vocabulary.{all_valid_at, ap, appended, are_windows_valid, arith, ascending-sorted_by, content, delivered_refs, delivers, eqb-true, false, filter, filtered_members, flat_map, flat_map_member, hashed_refs, history, hub_batch, hub_row, inl, inr, is_known, is_offered}
-use Rattle.dv_pit.proofs.Vocabulary.{is_valid, known_apart, length, load_order, map}
-use Rattle.dv_pit.proofs.Vocabulary.{map_member, member_after_sort, member_before_sort, multi_rows_in, nat_le, nat_list_cmp_total, nil_from_length, offered_refs, offers_apart, option_map, present_at, refl, reverse, reverse_member, sat_rows_in, slice_get, some_passes, some_passes_at, sorted_by}
-use Rattle.dv_pit.proofs.Vocabulary.{sorted_by-members, status_rows_in, status_tells}
-use Rattle.dv_pit.proofs.Vocabulary.{subst, sym, table_has, table_row, text_cmp-IsAntisymmetric, true, up_to, valid_at, vault, ◌+◌, ℕ, ◌<◌, ◌==◌, ◌∙◌, ◌∷◌, ◌≡◌, [], suc, HasOneRowPerSub, Contains-nil, made_of, ◌↔◌}
-use Rattle.std.specs.List.{enumerate_from}
-use Rattle.dv_records.specs.declared.stores.TableRows.{TableRows}
-use Rattle.dv_catalog.specs.declared.entries.Parent.TheVariants.{Link}
-use Rattle.dv_text.proofs.StableSorts.{sorted_by-map}
-use Rattle.dv_catalog.specs.Feeds.{is_fed_by, parent_eq}
-use Rattle.dv_records.proofs.BatchTies.{batch_made as made_in_batch}
-use Rattle.dv_records.proofs.Delivered.{is_offered-member, offered_member}
-use Rattle.dv_records.proofs.FeedContents.{feed_apart, rows_of_extract}
-use Rattle.dv_records.proofs.HubTables.{offered_key}
-use Rattle.dv_records.proofs.KnownLists.{delivered_known}
-use Rattle.dv_records.proofs.Reversing.{newest_first}
-use Rattle.dv_records.proofs.ValidWindows.{hub_apart, whole}
-use Rattle.dv_records.proofs.VaultRows.{vault_hub, vault_multi, vault_sat, vault_status}
-use Rattle.dv_records.specs.Batches.{digest_cmp}
-use Rattle.dv_records.specs.Deliveries.{deliveries}
-use Rattle.dv_records.specs.Hubs.{hub_cmp, only_key}
-use Rattle.dv_records.specs.Marts.{hub_feeds}
-use Rattle.dv_records.specs.ReadBack.{hub_rows_in}
-use Rattle.dv_records.specs.Reconstruction.{HasOneRowEach}
-use Rattle.dv_records.specs.Snapshots.{changed_at, keys_up_to, pit, pit_cell, pit_cmp, pit_row}
-use Rattle.dv_records.specs.declared.deliveries.Delivery.{Delivery}
-use Rattle.dv_pit.proofs.CellLoads.{multi_cells, sat_cells}
-use Rattle.dv_pit.proofs.UpTo.{rows_up_to}
-use Rattle.dv_pit.specs.PitRows.{known_keys}
-use Rattle.dv_pit.specs.PitTables.{cell_read, pit_read, row_read}
+use Rattle.dv_pit.proofs.Vocabulary.{Bool, Contains, Contains-cons_cases, Contains-cons_here, Contains-cons_there, Contains-flat_map, Contains-map, Contains-nil, Delivery, FeedDef, HasOneRowEach, HasOneRowPerSub, Hashes, Hub, HubRow, IsApart, Key, Link, List, Mapping, MultiRow, Multis, None}
+use Rattle.dv_pit.proofs.Vocabulary.{Option, Parent, SatRow, Sats, Some, Statuses, TableRows, Window, [], all_valid_at, ap, appended, are_windows_valid, arith, ascending-sorted_by, cell_read, changed_at, content, delivered_known, delivered_refs, deliveries, delivers, digest_cmp, enumerate_from}
+use Rattle.dv_pit.proofs.Vocabulary.{eqb-true, false, feed_apart, filter, filtered_members, flat_map, flat_map_member, hashed_refs, history, hub_apart, hub_batch, hub_cmp, hub_feeds, hub_row, hub_rows_in, inl, inr, is_fed_by, is_known, is_offered, is_offered-member, is_valid, keys_up_to}
+use Rattle.dv_pit.proofs.Vocabulary.{known_apart, known_keys, length, load_order, made_in_batch, made_of, map, map_member, member_after_sort, member_before_sort, multi_rows_in, nat_le, nat_list_cmp_total, newest_first, nil_from_length, offered_key, offered_member, offered_refs, offers_apart}
+use Rattle.dv_pit.proofs.Vocabulary.{only_key, option_map, parent_eq, pit, pit_cell, pit_cmp, pit_read, pit_row, present_at, refl, reverse, reverse_member, row_read, rows_of_extract, sat_rows_in, slice_get, some_passes, some_passes_at, sorted_by, sorted_by-map, sorted_by-members, status_rows_in}
+use Rattle.dv_pit.proofs.Vocabulary.{status_tells, subst, suc, sym, table_has, table_row, text_cmp-IsAntisymmetric, true, up_to, valid_at, vault, vault_hub, vault_multi, vault_sat, vault_status, whole, ℕ, ◌+◌, ◌<◌, ◌==◌, ◌↔◌, ◌∙◌, ◌∷◌, ◌≡◌}
+use Rattle.dv_pit.proofs.{CellLoads.multi_cells, CellLoads.sat_cells, UpTo.rows_up_to}
 
 -- ---- lists
 

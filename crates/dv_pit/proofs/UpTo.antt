@@ -1,5 +1,5 @@
 -- The rows of batches up to a date are those of the windows up to it.
-use Rattle.dv_pit.proofs.Vocabulary.{Bool, Contains, List, IsNewestFirst, appended, append-nil, arith, false, filter, filter-all, filter-append, filter-none, le-leb, leb-true, nat_le, refl, true, ℕ, ◌≤◌, ◌++◌, ◌∙◌, ◌∷◌, ◌≡◌, []}
+use Rattle.dv_pit.proofs.Vocabulary.{Bool, Contains, IsNewestFirst, List, [], append-nil, appended, arith, false, filter, filter-all, filter-append, filter-none, le-leb, leb-true, nat_le, refl, true, ℕ, ◌++◌, ◌∙◌, ◌∷◌, ◌≡◌, ◌≤◌}
 
 module _ {E R : Type 0} (date_of : E → ℕ) (load_of : R → ℕ) (batch : List E → E → List R) (stamped : (older : List E) (newest : E) (row : R) → Contains (batch older newest) row → load_of row ≡ date_of newest) (date : ℕ) where
   abbrev is_early : E → Bool

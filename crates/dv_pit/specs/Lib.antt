@@ -1,2 +1,3 @@
+pub mod PitCells
 pub mod PitRows
 pub mod PitTables

@@ -1,20 +1,6 @@
 -- The feeds of a hub, one after another in declared order, and the link of a feed.
-use Rattle.dv_print.proofs.Vocabulary.{◌≡◌, ◌∙◌, ◌++◌, ℕ, true, false, List, [], Some, ap, arith, filter, map, refl, slice_get, sym, take, Mapping}
-use Rattle.std.specs.Prelude.{◌+◌, ◌∷◌, None, suc, zero}
-use Rattle.std.specs.List.{enumerate_from}
-use Rattle.std.proofs.lemmas.List.{map-append}
-use Rattle.std.proofs.lemmas.List.Elements.{All-push, filter-append}
-use Rattle.std.specs.Prelude.{All}
-use Rattle.std.proofs.Common.{append-nil}
-use Rattle.dv_catalog.specs.declared.entries.FeedDef.{FeedDef}
-use Rattle.dv_catalog.specs.declared.entries.Parent.TheVariants.{Hub, Link}
-use Rattle.dv_catalog.proofs.ValidReads.{valid_feed}
-use Rattle.dv_catalog.specs.Mappings.{is_declared, is_valid}
-use Rattle.std.proofs.Common.{length, ◌<◌}
-use Rattle.std.proofs.lemmas.Bool.Decides.{nat_tests}
-use Rattle.dv_catalog.specs.Feeds.{is_fed_by}
-use Rattle.dv_print.specs.HubFeeds.{told}
-use Rattle.dv_print.specs.declared.hub_feeds.HubFeed.{HubFeed}
+use Rattle.dv_print.proofs.Vocabulary.{All, All-push, FeedDef, Hub, HubFeed, Link, List, Mapping, None, Some, [], ap, append-nil, arith, enumerate_from, false, filter, filter-append, is_declared, is_fed_by, is_valid, length, map, map-append, nat_tests, refl, slice_get, suc, sym, take, told, true}
+use Rattle.dv_print.proofs.Vocabulary.{valid_feed, zero, ℕ, ◌++◌, ◌+◌, ◌<◌, ◌∙◌, ◌∷◌, ◌≡◌}
 
 -- one item more stands at its place
 one_more : {X : Type 0} (k : ℕ) (xs : List X) (n : ℕ) (x : X) → slice_get xs n ≡ Some x → enumerate_from k (take (suc n) xs) ≡ enumerate_from k (take n xs) ++ (k + n, x) ∷ []

@@ -1,5 +1,5 @@
 -- The names of feeds in a row, with a space between each two.
-use Rattle.dv_print.proofs.Vocabulary.{◌≡◌, ℕ, List, [], ◌∷◌, ◌++◌, ◌∙◌, ap, append-nil, flat_map, join_with_byte, map, sym}
+use Rattle.dv_print.proofs.Vocabulary.{List, [], ap, append-nil, flat_map, join_with_byte, map, sym, ℕ, ◌++◌, ◌∙◌, ◌∷◌, ◌≡◌}
 
 -- the first name, and each further one behind a space
 spaced : (name : ℕ → List ℕ) (first : List ℕ) (rest : List ℕ) → join_with_byte 32 (first ∷ map name rest) ≡ first ++ flat_map (λ feed. 32 ∷ name feed) rest

@@ -1,9 +1,5 @@
 -- The columns of the parts of a hub's keys, one after the other.
-use Rattle.dv_print.proofs.Vocabulary.{◌≡◌, ℕ, ◌+◌, List, [], ◌∷◌, ◌++◌, append_assoc, codes, map, ap, arith, sym, ◌∙◌, decimal, range_with_len, map-range_with_len_more, raw_header}
-use Rattle.dv_print.proofs.Vocabulary.{append-nil, hub_name, refl, slice_get, Mapping}
-use Rattle.std.specs.Prelude.{None}
-use Rattle.dv_catalog.specs.Feeds.{parts_of}
-use Rattle.dv_print.specs.Texts.{dotted, hub_columns, numbered}
+use Rattle.dv_print.proofs.Vocabulary.{List, Mapping, None, [], ap, append-nil, append_assoc, arith, codes, decimal, dotted, hub_columns, hub_name, map, map-range_with_len_more, numbered, parts_of, range_with_len, raw_header, refl, slice_get, sym, ℕ, ◌++◌, ◌+◌, ◌∙◌, ◌∷◌, ◌≡◌}
 
 abbrev part_column : ℕ → List ℕ
 part_column n = codes "part_" ++ decimal n

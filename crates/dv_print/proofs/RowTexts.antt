@@ -1,5 +1,5 @@
 -- A row is written alike whether or not the rows may have another number of fields.
-use Rattle.dv_print.proofs.Vocabulary.{◌≡◌, ℕ, ◌==◌, List, [], ◌∷◌, ◌++◌, ap, length, refl, if◌then◌else◌, default_writer, escaped, fields_text, field_text, is_blank, needs_quotes, row_body, row_text, row_writer}
+use Rattle.dv_print.proofs.Vocabulary.{List, [], ap, default_writer, escaped, field_text, fields_text, if◌then◌else◌, is_blank, length, needs_quotes, refl, row_body, row_text, row_writer, ℕ, ◌++◌, ◌==◌, ◌∷◌, ◌≡◌}
 
 escaped_alike : (field : List ℕ) → escaped row_writer field ≡ escaped default_writer field
 unfolding escaped

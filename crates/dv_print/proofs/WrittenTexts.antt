@@ -1,5 +1,5 @@
 -- A text that was written in parts: a header, some records and more of them.
-use Rattle.dv_print.proofs.Vocabulary.{◌≡◌, ℕ, List, [], ◌∷◌, ◌++◌, Option, Some, None, ◌∙◌, ap, append_assoc, flat_map-append, same_Some, subst, sym, Appends, csv_text, default_writer, row_text}
+use Rattle.dv_print.proofs.Vocabulary.{Appends, List, None, Option, Some, [], ap, append_assoc, csv_text, default_writer, flat_map-append, row_text, same_Some, subst, sym, ℕ, ◌++◌, ◌∙◌, ◌∷◌, ◌≡◌}
 
 parts_of : (first second third : Option (List ℕ)) (text a b c : List ℕ) → Appends (Some []) first a → Appends first second b → Appends second third c → third ≡ Some text
     → text ≡ a ++ (b ++ c)

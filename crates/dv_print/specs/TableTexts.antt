@@ -6,6 +6,7 @@ use Rattle.dv_catalog.specs.declared.tables.TableId.{TableId}
 use Rattle.dv_catalog.specs.declared.tables.TableId.TheVariants as ids
 use Rattle.dv_catalog.specs.Entries.{Mapping}
 use Rattle.dv_records.specs.declared.stores.Rows.{Rows}
+use Rattle.dv_records.specs.Stores.{rows_then}
 use Rattle.dv_records.specs.declared.stores.Rows.TheVariants.{Hubs, Links, Sats, Multis, Statuses, Effects, Pits, Bridges}
 use Rattle.dv_print.specs.Texts.{csv_text, effect_table_header, effect_table_record, hub_table_header, hub_table_record, link_table_header, link_table_record, multi_table_record, sat_table_header, sat_table_record}
 use Rattle.dv_print.specs.Texts.{status_table_header, status_table_record}
@@ -41,3 +42,8 @@ table_header mapping (ids.Effect feed) = effect_table_header
 -- the text of a raw table with these rows
 abbrev pub table_text : Mapping → TableId → Rows → List ℕ
 table_text mapping table rows = csv_text (table_header mapping table ∷ raw_records rows)
+
+-- rows of a table, and those behind them where there are any
+abbrev pub rows_behind : Rows → Option Rows → Rows
+rows_behind rows None = rows
+rows_behind rows (Some more) = rows_then rows more

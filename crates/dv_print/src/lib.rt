@@ -1,5 +1,5 @@
-//! The texts of marts and tables, given their rows: the CSV of each, with its header, and of the windows; and the feeds of a
-//! hub and the hubs of a feed, by which texts have their columns.
+//! The texts of marts and tables, given their rows: the CSV of each, with its header, and of the windows; the feeds of a
+//! hub and the hubs of a feed, by which texts have their columns; and the rules of queries.
 #![tactic(auto)]
 
 mod bridge_texts;
@@ -13,6 +13,7 @@ mod names;
 mod path_texts;
 mod period_texts;
 mod pit_texts;
+mod query_rules;
 mod raw_records;
 mod recorded;
 mod table_texts;
@@ -24,9 +25,10 @@ pub use feed_texts::feed_header;
 pub use fields::Fields;
 pub use hub_feeds::{HubFeed, feed_hubs, feeds_of};
 pub use hub_texts::hub_header;
-pub use path_texts::path_text;
+pub use path_texts::path_header;
 pub use period_texts::period_text;
 pub use pit_texts::pit_text;
+pub use query_rules::QueryRule;
 pub use recorded::{RawRecorded, Recorded};
 pub use table_texts::{table_header, table_text};
 pub use windows_texts::windows_text;

@@ -1,37 +1,16 @@
-//! The texts of path marts.
+//! The headers of the texts of path marts.
 
 ghost use Rattle.std.specs.Prelude.{◌≡◌, ◌++◌, flat_map, map, IfOk, OnOk};
 ghost use Rattle.std.specs.List.{range_with_len};
 ghost use Rattle.dv_print.specs.Texts as spec;
 
 use crate::columns::{dotted, push_parts};
-use crate::csv_texts::rows_text;
 use crate::fields::Fields;
 use crate::hub_feeds::feed_hubs;
 use crate::names::name_of_feed;
-use crate::recorded::Recorded;
-use dv_catalog::{Catalog, HubDef, PathDef};
-use dv_records::PathRow;
-use dv_text::{Key, List, Memory, Text};
+use dv_catalog::{Catalog, HubDef};
+use dv_text::Memory;
 use std::alloc::Global;
-
-// Puts the parts of the keys of reference lists at the end.
-fn push_steps(fields: &mut Fields, steps: &[List<Key>]) -> Result<(), Memory>
-    ensures { OnOk result (fields.new ≡ fields.old ++ flat_map spec.all_parts steps.now) }
-{
-    for refs in steps {
-        fields.push_parts(refs.items())?;
-    }
-    Ok(())
-}
-
-impl Recorded for PathRow {
-    ghost record_of = { spec.path_record };
-
-    fn put(&self, fields: &mut Fields) -> Result<(), Memory> {
-        push_steps(fields, self.steps.items())
-    }
-}
 
 // Puts a column at the end for each part of a hub's keys, behind the name of a feed.
 fn push_hub(alloc: Global, header: &mut Fields, feed: &[u8], hub: &HubDef) -> Result<(), Memory>
@@ -82,7 +61,9 @@ fn push_feed(alloc: Global, catalog: &Catalog, header: &mut Fields, feed: u32) -
     push_hubs(alloc, catalog, header, name, feed_hubs(catalog, feed))
 }
 
-fn path_header(alloc: Global, catalog: &Catalog, feeds: &[u32]) -> Result<Fields, Memory>
+/// The header of the text of a path's mart: feed by feed a column for each part of the keys of its references. It has the
+/// names of the feed and of the hub, and the number of the part.
+pub fn path_header(alloc: Global, catalog: &Catalog, feeds: &[u32]) -> Result<Fields, Memory>
     ensures { IfOk result (λ header. header ≡ spec.path_header catalog.now feeds.now) }
 {
     let mut header = Fields::new(alloc);
@@ -90,21 +71,4 @@ fn path_header(alloc: Global, catalog: &Catalog, feeds: &[u32]) -> Result<Fields
         push_feed(alloc, catalog, &mut header, *feed)?;
     }
     Ok(header)
-}
-
-/// The text of a path's mart with these rows: a header, and for each row the parts of the keys of its references,
-/// feed by feed. A column has the names of its feed and its hub, and the number of the part.
-pub fn path_text(
-    alloc: Global,
-    catalog: &Catalog,
-    path: &PathDef,
-    rows: &[PathRow],
-) -> Result<Text, Memory>
-    ensures { IfOk result (λ text. text ≡ spec.path_text catalog.now path.now.feeds rows.now) }
-{
-    rows_text(
-        alloc,
-        path_header(alloc, catalog, path.feeds.items())?,
-        rows,
-    )
 }

@@ -1,11 +1,6 @@
 -- A keeper's store agrees with an office again after a window, or with what is left of it.
-use Rattle.dv_records.specs.declared.snapshots.Snap.{Snap}
-use Rattle.dv_window.proofs.Vocabulary.{Bool, List, None, Option, Some, [], ap, false, map, option_map, refl, subst, sym, true, ℕ, ◌++◌, ◌∙◌, ◌∷◌, ◌≡◌, Result, Ok, Err, Told}
-use Rattle.dv_window.proofs.Vocabulary.{Agrees, AgreesUnlessStale, Begun, HasKept, HasLeft, Held, IsMappedBy, KeeperError, MayBeLeft, StaleAfter, StaleThen, Store, TakesWindow, TookOrBroke, WindowHead, head_of, held_broken, held_with, load_answer, resume_answer, staged}
-use Rattle.dv_window.proofs.Vocabulary.{Became, HasRows, Hashes, IsPlan, RawVault, Window, WindowIn, tables_there, tables_whole}
-use Rattle.dv_window.proofs.Vocabulary.{Fits, IfSome}
-use Rattle.dv_vault.proofs.Parts.{fits_left, none_opened}
-use Rattle.dv_records.specs.declared.keepers.KeeperError.TheVariants.{Failed, Memory}
+use Rattle.dv_window.proofs.Vocabulary.{Agrees, AgreesUnlessStale, Became, Begun, Bool, Err, Failed, Fits, HasKept, HasLeft, HasRows, Hashes, Held, IfSome, IsMappedBy, IsPlan, KeeperError, List, MayBeLeft, Memory, None, Ok, Option, RawVault, Result, Snap, Some, StaleAfter, Store, TakesWindow}
+use Rattle.dv_window.proofs.Vocabulary.{Told, TookOrBroke, Window, WindowHead, WindowIn, [], ap, false, fits_left, head_of, held_broken, held_with, load_answer, map, none_opened, option_map, refl, staged, subst, sym, tables_there, tables_whole, true, ℕ, ◌++◌, ◌∙◌, ◌∷◌, ◌≡◌}
 
 agrees_taken : (held : Held) (begun : Begun) (before after : Option Store) → Told before (Agrees held) → TakesWindow begun.window (tables_whole held.vault.tables begun.parts.items) before after → Told after (Agrees (held_with begun held))
 agrees_taken held begun before after told takes now e =
@@ -66,18 +61,6 @@ module _ (held : Held) (fresh : held.stale ≡ false) (is_open : Bool) (begun : 
     where
       by : false ≡ true → ⊥
       by e = cc
-
-  pub stale_so : (result : Result ℕ KeeperError) → TookOrBroke is_open begun held held' before after result → StaleThen (resume_answer result) held.stale held'.stale
-  stale_so (Ok rows) (rows_are, is, took) = ap (λ (held : Held). held.stale) is ∙ fresh
-  stale_so (Err Failed) broke = ap (λ (held : Held). held.stale) broke.held_is
-  stale_so (Err Memory) broke = λ e. absurd (by (sym (ap (λ (held : Held). held.stale) broke.held_is) ∙ e))
-    where
-      by : false ≡ true → ⊥
-      by e = cc
-
-  pub mapping_then : (result : Result ℕ KeeperError) → TookOrBroke is_open begun held held' before after result → held'.vault.mapping ≡ held.vault.mapping
-  mapping_then (Ok rows) (rows_are, is, took) = ap (λ (held : Held). held.vault.mapping) is
-  mapping_then (Err error) broke = ap (λ (held : Held). held.vault.mapping) broke.held_is
 
 -- ---- no window is open
 

@@ -1,11 +1,9 @@
 -- What comes of a window in the state that an office stands for, told from what was decided of it.
-use Rattle.dv_window.proofs.Vocabulary.{Bool, List, None, Option, Some, [], ap, false, is_window, last_head, late_after, inl, inr, refl, subst, sym, true, ◌++◌, ◌∙◌, ◌∷◌, ◌≡◌, option_map_or, Decides, Decides-and, slice_eq-Decides, row_eq-Decides, row_eq, pointwise, rules, eqb-true, NRow}
-use Rattle.dv_window.proofs.Vocabulary.{Hashes, Mapping, Rule, Staged, Window, WindowIn, collision, AreApart, is_valid, RawVault, State, outcome, differs_from, has_same_extracts, staged_eq, open_other, window_of, added_behind, all_windows, and_parts, are_dates_valid, are_windows_valid, last_same, not_full, full_with, option_to_list, valid_with, apart_is_free, clash_collides}
-use Rattle.dv_window.proofs.Vocabulary.{Begun, Fits, Held, IsOpenBehind, StandsFor, Collides, IsAgain, IsOpenAgain, IsPlan, IsTooMuch, Stop, Stops, if◌then◌else◌, ◌==◌}
-use Rattle.dv_window.proofs.Growths.{CanAdd}
-use Rattle.dv_window.proofs.OutcomeSteps.{again_says, early_refused, new_collides, new_full, new_loads, open_says}
-use Rattle.dv_window.proofs.PlanFacts.{early_parts, not_late, read_whole}
-use Rattle.dv_window.proofs.SealedAgain.{read_again}
+use Rattle.dv_window.proofs.Vocabulary.{AreApart, Begun, Bool, Collides, Decides, Decides-and, Fits, Hashes, Held, IsAgain, IsOpenAgain, IsOpenBehind, IsPlan, IsTooMuch, List, Mapping, NRow, None, Option, RawVault, Rule, Some, Staged, StandsFor, State, Stop, Stops, Window, WindowIn, []}
+use Rattle.dv_window.proofs.Vocabulary.{added_behind, all_windows, and_parts, ap, apart_is_free, are_dates_valid, are_windows_valid, clash_collides, collision, differs_from, eqb-true, false, has_same_extracts, if◌then◌else◌, inl, inr, is_valid, is_window, last_head, last_same, late_after}
+use Rattle.dv_window.proofs.Vocabulary.{not_full, open_other, option_map_or, option_to_list, outcome, pointwise, refl, row_eq, row_eq-Decides, rules, slice_eq-Decides, staged_eq, subst, sym, true, valid_with, window_of, ◌++◌, ◌==◌, ◌∙◌, ◌∷◌, ◌≡◌}
+use Rattle.dv_vault.proofs.AddedWindows.{full_with}
+use Rattle.dv_window.proofs.{Growths.CanAdd, OutcomeSteps.again_says, OutcomeSteps.early_refused, OutcomeSteps.new_collides, OutcomeSteps.new_full, OutcomeSteps.new_loads, OutcomeSteps.open_says, PlanFacts.early_parts, PlanFacts.not_late, PlanFacts.read_whole, SealedAgain.read_again}
 use Rattle.dv_records.specs.declared.answers.Outcome.TheVariants as outcomes
 use Rattle.dv_window.specs.declared.stops.Stop.TheVariants as stop
 

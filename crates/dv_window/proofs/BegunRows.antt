@@ -1,9 +1,6 @@
 -- The rows that the open window has in a table, by the table's place in table order.
-use Rattle.dv_window.proofs.Vocabulary.{Bool, List, None, Option, Some, [], ap, false, option_map, refl, subst, sym, true, suc, ℕ, ◌∙◌, ◌∷◌, ◌≡◌, same_Some}
-use Rattle.dv_window.proofs.Vocabulary.{ArePartsOf, Begun, Bor, Fits, IfSome, Part, RawVault, Rows, TableId, TableRows, by_place, entries_with, has_table, is_of_kind, is_placed, is_some, opened_in, position, rows_behind, rows_in, rows_there, slice_get, table_eq}
-use Rattle.dv_vault.proofs.OtherTables.{with_has}
-use Rattle.dv_vault.proofs.VaultFacts.{absent_rows}
-use Rattle.dv_vault.proofs.Vocabulary.{same_table}
+use Rattle.dv_window.proofs.Vocabulary.{ArePartsOf, Begun, Bool, Bor, Fits, IfSome, List, None, Option, Part, RawVault, Rows, Some, TableId, TableRows, [], absent_rows, ap, by_place, entries_with, false, has_table, is_of_kind, is_placed, is_some, opened_in, option_map, position, refl}
+use Rattle.dv_window.proofs.Vocabulary.{rows_behind, rows_in, rows_there, same_Some, same_table, slice_get, subst, suc, sym, table_eq, true, with_has, ℕ, ◌∙◌, ◌∷◌, ◌≡◌}
 
 -- ---- a table at its place
 

@@ -1,8 +1,6 @@
 -- What an office and its keeper's store are left in where a window was taken, or broken off.
-use Rattle.dv_window.proofs.Vocabulary.{Bool, None, Option, Some, false, inl, inr, refl, subst, sym, ℕ, ◌≡◌, ◌⊎◌, Told, same_Some}
-use Rattle.dv_window.proofs.Vocabulary.{Hashes, Window, Stands, State, Store, opened, sealed_with, Begun, Held, IsLeftIn, StandsFor, held_broken, held_with, is_valid, BrokeAt, KeeperError, TakesWindow}
-use Rattle.dv_window.proofs.Vocabulary.{Became, BrokeOff, HasLeft, MayBeLeft, CompletesAs, Err, IsIn, Ok, Result, TookOrBroke, tables_whole, true, ◌∙◌}
-use Rattle.dv_records.specs.declared.keepers.KeeperError.TheVariants.{Failed, Memory}
+use Rattle.dv_window.proofs.Vocabulary.{Became, Begun, Bool, BrokeAt, BrokeOff, CompletesAs, Err, Failed, HasLeft, Hashes, Held, IsIn, IsLeftIn, KeeperError, MayBeLeft, Memory, None, Ok, Option, Result, Some, Stands, StandsFor, State, Store, TakesWindow, Told, TookOrBroke, Window, false}
+use Rattle.dv_window.proofs.Vocabulary.{held_broken, held_with, inl, inr, is_valid, opened, refl, same_Some, sealed_with, subst, sym, tables_whole, true, ℕ, ◌∙◌, ◌≡◌, ◌⊎◌}
 use Rattle.dv_window.proofs.Growths.{CanAdd, left_stands, open_stands, opened_stands_for, sealed_stands, sealed_stands_for}
 
 -- the states that a broken window may be left in

@@ -1,14 +1,9 @@
 -- An office and a store with a window, whole or in part: the states that they stand for then.
-use Rattle.dv_window.proofs.Vocabulary.{Bool, List, None, Option, Some, [], and_from, and_parts, ap, drop, map-id, map-map, take-append-drop, table_entry, length, map, map-append, subst, sym, take, true, ℕ, ◌++◌, ◌∙◌, ◌∷◌, ◌≡◌, ◌≤◌, append-nil}
-use Rattle.dv_window.proofs.Vocabulary.{Hashes, Mapping, Rows, TableRows, Window, WindowHead, HasSealed, is_valid, RawVault, are_windows_valid, head_of, last_load, late_after, snapshot, tables}
-use Rattle.dv_window.proofs.Vocabulary.{HasTables, IsMappedBy, Stands, State, Store, are_dates_valid, is_valid_state, opened, sealed_with, Begun, Held, IsBegunBehind, IsLeftOf, StandsFor, held_with, raw_with}
-use Rattle.dv_window.proofs.Vocabulary.{entries_with, left_behind, opened_in, sealed_after, tables_there, tables_whole, taken_first, taken_partly, whole_in, HasRows, IsOpen, KeepsOthers, TookWindow, has_all, same_tables}
-use Rattle.dv_records.specs.Backwards.{backwards, with_newest}
-use Rattle.dv_records.specs.States.{all_windows}
-use Rattle.dv_restore.specs.Restored.{heads_of_state}
+use Rattle.dv_window.proofs.Vocabulary.{Begun, Bool, HasRows, HasSealed, HasTables, Hashes, Held, IsBegunBehind, IsLeftOf, IsMappedBy, IsOpen, KeepsOthers, List, Mapping, None, Option, RawVault, Rows, Some, Stands, StandsFor, State, Store, TableRows, TablesStand, TookWindow, Window, WindowHead}
+use Rattle.dv_window.proofs.Vocabulary.{[], all_windows, and_from, and_parts, ap, append-nil, are_dates_valid, are_windows_valid, backwards, drop, entries_with, has_all, head_of, heads_of_state, held_with, is_valid, is_valid_state, last_load, late_after, left_behind, length, map, map-append}
+use Rattle.dv_window.proofs.Vocabulary.{map-id, map-map, opened, opened_in, partial, raw_with, same_tables, sealed_after, sealed_with, snapshot, subst, sym, table_entry, tables, tables_there, tables_whole, take, take-append-drop, taken_first, taken_partly, true, vault, whole_in, with_newest, ℕ}
+use Rattle.dv_window.proofs.Vocabulary.{◌++◌, ◌∙◌, ◌∷◌, ◌≡◌, ◌≤◌}
 use Rattle.dv_window.proofs.StoredDates.{dates_still_valid, stored_heads_stay, stored_stay}
-use Rattle.dv_records.specs.Standing.{TablesStand}
-use Rattle.dv_records.specs.Vault.{partial, vault}
 
 -- a window that is begun may be taken behind the sealed ones
 pub record CanAdd (hashes : Hashes) (sealed : List Window) (raw : RawVault) (window : Window) (begun : Begun) : Type 0 where

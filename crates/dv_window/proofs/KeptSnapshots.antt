@@ -1,22 +1,7 @@
 -- An office and its keeper's store with a snapshot that was kept, or broken off.
-use Rattle.dv_window.proofs.Vocabulary.{Agrees, AgreesUnlessStale, Err, Hashes, Held, IsIn, KeeperError, List, Mapping, None, Ok, Option, Some, Stands, StandsFor, State, Store, Told, and_from, ap, false, inl, inr, length, map, nat_le, not, refl, subst, sym, true, ℕ, ◌==◌, ◌∙◌, ◌≡◌, snapshot}
-use Rattle.std.specs.List.{insert, list_any, position, position_or_len}
-use Rattle.std.specs.Option.{unwrap_or}
-use Rattle.dv_catalog.proofs.PlaceSteps.{place_or_len}
-use Rattle.std.specs.Ordering.{nat_cmp}
-use Rattle.dv_text.proofs.Passing.{list_any-map}
-use Rattle.dv_text.specs.Sorting.{insert_by}
-use Rattle.dv_records.proofs.SnapshotOrder.{in_place}
-use Rattle.dv_records.proofs.StoredSnapshots.{IsFree, dates_are, insert-map, is_free, snapshot_stands_for, with_date_valid}
-use Rattle.dv_records.specs.Changes.{Changes, changed}
-use Rattle.dv_records.specs.declared.keepers.KeeperError.TheVariants.{Failed, Memory}
-use Rattle.dv_records.specs.declared.snapshots.Snap.{Snap}
-use Rattle.dv_records.specs.declared.snapshots.SnapHead.{SnapHead}
-use Rattle.dv_records.specs.Steps.{snapshot_refusal, with_date}
-use Rattle.dv_records.specs.Stores.{is_new_snapshot, snap_cmp, with_snapshot}
-use Rattle.dv_restore.specs.Restored.{heads_of_state}
-use Rattle.dv_window.specs.Snapshots.{IsSnapshotIn, KeepsTo, MayKeep, head_cmp}
-use Rattle.dv_window.specs.Stopping.{is_failed}
+use Rattle.dv_window.proofs.Vocabulary.{Agrees, AgreesUnlessStale, Changes, Err, Failed, Hashes, Held, IsFree, IsIn, IsSnapshotIn, KeeperError, KeepsTo, List, Mapping, MayKeep, Memory, None, Ok, Option, Snap, SnapHead, Some, Stands, StandsFor, State, Store, Told, and_from, ap, changed, dates_are}
+use Rattle.dv_window.proofs.Vocabulary.{false, head_cmp, heads_of_state, in_place, inl, inr, insert, insert-map, insert_by, is_failed, is_free, is_new_snapshot, length, list_any, list_any-map, map, nat_cmp, nat_le, not, place_or_len, position, position_or_len, refl, snap_cmp, snapshot}
+use Rattle.dv_window.proofs.Vocabulary.{snapshot_refusal, snapshot_stands_for, subst, sym, true, unwrap_or, with_date, with_date_valid, with_snapshot, ℕ, ◌==◌, ◌∙◌, ◌≡◌}
 
 -- the heads of snapshots with one more
 abbrev pub heads_with : Snap → List SnapHead → List SnapHead
@@ -174,7 +159,3 @@ module _ (hashes : Hashes) (state : State) (held : Held) (before : Option Store)
     where
       no : true ≡ false → ⊥
       no e = cc
-
--- for want of memory before the keeper was called
-pub memory_step : (hashes : Hashes) (state : State) (held : Held) (before : Option Store) → IsIn hashes state held before → (head : SnapHead) → KeepsTo held.vault.mapping hashes state head (Err Memory) held before
-memory_step hashes state held before is_in head = (state, refl, record { stands = is_in.stands; store_stands = is_in.store_stands })

@@ -1,10 +1,8 @@
 -- What comes of a window in a state, told from the heads of the sealed windows and the open window.
-use Rattle.dv_window.proofs.Vocabulary.{Bool, List, None, Option, Some, [], ap, false, length, map, refl, sym, true, ℕ, ◌++◌, ◌==◌, ◌∙◌, ◌∷◌, ◌≡◌, option_map, option_or, option_to_list, option_map_or, is_none, if◌then◌else◌, is_some, none_before_map, option_or-none, made_of}
-use Rattle.dv_window.proofs.Vocabulary.{table_name, Hashes, collision, vault_weight, RawVault, last_head, head_of, State, late_after, feed_twice, no_extracts, unknown_feed, accepted, collides, all_windows, differs, differs_from, full_at, if_new, late, open_other, outcome, refusal, too_long, vault_full}
-use Rattle.dv_window.proofs.Vocabulary.{window_at, first_of, window_of, window_rule, Rule, WindowIn, Window, last_same, IsAgain, IsNewWindow, IsOpenAgain, OpenOther, early_rule, head_at, late_by, window_read, Collision, Outcome}
-use Rattle.dv_window.proofs.Vocabulary.{subst}
+use Rattle.dv_window.proofs.Vocabulary.{Bool, Collision, Found, Hashes, IsAgain, IsNewWindow, IsOpenAgain, List, None, OpenOther, Option, Outcome, RawVault, Rule, Some, State, Window, WindowIn, [], accepted, all_windows, ap, collides, collision, differs, differs_from, early_rule, false}
+use Rattle.dv_window.proofs.Vocabulary.{feed_twice, first_of, full_at, head_at, head_of, if_new, if◌then◌else◌, is_none, is_some, last_head, last_same, late, late_after, late_by, length, made_of, map, no_extracts, none_before_map, open_other, option_map, option_map_or, option_or, option_or-none}
+use Rattle.dv_window.proofs.Vocabulary.{option_to_list, outcome, refl, refusal, subst, sym, table_name, too_long, true, unknown_feed, vault_full, vault_weight, window_at, window_of, window_read, window_rule, ℕ, ◌++◌, ◌==◌, ◌∙◌, ◌∷◌, ◌≡◌}
 use Rattle.dv_window.proofs.PlanFacts.{early_parts}
-use Rattle.dv_records.specs.Collisions.{Collision as Found}
 use Rattle.dv_records.specs.declared.answers.Outcome.TheVariants as outcomes
 
 -- the first of many rules is one of the early ones, or of the rest

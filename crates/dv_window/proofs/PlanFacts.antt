@@ -1,9 +1,7 @@
 -- What a vault's own facts say of a window that breaks no rule before the vault is looked at.
-use Rattle.dv_window.proofs.Vocabulary.{List, None, Option, Some, [], ap, length, sym, true, ℕ, ◌==◌, ◌∙◌, ◌∷◌, ◌≡◌, nat_lt, list_all, option_map, option_or, Mapping, found_member, passes_at, is_valid, or_none, is_window, IfSome, if◌then◌else◌, is_some, RawVault, are_heads_of, last_head}
-use Rattle.dv_window.proofs.Vocabulary.{Contains-append_right, Contains-cons_here, and_parts, arith, ascends, false, map, nat_tests, refl, ◌++◌}
-use Rattle.dv_restore.specs.Restored.{are_in_order}
-use Rattle.dv_restore.proofs.HeadsInOrder.{later_ascends}
-use Rattle.dv_window.proofs.Vocabulary.{late_after, feed_twice, no_extracts, open_other, unknown_feed, too_long, first_of, window_of, window_rule, Rule, Window, WindowIn, window_of-is_window, WindowHead, IsNewWindow, early_rule, given_rules, head_at, late_by}
+use Rattle.dv_window.proofs.Vocabulary.{Contains-append_right, Contains-cons_here, IfSome, IsNewWindow, List, Mapping, None, Option, RawVault, Rule, Some, Window, WindowHead, WindowIn, [], and_parts, ap, are_heads_of, are_in_order, arith, ascends, early_rule, false, feed_twice, first_of}
+use Rattle.dv_window.proofs.Vocabulary.{found_member, given_rules, head_at, if◌then◌else◌, is_some, is_valid, is_window, last_head, late_after, late_by, later_ascends, length, list_all, map, nat_lt, nat_tests, no_extracts, open_other, option_map, option_or, or_none, passes_at, refl, sym}
+use Rattle.dv_window.proofs.Vocabulary.{too_long, true, unknown_feed, window_of, window_of-is_window, window_rule, ℕ, ◌++◌, ◌==◌, ◌∙◌, ◌∷◌, ◌≡◌}
 
 -- ---- the early rules, one by one
 

@@ -1,10 +1,9 @@
 -- The damage of a stale office's store, and where it has none of the mapping.
-use Rattle.dv_window.proofs.Vocabulary.{None, Some, ap, inl, inr, same_Some, sym, ℕ, ◌∙◌, ◌≡◌, ◌⊎◌, BreaksRule, Damage, Hashes, IsDamageFor, IsNotRead, IsOther, IsOtherMapping, IsReadAs, Mapping, Stands, State, Store, read_mapping}
-use Rattle.dv_window.proofs.Vocabulary.{refl, CompletesTo, Held, IsLeftIn, Option, StoreFault, StepsTo, WindowIn, unrefreshed, unresumed, Err, Ok, Result}
+use Rattle.dv_window.proofs.Vocabulary.{BreaksRule, CompletesTo, Damage, Err, Hashes, Held, IsDamageFor, IsLeftIn, IsNotRead, IsOther, IsOtherMapping, IsReadAs, Mapping, None, Ok, Option, Result, Some, Stands, State, StepsTo, Store, StoreFault, WindowIn, ap, inl, inr, never_unread, read_mapping}
+use Rattle.dv_window.proofs.Vocabulary.{refl, same_Some, same_mapping, sym, unrefreshed, unresumed, ℕ, ◌∙◌, ◌≡◌, ◌⊎◌}
 use Rattle.dv_records.specs.declared.answers.LoadAnswer.TheVariants as answers
 use Rattle.dv_records.specs.declared.answers.ResumeAnswer.TheVariants as resumed
 use Rattle.dv_restore.specs.declared.faults.StoreFault.TheVariants as faults
-use Rattle.dv_restore.proofs.StandingStores.{never_unread, same_mapping}
 
 -- ---- the stored text is not another mapping
 

@@ -1,6 +1,6 @@
 -- A sealed window is read back from the tables as it was.
-use Rattle.dv_window.proofs.Vocabulary.{Contains, List, Some, [], ap, map, refl, sym, ℕ, ◌==◌, ◌∙◌, ◌∷◌, ◌≡◌, found_member, Hashes, any_content_read, HasSealed, is_valid, true, RawVault, head_of, Contains-cons_here, Contains-cons_there, window_at, NRow, Staged, Window, WindowHead, sealed_rows}
-use Rattle.dv_window.proofs.Vocabulary.{window_read}
+use Rattle.dv_window.proofs.Vocabulary.{Contains, Contains-cons_here, Contains-cons_there, HasSealed, Hashes, List, NRow, RawVault, Some, Staged, Window, WindowHead, [], any_content_read, ap, found_member, head_of, is_valid, map, refl, sealed_rows, sym, true, window_at, window_read, ℕ, ◌==◌, ◌∙◌}
+use Rattle.dv_window.proofs.Vocabulary.{◌∷◌, ◌≡◌}
 
 made_again : (f : ℕ → Staged) (extracts : List Staged) → ((staged : Staged) → Contains extracts staged → f staged.feed ≡ staged) → map f (map (λ staged. staged.feed) extracts) ≡ extracts
 made_again f [] is = refl

@@ -1,7 +1,5 @@
 -- What workers give, and what they are lent, may cross threads.
-use denote.RattleType.{RattleType}
-use denote.Param.Send.{IsSend, IsSync, sendable}
-use Rattle.std.proofs.Crossing.{crosses}
+use Rattle.dv_window.proofs.Vocabulary.{IsSend, IsSync, RattleType, crosses, sendable}
 use Rattle.dv_text.specs.contracts.texts.Text as Text
 use Rattle.dv_text.specs.contracts.lists.List as List
 use Rattle.dv_text.specs.contracts.rows.Key as Key

@@ -1,6 +1,5 @@
 -- The office of no windows stands for the beginning, and what is restored of a store for the store's state.
-use Rattle.dv_window.proofs.Vocabulary.{[], and_from, ap, map, refl, subst, sym, ◌∙◌, ◌≡◌, Hashes, IsOpenBehind, Mapping, State, beginning, no_rows, none_sealed, none_valid, tables, Held, IsOfState, StandsFor, None, Option, Some, IsReadAs, Store}
-use Rattle.dv_restore.specs.Damages.{IsMappedAs}
+use Rattle.dv_window.proofs.Vocabulary.{Hashes, Held, IsMappedAs, IsOfState, IsOpenBehind, IsReadAs, Mapping, None, Option, Some, StandsFor, State, Store, [], and_from, ap, beginning, map, no_rows, none_sealed, none_valid, refl, subst, sym, tables, ◌∙◌, ◌≡◌}
 
 module _ (mapping : Mapping) (held : Held) (mapping_is : held.vault.mapping ≡ mapping) (tables_are : held.vault.tables ≡ map (λ id. record { table = id; rows = no_rows id }) (tables mapping))
     (no_heads : held.vault.heads ≡ []) (none_open : held.begun ≡ None) (no_snapshots : held.snapshots ≡ []) where

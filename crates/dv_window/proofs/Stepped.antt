@@ -1,14 +1,8 @@
 -- The answer to a window, or to the completion of the open one, is a step of the machine.
-use Rattle.dv_window.proofs.Vocabulary.{List, Mapping, None, Option, Some, ap, false, inl, inr, option_map, refl, subst, sym, ℕ, ◌∙◌, ◌≡◌, ◌⊎◌, Result, Ok, Err, true}
-use Rattle.dv_window.proofs.Vocabulary.{Hashes, Window, WindowIn, is_valid, State, Store, opened, sealed_with, loaded, outcome, window_of, Begun, CompletesAs, CompletesTo, Held, IsOpenBehind, IsIn, IsLeftIn, IsOpenAgain, IsPlan}
-use Rattle.dv_window.proofs.Vocabulary.{StandsFor, StepsTo, Stop, Stops, TookOrBroke, answer_of, load_answer, resume_answer, staged, KeeperError, LoadBroke, same_Some}
+use Rattle.dv_window.proofs.Vocabulary.{Begun, CompletesAs, CompletesTo, Err, Failed, Hashes, Held, IsIn, IsLeftIn, IsOpenAgain, IsOpenBehind, IsPlan, KeeperError, List, LoadBroke, Mapping, Memory, None, NothingOpen, Ok, Option, Result, Some, StandsFor, State, StepsTo, Stop, Stops, Store}
+use Rattle.dv_window.proofs.Vocabulary.{TookOrBroke, Window, WindowIn, answer_of, ap, false, inl, inr, is_valid, load_answer, loaded, opened, option_map, outcome, refl, resume_answer, same_Some, sealed_with, staged, subst, sym, true, window_of, ℕ, ◌∙◌, ◌≡◌, ◌⊎◌}
+use Rattle.dv_window.proofs.{Agreed.none_staged, Answered.StopSays, Answered.begun_adds, Answered.can_add, Answered.completes, Answered.is_given, Answered.loads, Answered.stopped, BrokenOff.LeftState, BrokenOff.broken, BrokenOff.taken, Growths.CanAdd}
 use Rattle.dv_records.specs.declared.answers.Outcome.TheVariants as outcomes
-use Rattle.dv_records.specs.declared.answers.ResumeAnswer.TheVariants.{NothingOpen}
-use Rattle.dv_records.specs.declared.keepers.KeeperError.TheVariants.{Failed, Memory}
-use Rattle.dv_window.proofs.Agreed.{none_staged}
-use Rattle.dv_window.proofs.Answered.{StopSays, begun_adds, can_add, completes, is_given, loads, stopped}
-use Rattle.dv_window.proofs.BrokenOff.{LeftState, broken, taken}
-use Rattle.dv_window.proofs.Growths.{CanAdd}
 use Rattle.dv_window.specs.declared.stops.Stop.TheVariants as stop
 
 -- the open window of an office is that of the state

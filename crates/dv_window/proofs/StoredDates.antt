@@ -1,19 +1,7 @@
 -- The snapshots of a state stay what they are when a later window is sealed.
-use Rattle.dv_window.proofs.Vocabulary.{List, None, Option, Some, [], and_from, and_parts, ap, arith, eqb-true, length, map, nat_le, sym, true, ℕ, ◌++◌, ◌<◌, ◌∙◌, ◌∷◌, ◌≡◌}
-use Rattle.dv_window.proofs.Vocabulary.{Hashes, Mapping, Window, State, are_dates_valid, are_not_later, ascends, last_load, late_after, map-append, sealed_with, snapshot, snapshots_weight}
-use Rattle.std.proofs.lemmas.Bool.{le-leb, ltb-true}
-use Rattle.std.proofs.lemmas.Bool.Decides.{nat_tests}
-use Rattle.std.specs.List.{last_or, list_all}
-use Rattle.std.specs.Prelude.{Contains, suc}
-use Rattle.dv_store_rules.proofs.SoundSnapshots.{weighed}
-use Rattle.dv_store_rules.proofs.Vocabulary.{Contains-nil, all_pass, map-map, passes_at}
-use Rattle.dv_store_rules.specs.SnapshotHeads.{heads_weight}
-use Rattle.dv_records.proofs.LaterWindows.{snapshots_same}
-use Rattle.dv_records.specs.declared.snapshots.Snap.{Snap}
-use Rattle.dv_records.specs.Limits.{most_snapshot_weight, most_snapshots}
-use Rattle.dv_restore.proofs.HeadsHeld.{last_or_pushed}
-use Rattle.dv_restore.specs.Restored.{heads_of_state}
-use Rattle.dv_vault.proofs.Afterwards.{later_than_last}
+use Rattle.dv_window.proofs.Vocabulary.{Contains, Contains-nil, Hashes, List, Mapping, None, Option, Snap, Some, State, Window, [], all_pass, and_from, and_parts, ap, are_dates_valid, are_not_later, arith, ascends, eqb-true, heads_of_state, heads_weight, last_load, last_or, last_or_pushed}
+use Rattle.dv_window.proofs.Vocabulary.{late_after, later_than_last, le-leb, length, list_all, ltb-true, map, map-append, map-map, most_snapshot_weight, most_snapshots, nat_le, nat_tests, passes_at, sealed_with, snapshot, snapshots_same, snapshots_weight, suc, sym, true, weighed, ℕ, ◌++◌, ◌<◌}
+use Rattle.dv_window.proofs.Vocabulary.{◌∙◌, ◌∷◌, ◌≡◌}
 
 -- a date that is not later than the last sealed window is earlier than a window behind it
 earlier_date : (last : Option ℕ) (load : ℕ) (dates : List ℕ) → are_not_later last dates ≡ true → late_after last load ≡ None → (date : ℕ) → Contains dates date → date < load

@@ -1,5 +1,5 @@
 -- Feeds whose extracts were tried, the first one and those behind it.
-use Rattle.dv_window.proofs.Vocabulary.{AreResults, AreTried, ExtractIn, IsTried, List, Mapping, Option, Staged2, arith, length, subst, suc, ℕ, ◌+◌, ◌<◌, ◌∷◌, refl}
+use Rattle.dv_window.proofs.Vocabulary.{AreResults, AreTried, ExtractIn, IsTried, List, Mapping, Option, Staged2, arith, length, refl, subst, suc, ℕ, ◌+◌, ◌<◌, ◌∷◌}
 
 module _ (mapping : Mapping) (extracts : List ExtractIn) where
   pub all_tried : (all : List (Option Staged2)) → AreResults (IsTried mapping extracts) (length mapping.feeds) all → AreTried mapping extracts 0 all

@@ -1,84 +1,53 @@
 -- What the proofs of this crate, and of those above it, take from elsewhere.
-pub use Rattle.dv_text.proofs.Vocabulary.{Bool, Contains, List, None, Option, Some, [], and_from, ap, false, inl, inr, is_some, length, list_all, map, nat_le, option_map, option_or, option_to_list, refl, subst, sym, take, true, ℕ, ◌++◌, ◌==◌, ◌∙◌, ◌∷◌, ◌≡◌}
-pub use Rattle.dv_catalog.proofs.Vocabulary.{Mapping, first_of, found_member, is_none, is_valid, nat_lt, none_before_map, or_none, passes_at, table_name, tables}
-pub use Rattle.dv_stage.proofs.Vocabulary.{Contains-cons_here, Ok, made_of, option_map_or, option_or-none}
-pub use Rattle.dv_records.proofs.Vocabulary.{Contains-cons_there, Hashes, append-nil, are_windows_valid, ascends, collision, is_window, no_rows, rows_in, vault, vault_weight, ◌&&◌}
-pub use Rattle.dv_records.specs.ReadBack.{any_content_read}
-pub use Rattle.dv_mapfile.proofs.Vocabulary.{IfSome, if◌then◌else◌}
-pub use Rattle.dv_vault.proofs.Vocabulary.{AreApart, HasSealed, IsAddition, RawVault, TableRows, TakesWindow, Told, and_parts, are_heads_of, arith, full_at, hashes_of, head_of, last_head, last_load, late_after, loaded, map-append, ◌≤◌, ◌⊎◌}
-pub use Rattle.dv_window_rules.proofs.Vocabulary.{feed_twice, no_extracts, unknown_feed, window_of, window_rule}
-pub use Rattle.dv_catalog.specs.declared.rules.Rule.{Rule}
-pub use Rattle.dv_catalog.specs.declared.rules.Rule.TheVariants.{Collision, OpenOther}
-pub use Rattle.dv_catalog.specs.declared.windows.WindowIn.{WindowIn}
-pub use Rattle.dv_window_rules.proofs.ReadWindows.{window_of-is_window}
-pub use Rattle.dv_records.specs.Outcomes.{accepted, collides, differs, has_same_extracts, staged_eq, differs_from, if_new, late, open_other, outcome, refusal, too_long, vault_full, window_at}
-pub use Rattle.dv_records.specs.Snapshots.{snapshot}
-pub use Rattle.dv_records.specs.Standing.{HasTables, IsMappedBy, Stands}
-pub use Rattle.dv_records.specs.States.{State, all_windows, are_dates_valid, are_not_later, beginning, is_valid_state, snapshots_weight}
-pub use Rattle.dv_records.specs.Steps.{LoadBroke, ResumeBroke, opened, sealed_with}
-pub use Rattle.dv_records.specs.declared.answers.Damage.{Damage}
-pub use Rattle.dv_records.specs.declared.answers.Outcome.{Outcome}
-pub use Rattle.dv_records.specs.declared.keepers.KeeperError.{KeeperError}
-pub use Rattle.dv_records.specs.declared.stores.Store.{Store}
-pub use Rattle.dv_text.specs.declared.rows.NRow.{NRow}
-pub use Rattle.dv_text.specs.declared.rows.Staged.{Staged}
-pub use Rattle.dv_text.specs.declared.rows.Window.{Window}
-pub use Rattle.dv_text.specs.declared.rows.WindowHead.{WindowHead}
-pub use Rattle.dv_vault.proofs.AddedWindows.{added_behind, full_with, last_same, left_behind, not_full, sealed_after, taken_partly, valid_with}
-pub use Rattle.dv_vault.proofs.EmptyTables.{empty_rows}
-pub use Rattle.dv_records.proofs.NoWindows.{none_valid}
-pub use Rattle.dv_vault.proofs.NoWindows.{none_sealed}
-pub use Rattle.dv_restore.specs.Completions.{IsOpenBehind}
-pub use Rattle.dv_catalog.specs.MappingFiles.{read_mapping}
-pub use Rattle.dv_restore.specs.Damages.{BreaksRule, IsFirstDamage, IsInForm, IsNotRead, IsReadAs}
-pub use Rattle.std.specs.Prelude.{not}
-pub use Rattle.dv_restore.specs.Restored.{HasKept, IsOfState}
-pub use Rattle.dv_vault.specs.declared.begun.Begun.{Begun}
-pub use Rattle.dv_vault.specs.declared.begun.Part.{Part}
-pub use Rattle.dv_vault.proofs.OtherTables.{has_all, same_tables}
-pub use Rattle.dv_vault.specs.Keeping.{Became, BreaksWindow, BrokeOff, HasLeft, HasRows, IsBegunIn, IsLeftOf, IsOpen, KeepsOthers, MayBeLeft, TookWindow}
-pub use Rattle.dv_vault.specs.Vaults.{entries_with}
+pub use Rattle.dv_bridge.proofs.Vocabulary.{HasZeroKeys, agrees, as_many, choices, contents, drop, is_path_too_large, is_too_large, most_references, position-cons, valid_path, whole_refs}
+pub use Rattle.dv_catalog.proofs.Vocabulary.{Decides-and}
+pub use Rattle.dv_contents.proofs.Vocabulary.{absent_rows}
+pub use Rattle.dv_pit.proofs.Vocabulary.{history_member, keys_up_to, pit_row}
+pub use Rattle.dv_records.proofs.Vocabulary.{Stands, State, TablesStand, all_windows, any_content_read, are_dates_valid, are_not_later, are_snap_tables_apart, bridge, bridge_cmp, bridge_row, by_place, content, each_hash, full_with, future, hub_feeds, insert, insert_by, is_new_snapshot, is_none}
+pub use Rattle.dv_records.proofs.Vocabulary.{is_placed, is_some, is_valid_state, le-leb, made_of, min, most_snapshot_weight, most_snapshots, newest_rows, none_before_map, or_none, path_rows_by, pit, pit_cmp, place_or_len, pointwise, row_eq, row_eq-Decides, rows_of_snap, slice_eq-Decides}
+pub use Rattle.dv_records.proofs.Vocabulary.{snap_cmp, snap_head, snap_id_eq, snap_tables, snapshot, snapshot_refusal, snapshot_rows, snapshots_full, snapshots_weight, sum_by-append, taken, up_to, with_date, with_snapshot, ◌^◌}
+pub use Rattle.dv_restore.proofs.Vocabulary.{BreaksRule, IsInForm, IsNotRead, IsOfState, IsOpenBehind, IsReadAs, are_in_order, heads_of_state, read_mapping, rows_there, table_name}
+pub use Rattle.dv_stage.proofs.Vocabulary.{Ok, empty_key, field_long, not_utf8, ragged, two_rows, unplaced}
+pub use Rattle.dv_store_rules.proofs.Vocabulary.{heads_weight, page, unwrap_or, whole}
+pub use Rattle.dv_vault.proofs.Vocabulary.{AreApart, ArePartsOf, AreResults, Became, Bool, Bor, BrokeOff, Changes, Contains-append_right, Contains-cons_cases, Contains-cons_here, Contains-cons_there, Contains-nil, Err, Fits, HasLeft, HasRows, HasSealed, HasTables, Hashes, IfOk-weaker, IfSome}
+pub use Rattle.dv_vault.proofs.Vocabulary.{IsAddition, IsBegunBehind, IsLeftOf, IsOpen, IsSync, IsVaultOf, KeepsOthers, List, Mapping, MayBeLeft, None, Option, RawVault, Result, Some, TakesWindow, Told, TookWindow, [], all_pass, all_refs, and_from, and_parts, ap, append-nil, append_assoc}
+pub use Rattle.dv_vault.proofs.Vocabulary.{are_heads_of, are_windows_valid, arith, ascends, backwards, changed, collision, cond, crosses, entries_with, enumerate_from, eq-eqb, eqb-true, err_from_is_err_and, false, feed_hubs, filtered_members, flat_map, flat_map_member, found_member, full_at}
+pub use Rattle.dv_vault.proofs.Vocabulary.{has_table, hashes_of, head_of, hubs_by, if◌then◌else◌, inl, inr, is_fed_by, is_missing, is_of_kind, is_valid, is_window, last_head, last_load, last_or, late_after, length, length-append, length-map, link_hubs, list_all, list_any, list_any-map, loaded}
+pub use Rattle.dv_vault.proofs.Vocabulary.{ltb-true, map, map-append, map-id, map-map, map-range_with_len_more, map_member, member_before_sort, nat_cmp, nat_le, nat_lt, nat_tests, no_rows, none_from, none_valid, not, opened_in, option_map, option_map_or, option_or, option_or-none, option_to_list}
+pub use Rattle.dv_vault.proofs.Vocabulary.{parent_hubs, partial, passes_at, position, position_or_len, range_with_len, raw_with, refl, row_count, rows_in, rows_then, rows_valid, rows_weight, rules, same_Some, same_table, sendable, slice_get, subst, suc, sum_by, sum_by-cons, sym, table_entry}
+pub use Rattle.dv_vault.proofs.Vocabulary.{table_eq, tables, tables_there, tables_whole, take, take-append-drop, taken_first, true, valid_link, valid_parts, vault, vault_weight, whole_in, with_newest, zero, ℕ, ◌&&◌, ◌*◌, ◌++◌, ◌+◌, ◌-◌, ◌<◌, ◌==◌, ◌∙◌, ◌∷◌, ◌≡◌, ◌≤◌, ◌⊎◌}
+pub use Rattle.dv_window_rules.proofs.Vocabulary.{PlacedExtract, Taken, extract_at, extract_records, first_of, header_names, header_rule, no_extracts, read_at, read_by, reads, record_rule, records_read, records_rule, room_after, row_of, rule_or_rows, taken_count, two_drivers, unknown_feed}
+pub use Rattle.dv_window_rules.proofs.Vocabulary.{window_of, window_rule}
+pub use Rattle.dv_catalog.specs.declared.{entries.FeedDef.FeedDef, entries.LinkDef.LinkDef, entries.Parent.Parent, entries.Parent.TheVariants.Hub, entries.Parent.TheVariants.Link, entries.PathDef.PathDef, rules.Rule.Rule, rules.Rule.TheVariants.Collision, rules.Rule.TheVariants.OpenOther}
+pub use Rattle.dv_catalog.specs.declared.{rules.Rule.TheVariants.TooManyRows, tables.TableId.TableId, windows.ExtractIn.ExtractIn, windows.WindowIn.WindowIn}
 pub use Rattle.dv_contents.proofs.SealedContents.{sealed_rows}
-pub use Rattle.dv_vault.proofs.VaultCollisions.{apart_is_free, clash_collides}
-pub use Rattle.dv_window.specs.Offices.{Agrees, AgreesUnlessStale, CompletesTo, Held, IsDamageFor, IsIn, IsLeftIn, IsOther, IsOtherMapping, LeavesOffice, LeavesStill, LeavesStore, StaleAfter, StaleThen, StandsFor, StepsTo, rows_behind, staged}
-pub use Rattle.dv_window.specs.Plans.{Collides, IsAgain, IsNewWindow, IsOpenAgain, IsPlan, IsPlanned, IsTooMuch, Stops, early_rule, given_rules, head_at, held_broken, held_with, late_by, window_read}
-pub use Rattle.dv_window.specs.Stopping.{answer_of, load_answer, resume_answer, unrefreshed, unresumed}
-pub use Rattle.dv_window.specs.Takings.{BrokeAt, CompletesAs, TookOrBroke}
-pub use Rattle.dv_window.specs.declared.stops.Stop.{Stop}
-pub use Rattle.std.specs.Prelude.{Decides, Err, Result}
-pub use Rattle.dv_text.proofs.Vocabulary.{same_Some}
-pub use Rattle.dv_text.proofs.Deciding.{row_eq-Decides}
-pub use Rattle.dv_text.proofs.Vocabulary.{Decides-and, slice_eq-Decides, drop}
-pub use Rattle.dv_catalog.specs.declared.tables.TableId.{TableId}
-pub use Rattle.dv_records.specs.declared.stores.Rows.{Rows}
-pub use Rattle.dv_records.specs.Vault.{table_entry}
-pub use Rattle.dv_vault.specs.Additions.{ArePartsOf, Fits, IsBegunBehind, IsPartOf, opened_in, raw_with, tables_there, tables_whole, taken_first, whole_in}
-pub use Rattle.dv_text.proofs.Vocabulary.{rules}
-pub use Rattle.std.proofs.lemmas.Bool.{eqb-true}
-pub use Rattle.std.specs.Cmp.Lexicographic.{pointwise}
-pub use Rattle.dv_text.specs.Keys.{row_eq}
-pub use Rattle.dv_vault.proofs.Vocabulary.{map-map}
-pub use Rattle.std.proofs.lemmas.List.{map-id, take-append-drop}
+pub use Rattle.dv_print.specs.TableTexts.{rows_behind}
+pub use Rattle.dv_records.proofs.{LaterWindows.snapshots_same, NewestRows.content_extract, SnapshotOrder.in_place, StoredSnapshots.IsFree, StoredSnapshots.dates_are, StoredSnapshots.insert-map, StoredSnapshots.is_free, StoredSnapshots.snapshot_stands_for, StoredSnapshots.tables_apart}
+pub use Rattle.dv_records.proofs.{StoredSnapshots.with_date_valid, ValidWindows.no_history}
+pub use Rattle.dv_records.specs.{Collisions.Collision as Found, Outcomes.accepted, Outcomes.collides, Outcomes.differs, Outcomes.differs_from, Outcomes.feed_twice, Outcomes.has_same_extracts, Outcomes.if_new, Outcomes.late, Outcomes.open_other, Outcomes.outcome, Outcomes.refusal}
+pub use Rattle.dv_records.specs.{Outcomes.staged_eq, Outcomes.too_long, Outcomes.vault_full, Outcomes.window_at, Standing.IsMappedBy, States.beginning, Steps.LoadBroke, Steps.opened, Steps.sealed_with, Steps.too_large, Stores.no_snap_rows}
+pub use Rattle.dv_records.specs.declared.{answers.Damage.Damage, answers.Outcome.Outcome, answers.ResumeAnswer.TheVariants.NothingOpen, answers.SnapAnswer.SnapAnswer, answers.SnapAnswer.TheVariants.Repeated, answers.SnapAnswer.TheVariants.TooLarge, keepers.KeeperError.KeeperError}
+pub use Rattle.dv_records.specs.declared.{keepers.KeeperError.TheVariants.Failed, keepers.KeeperError.TheVariants.Memory, mart_rows.PathRow.PathRow, snapshots.BridgeRow.BridgeRow, snapshots.PitRow.PitRow, snapshots.Snap.Snap, snapshots.SnapHead.SnapHead, snapshots.SnapId.SnapId}
+pub use Rattle.dv_records.specs.declared.{snapshots.SnapId.TheVariants.Bridge, snapshots.SnapId.TheVariants.Pit, snapshots.SnapTable.SnapTable, stores.Rows.Rows, stores.Rows.TheVariants.Bridges, stores.Rows.TheVariants.Pits, stores.Store.Store, stores.TableRows.TableRows}
+pub use Rattle.dv_restore.proofs.{HeadsHeld.last_or_pushed, HeadsInOrder.later_ascends, HeadsInOrder.one_later, StandingStores.never_unread, StandingStores.same_mapping}
+pub use Rattle.dv_restore.specs.{Damages.IsMappedAs, Restored.HasKept}
 pub use Rattle.dv_restore.specs.declared.faults.StoreFault.{StoreFault}
-pub use Rattle.dv_vault.proofs.Vocabulary.{AllZip, AllZip-long, Bor, Follow, has_table, is_of_kind, length-map, none_pass, rows_then, slice_get, suc, table_eq, zero, ◌<◌}
-pub use Rattle.dv_records.proofs.Vocabulary.{by_place, is_placed, position}
-pub use Rattle.dv_restore.specs.Completions.{rows_there}
-pub use Rattle.std.proofs.Common.{length-take}
-pub use Rattle.dv_text.proofs.Vocabulary.{Contains-append_right, nat_tests, ◌+◌}
-pub use Rattle.dv_text.proofs.Options.{none_from}
-pub use Rattle.dv_catalog.specs.Readings.{read_by, reads, records_read, rule_or_rows, taken_count, two_drivers}
-pub use Rattle.dv_catalog.specs.Readings.Read.{Taken}
-pub use Rattle.dv_catalog.specs.Records.{record_rule, records_rule, row_of, ragged, not_utf8, field_long, empty_key, two_rows}
-pub use Rattle.dv_catalog.specs.Headers.{header_names, header_rule}
-pub use Rattle.dv_catalog.specs.declared.rules.Rule.TheVariants.{TooManyRows}
-pub use Rattle.dv_catalog.specs.Extracts.{extract_records}
-pub use Rattle.dv_catalog.specs.declared.entries.FeedDef.{FeedDef}
-pub use Rattle.dv_catalog.specs.Windows.{extract_at, room_after, PlacedExtract}
-pub use Rattle.dv_catalog.specs.declared.windows.ExtractIn.{ExtractIn}
-pub use Rattle.dv_window_rules.specs.Staging.{read_at}
-pub use Rattle.dv_window_rules.proofs.FeedSteps.{fault_told, feed_absent, feed_read, rows_taken, rows_from, rule_from}
-pub use Rattle.dv_window.specs.Stagings.{AreTried, IsTried}
 pub use Rattle.dv_stage.specs.declared.stages.Staged2.{Staged2}
-pub use Rattle.dv_crew.specs.Results.{AreResults}
-pub use Rattle.dv_text.proofs.Vocabulary.{◌*◌, ◌-◌, ◌^◌}
-pub use Rattle.std.proofs.lemmas.Result.{err_from_is_err_and}
+pub use Rattle.dv_store_rules.proofs.{RowPages.page_count, RowPages.page_exact, RowPages.then_page, RowPages.whole_page, SoundSnapshots.weighed}
+pub use Rattle.dv_text.specs.declared.{rows.Key.Key, rows.NRow.NRow, rows.Staged.Staged, rows.Window.Window, rows.WindowHead.WindowHead}
+pub use Rattle.dv_vault.proofs.{AddedWindows.added_behind, AddedWindows.last_same, AddedWindows.left_behind, AddedWindows.not_full, AddedWindows.sealed_after, AddedWindows.taken_partly, AddedWindows.valid_with, Afterwards.later_than_last, NoWindows.none_sealed, OtherTables.has_all}
+pub use Rattle.dv_vault.proofs.{OtherTables.same_tables, OtherTables.with_has, Parts.fits_left, Parts.none_opened, VaultCollisions.apart_is_free, VaultCollisions.clash_collides, VaultFacts.vault_has}
+pub use Rattle.dv_vault.specs.declared.{begun.Begun.Begun, begun.Part.Part}
+pub use Rattle.dv_window.specs.{Offices.Agrees, Offices.AgreesUnlessStale, Offices.CompletesTo, Offices.Held, Offices.IsDamageFor, Offices.IsIn, Offices.IsLeftIn, Offices.IsOther, Offices.IsOtherMapping, Offices.LeavesOffice, Offices.StaleAfter, Offices.StandsFor, Offices.StepsTo, Offices.staged}
+pub use Rattle.dv_window.specs.{Pages.AreAlike, Pages.AreFirst, Pages.TellsPage, Pages.TellsRows, Pages.joined, Plans.Collides, Plans.IsAgain, Plans.IsNewWindow, Plans.IsOpenAgain, Plans.IsPlan, Plans.IsPlanned, Plans.IsTooMuch, Plans.Stops, Plans.early_rule, Plans.given_rules, Plans.head_at}
+pub use Rattle.dv_window.specs.{Plans.held_broken, Plans.held_with, Plans.late_by, Plans.window_read, RowForms.bridge_form, RowForms.bridges_in, RowForms.hub_count, RowForms.is_sound_bridge, RowForms.is_sound_pit, RowForms.pit_form, RowForms.pits_in, SnapshotPlans.IsOf}
+pub use Rattle.dv_window.specs.{SnapshotRefusals.early_refusal, SnapshotRefusals.late_refusal, SnapshotRefusals.taken_among, SnapshotTables.bridge_ids, SnapshotTables.bridge_table, SnapshotTables.first_large, SnapshotTables.ids_of, SnapshotTables.pit_ids, SnapshotTables.pit_table}
+pub use Rattle.dv_window.specs.{Snapshots.IsSnapshotIn, Snapshots.KeepsTo, Snapshots.MayKeep, Snapshots.head_cmp, Stagings.AreTried, Stagings.IsTried, Stopping.answer_of, Stopping.is_failed, Stopping.load_answer, Stopping.resume_answer, Stopping.unrefreshed, Stopping.unresumed}
+pub use Rattle.dv_window.specs.{StoredRows.asked_of, StoredRows.first_flaw, StoredRows.first_place, StoredRows.flaw_in, StoredRows.flaw_place, StoredRows.has_width, StoredRows.own_rows, StoredRows.read_rows, StoredRows.stored_rows, StoredTexts.HasTable, StoredTexts.IsDamageOf}
+pub use Rattle.dv_window.specs.{StoredTexts.IsRowOf, StoredTexts.IsStoredDamage, StoredTexts.IsStoredText, StoredTexts.IsTextOf, StoredTexts.flawed_row, StoredTexts.rows_text, StoredTexts.table_text, Takings.BrokeAt, Takings.CompletesAs, Takings.TookOrBroke}
+pub use Rattle.dv_window.specs.declared.{asked.Asked.Asked, pages.Read.Read, pages.Read.TheVariants.Rows as AllRows, pages.Read.TheVariants.Flawed, stops.Stop.Stop, stored.StoredFault.StoredFault}
+pub use Rattle.dv_window_rules.proofs.{FeedSteps.fault_told, FeedSteps.feed_absent, FeedSteps.feed_read, FeedSteps.rows_from, FeedSteps.rows_taken, FeedSteps.rule_from, ReadWindows.window_of-is_window}
+pub use Rattle.std.proofs.lemmas.List.Sums.{length-filter}
+pub use Rattle.std.specs.{List.Contains, Prelude.Decides, Prelude.IsErrOf, Prelude.count_by}
+pub use denote.Param.Send.{IsSend}
+pub use denote.RattleType.{RattleType}

@@ -1,6 +1,15 @@
 pub mod Offices
+pub mod Pages
 pub mod Plans
+pub mod RowForms
+pub mod SnapSteps
+pub mod SnapshotPlans
+pub mod SnapshotRefusals
+pub mod SnapshotTables
 pub mod Snapshots
 pub mod Stagings
 pub mod Stopping
+pub mod StoredFaults
+pub mod StoredRows
+pub mod StoredTexts
 pub mod Takings

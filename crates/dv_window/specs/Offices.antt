@@ -12,12 +12,10 @@ use Rattle.dv_records.specs.declared.answers.LoadAnswer.TheVariants as load
 use Rattle.dv_records.specs.declared.answers.ResumeAnswer.{ResumeAnswer}
 use Rattle.dv_records.specs.declared.answers.ResumeAnswer.TheVariants as resume
 use Rattle.dv_records.specs.declared.snapshots.SnapHead.{SnapHead}
-use Rattle.dv_records.specs.declared.stores.Rows.{Rows}
 use Rattle.dv_records.specs.declared.stores.Store.{Store}
 use Rattle.dv_records.specs.Standing.{IsMappedBy, Stands}
 use Rattle.dv_records.specs.States.{State, is_valid_state}
 use Rattle.dv_records.specs.Steps.{LoadStep, ResumeStep}
-use Rattle.dv_records.specs.Stores.{rows_then}
 use Rattle.dv_vault.specs.declared.begun.Begun.{Begun}
 use Rattle.dv_restore.specs.Completions.{IsOpenBehind}
 use Rattle.dv_restore.specs.Damages.{IsFirstDamage, IsReadAs, mapping_damage}
@@ -40,11 +38,6 @@ staged held = option_map (λ b. b.window) held.begun
 -- an office that is the same, but stale
 abbrev pub made_stale : Held → Held
 made_stale held = record held { stale = true }
-
--- rows of a table, and behind them those that the open window has in it, where there are some
-abbrev pub rows_behind : Rows → Option Rows → Rows
-rows_behind rows None = rows
-rows_behind rows (Some more) = rows_then rows more
 
 -- an office stands for a state, which is valid
 pub record StandsFor (hashes : Hashes) (state : State) (held : Held) : Type 0 where

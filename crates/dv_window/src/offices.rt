@@ -8,6 +8,7 @@ ghost use Rattle.dv_restore.specs.Completions.{rows_there};
 ghost use Rattle.dv_restore.specs.Restored.{are_in_order};
 ghost use Rattle.dv_catalog.specs.Mappings.{is_valid};
 ghost use Rattle.dv_vault.specs.Vaults.{IsVaultOf, are_heads_of, last_head};
+ghost use Rattle.dv_print.specs.TableTexts.{rows_behind};
 ghost use Rattle.dv_window.specs.Offices as spec;
 
 use dv_catalog::{Catalog, TableId};
@@ -118,7 +119,7 @@ impl Office {
         ensures kind { IfSome result (λ rows. is_of_kind table rows.now ≡ true) }
         ensures held { is_of_kind table (rows_in table self.now.vault.tables) ≡ true }
         ensures among { IsVaultOf self.now.vault.mapping self.now.vault.tables }
-        ensures rows { rows_in table (rows_there self.now.vault self.now.begun) ≡ spec.rows_behind (rows_in table self.now.vault.tables) (option_map (λ rows. rows.now) result) }
+        ensures rows { rows_in table (rows_there self.now.vault self.now.begun) ≡ rows_behind (rows_in table self.now.vault.tables) (option_map (λ rows. rows.now) result) }
     {
         let place = self.vault.place_of(table)?;
         let begun = self.begun.as_ref()?;

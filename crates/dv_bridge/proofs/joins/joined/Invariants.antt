@@ -1,5 +1,4 @@
-use Rattle.dv_bridge.proofs.Vocabulary.{◌≡◌, ◌≤◌, length, most_path_rows, take}
-use Rattle.dv_bridge.specs.Joins.{joined_rows}
+use Rattle.dv_bridge.proofs.Vocabulary.{joined_rows, length, most_path_rows, take, ◌≡◌, ◌≤◌}
 use Rattle.dv_bridge.proofs.joins.joined.Given as goal
 
 -- the rows so far are joined, and they are not too many

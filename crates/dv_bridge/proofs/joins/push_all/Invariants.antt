@@ -1,4 +1,4 @@
-use Rattle.dv_bridge.proofs.Vocabulary.{◌≡◌, ◌++◌, take}
+use Rattle.dv_bridge.proofs.Vocabulary.{take, ◌++◌, ◌≡◌}
 use Rattle.dv_bridge.proofs.joins.push_all.Given as goal
 
 -- the first keys stand behind those that there were

@@ -1,5 +1,4 @@
-use Rattle.dv_bridge.proofs.Vocabulary.{◌∙◌, ◌++◌, ap, filter_map, filter_map_more, option_to_list, sym, take}
-use Rattle.dv_bridge.specs.Joins.{keyed_at}
+use Rattle.dv_bridge.proofs.Vocabulary.{ap, filter_map, filter_map_more, keyed_at, option_to_list, sym, take, ◌++◌, ◌∙◌}
 use Rattle.dv_bridge.proofs.keyed_links.keyed_links.Goals as goal
 
 pub loop-link-preserved : goal.loop-link-preserved

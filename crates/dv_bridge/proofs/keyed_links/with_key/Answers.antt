@@ -1,8 +1,5 @@
-use Rattle.dv_bridge.proofs.Vocabulary.{◌≡◌, Equal, KeyedLink, bytes_eq, bytes_eq-Decides, digest_cmp, is_lt, nat_list_cmp_total, not, rules, sym, text_cmp-IsAntisymmetric, tied_itself, true}
-use Rattle.dv_sat.proofs.Together.{alike_tied, before_first, behind_last, parted_rest, run_is, unlike_greater, unlike_less}
-use Rattle.std.proofs.lemmas.List.{take_rest}
-use Rattle.std.proofs.lemmas.List.Sorted.{IsPartitionPoint-from_clause}
-use Rattle.std.specs.Ordering.{is_gt}
+use Rattle.dv_bridge.proofs.Vocabulary.{Equal, IsPartitionPoint-from_clause, KeyedLink, alike_tied, before_first, behind_last, bytes_eq, bytes_eq-Decides, digest_cmp, is_gt, is_lt, nat_list_cmp_total, not, parted_rest, rules, run_is, sym, take_rest, text_cmp-IsAntisymmetric, tied_itself, true}
+use Rattle.dv_bridge.proofs.Vocabulary.{unlike_greater, unlike_less, ◌≡◌}
 use Rattle.dv_bridge.proofs.keyed_links.with_key.Goals as goal
 
 pub returns : goal.returns

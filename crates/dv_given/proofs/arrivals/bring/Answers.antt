@@ -1,6 +1,5 @@
-use Rattle.dv_given.proofs.Vocabulary.{Some, ap, sym, ◌∙◌, err_from_is_err_and}
-use Rattle.dv_given.proofs.ExtractSteps.{files_read, files_unread, manifest_unread}
-use Rattle.dv_given.proofs.ReadSteps.{behind_all, reads_none}
+use Rattle.dv_given.proofs.Vocabulary.{Some, ap, err_from_is_err_and, sym, ◌∙◌}
+use Rattle.dv_given.proofs.{ExtractSteps.files_read, ExtractSteps.files_unread, ExtractSteps.manifest_unread, ReadSteps.behind_all, ReadSteps.reads_none}
 use Rattle.dv_given.proofs.arrivals.bring.Goals as goal
 
 pub returns-in_err-bytes : goal.returns-in_err-bytes

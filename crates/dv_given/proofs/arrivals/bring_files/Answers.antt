@@ -1,6 +1,5 @@
 use Rattle.dv_given.proofs.Vocabulary.{err_from_is_err_and}
-use Rattle.dv_given.proofs.ExtractSteps.{extracts_read, extracts_unread}
-use Rattle.dv_given.proofs.ReadSteps.{reads_made, reads_none}
+use Rattle.dv_given.proofs.{ExtractSteps.extracts_read, ExtractSteps.extracts_unread, ReadSteps.reads_made, ReadSteps.reads_none}
 use Rattle.dv_given.proofs.arrivals.bring_files.Goals as goal
 
 pub returns-in_err-extracts : goal.returns-in_err-extracts

@@ -1,6 +1,5 @@
 use Rattle.dv_given.proofs.Vocabulary.{err_from_is_err_and, reading_of}
-use Rattle.dv_given.proofs.ExtractSteps.{next_reads}
-use Rattle.dv_given.proofs.ReadSteps.{reads_none}
+use Rattle.dv_given.proofs.{ExtractSteps.next_reads, ReadSteps.reads_none}
 use Rattle.dv_given.proofs.arrivals.read_extract.Goals as goal
 
 pub returns-in_err-bytes : goal.returns-in_err-bytes

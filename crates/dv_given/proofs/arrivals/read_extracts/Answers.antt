@@ -1,6 +1,5 @@
-use Rattle.dv_given.proofs.Vocabulary.{ap, arith, sym, ◌∙◌, err_from_is_err_and, drop_all, read_from, reading_of}
-use Rattle.dv_given.proofs.ExtractSteps.{extract_unread, reads_on}
-use Rattle.dv_given.proofs.ReadSteps.{behind_none}
+use Rattle.dv_given.proofs.Vocabulary.{ap, arith, drop_all, err_from_is_err_and, read_from, reading_of, sym, ◌∙◌}
+use Rattle.dv_given.proofs.{ExtractSteps.extract_unread, ExtractSteps.reads_on, ReadSteps.behind_none}
 use Rattle.dv_given.proofs.arrivals.read_extracts.Goals as goal
 
 pub returns-in_err-read_extract : goal.returns-in_err-read_extract

@@ -1,4 +1,4 @@
-use Rattle.dv_given.proofs.Vocabulary.{◌≡◌, ◌≤◌, drop, Told, no_reading, read_from, reading_of}
+use Rattle.dv_given.proofs.Vocabulary.{Told, drop, no_reading, read_from, reading_of, ◌≡◌, ◌≤◌}
 use Rattle.dv_given.proofs.arrivals.read_extracts.Given as goal
 
 -- the reading of the extracts behind goes on from there

@@ -1,6 +1,5 @@
 use Rattle.dv_given.proofs.Vocabulary.{ap, err_from_is_err_and, given, most_mapping_bytes, sym, ◌+◌, ◌∙◌}
-use Rattle.dv_given.proofs.MappingSteps.{mapping_cause, mapping_read, mapping_refused, mapping_unread}
-use Rattle.dv_given.proofs.ReadSteps.{reads_by_cause, reads_ended, reads_made}
+use Rattle.dv_given.proofs.{MappingSteps.mapping_cause, MappingSteps.mapping_read, MappingSteps.mapping_refused, MappingSteps.mapping_unread, ReadSteps.reads_by_cause, ReadSteps.reads_ended, ReadSteps.reads_made}
 use Rattle.dv_given.proofs.mapping_files.read_mapping_file.Goals as goal
 
 pub returns-in_err-bytes-clause-file : goal.returns-in_err-bytes-clause-file

@@ -1,4 +1,4 @@
-use Rattle.dv_given.proofs.Vocabulary.{◌∙◌, sym}
+use Rattle.dv_given.proofs.Vocabulary.{sym, ◌∙◌}
 use Rattle.dv_given.proofs.NumberSteps.{number_text, some_value, unread}
 use Rattle.dv_given.proofs.numbers.number_in.Goals as goal
 

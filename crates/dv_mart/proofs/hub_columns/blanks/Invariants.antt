@@ -1,4 +1,4 @@
-use Rattle.std.specs.Prelude.{◌≡◌, ◌≤◌, [], replicate}
+use Rattle.dv_mart.proofs.Vocabulary.{[], replicate, ◌≡◌, ◌≤◌}
 use Rattle.dv_mart.proofs.hub_columns.blanks.Given as goal
 
 abbrev pub invariant-loop : goal.invariant-loop

@@ -1,5 +1,4 @@
-use Rattle.dv_mart.proofs.Vocabulary.{◌≡◌, map, take}
-use Rattle.dv_mart.specs.HubContents.{cell_at}
+use Rattle.dv_mart.proofs.Vocabulary.{cell_at, map, take, ◌≡◌}
 use Rattle.dv_mart.proofs.hub_columns.cells_at.Given as goal
 
 abbrev pub invariant-loop-column : goal.invariant-loop-column

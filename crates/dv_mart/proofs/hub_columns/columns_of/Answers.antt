@@ -1,9 +1,4 @@
-use Rattle.dv_mart.proofs.Vocabulary.{◌∙◌, List, ap, map}
-use Rattle.std.specs.Prelude.{find}
-use Rattle.dv_text.specs.declared.rows.NRow.{NRow}
-use Rattle.dv_mart.specs.declared.hub_columns.HubColumn.{HubColumn}
-use Rattle.dv_mart.specs.HubContents.{column_told}
-use Rattle.dv_print.specs.HubFeeds.{told}
+use Rattle.dv_mart.proofs.Vocabulary.{HubColumn, List, NRow, ap, column_told, find, map, told, ◌∙◌}
 use Rattle.dv_mart.proofs.HubColumns.{columns_grow, has}
 use Rattle.dv_mart.proofs.hub_columns.columns_of.Goals as goal
 

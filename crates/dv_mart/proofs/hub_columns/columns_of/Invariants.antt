@@ -1,5 +1,4 @@
-use Rattle.dv_mart.proofs.Vocabulary.{◌≡◌, map, take}
-use Rattle.dv_mart.specs.HubContents.{column_of, column_told}
+use Rattle.dv_mart.proofs.Vocabulary.{column_of, column_told, map, take, ◌≡◌}
 use Rattle.dv_mart.proofs.hub_columns.columns_of.Given as goal
 
 -- the columns of the first contents

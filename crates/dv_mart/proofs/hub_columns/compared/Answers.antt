@@ -1,6 +1,4 @@
-use Rattle.std.proofs.Common.{◌∙◌, ◌∷◌, [], sym}
-use Rattle.std.specs.Cmp.Derive.Mapped.{lex_map}
-use Rattle.dv_text.specs.Orders.{key_cmp, refs_cmp}
+use Rattle.dv_mart.proofs.Vocabulary.{[], key_cmp, lex_map, refs_cmp, sym, ◌∙◌, ◌∷◌}
 use Rattle.dv_mart.proofs.hub_columns.compared.Goals as goal
 
 pub returns : goal.returns

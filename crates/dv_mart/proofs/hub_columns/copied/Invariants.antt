@@ -1,4 +1,4 @@
-use Rattle.dv_mart.proofs.Vocabulary.{◌≡◌, take}
+use Rattle.dv_mart.proofs.Vocabulary.{take, ◌≡◌}
 use Rattle.dv_mart.proofs.hub_columns.copied.Given as goal
 
 abbrev pub invariant-loop-text : goal.invariant-loop-text

@@ -1,4 +1,4 @@
-use Rattle.dv_mart.proofs.Vocabulary.{◌∙◌, sym}
+use Rattle.dv_mart.proofs.Vocabulary.{sym, ◌∙◌}
 use Rattle.dv_mart.proofs.HubColumns.{from_none, from_place, rest_whole}
 use Rattle.dv_mart.proofs.hub_columns.not_before.Goals as goal
 

@@ -1,6 +1,4 @@
-use Rattle.dv_mart.proofs.Vocabulary.{◌≡◌, ◌++◌, ◌∷◌, flat_map, map, take}
-use Rattle.dv_print.specs.Texts.{yes_or_no}
-use Rattle.dv_mart.specs.HubContents.{cell_at}
+use Rattle.dv_mart.proofs.Vocabulary.{cell_at, flat_map, map, take, yes_or_no, ◌++◌, ◌∷◌, ◌≡◌}
 use Rattle.dv_mart.proofs.hub_columns.push_cells.Given as goal
 
 abbrev pub invariant-loop-column : goal.invariant-loop-column

@@ -1,7 +1,4 @@
-use Rattle.dv_mart.proofs.Vocabulary.{◌++◌, ◌∷◌, [], ◌∙◌, List, Option, append-nil, ap, map, option_map, sym}
-use Rattle.std.proofs.lemmas.List.{drop_all, map-append}
-use Rattle.std.specs.Borrow.{Bor}
-use Rattle.dv_text.specs.declared.rows.NRow.{NRow}
+use Rattle.dv_mart.proofs.Vocabulary.{Bor, List, NRow, Option, [], ap, append-nil, drop_all, map, map-append, option_map, sym, ◌++◌, ◌∙◌, ◌∷◌}
 use Rattle.dv_mart.proofs.HubColumns.{walked, walked_finds, walked_more}
 use Rattle.dv_mart.proofs.hub_columns.rows_beside.Goals as goal
 

@@ -1,5 +1,4 @@
-use Rattle.dv_mart.proofs.Vocabulary.{◌≡◌, ◌++◌, map, option_map}
-use Rattle.std.specs.Prelude.{drop}
+use Rattle.dv_mart.proofs.Vocabulary.{drop, map, option_map, ◌++◌, ◌≡◌}
 use Rattle.dv_mart.proofs.HubColumns.{walked}
 use Rattle.dv_mart.proofs.hub_columns.rows_beside.Given as goal
 

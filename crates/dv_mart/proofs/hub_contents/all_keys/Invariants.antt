@@ -1,5 +1,4 @@
-use Rattle.dv_mart.proofs.Vocabulary.{◌≡◌, take}
-use Rattle.dv_mart.specs.HubContents.{keys_of}
+use Rattle.dv_mart.proofs.Vocabulary.{keys_of, take, ◌≡◌}
 use Rattle.dv_mart.proofs.hub_contents.all_keys.Given as goal
 
 abbrev pub invariant-loop-one : goal.invariant-loop-one

@@ -1,9 +1,4 @@
-use Rattle.std.proofs.Common.{refl, sym, subst}
-use Rattle.std.specs.List.Sorted.{IsStrictlySortedBy}
-use Rattle.std.proofs.lemmas.List.Elements.{All-push}
-use Rattle.dv_text.specs.Orders.{row_cmp}
-use Rattle.dv_records.specs.ReadBack.{any_content_read}
-use Rattle.dv_mart.specs.declared.hub_contents.FeedRows.{FeedRows}
+use Rattle.dv_mart.proofs.Vocabulary.{All-push, FeedRows, IsStrictlySortedBy, any_content_read, refl, row_cmp, subst, sym}
 use Rattle.dv_mart.proofs.HubContents.{contents_grow, read_ascends}
 use Rattle.dv_mart.proofs.hub_contents.contents_of.Goals as goal
 

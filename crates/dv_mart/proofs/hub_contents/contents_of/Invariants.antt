@@ -1,7 +1,4 @@
-use Rattle.dv_mart.proofs.Vocabulary.{◌≡◌, map, take}
-use Rattle.dv_records.specs.ReadBack.{any_content_read}
-use Rattle.dv_mart.specs.HubContents.{AreInOrder, told_rows}
-use Rattle.dv_print.specs.HubFeeds.{told}
+use Rattle.dv_mart.proofs.Vocabulary.{AreInOrder, any_content_read, map, take, told, told_rows, ◌≡◌}
 use Rattle.dv_mart.proofs.hub_contents.contents_of.Given as goal
 
 -- the contents of the first feeds

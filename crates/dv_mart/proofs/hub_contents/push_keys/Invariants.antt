@@ -1,4 +1,4 @@
-use Rattle.dv_mart.proofs.Vocabulary.{◌≡◌, ◌++◌, flat_map, take}
+use Rattle.dv_mart.proofs.Vocabulary.{flat_map, take, ◌++◌, ◌≡◌}
 use Rattle.dv_mart.proofs.hub_contents.push_keys.Given as goal
 
 abbrev pub invariant-loop-row : goal.invariant-loop-row

@@ -1,4 +1,4 @@
-use Rattle.dv_mart.proofs.Vocabulary.{◌≡◌, ◌++◌, map, take}
+use Rattle.dv_mart.proofs.Vocabulary.{map, take, ◌++◌, ◌≡◌}
 use Rattle.dv_mart.proofs.hub_contents.push_lent.Given as goal
 
 abbrev pub invariant-loop-key : goal.invariant-loop-key

@@ -1,13 +1,4 @@
-use Rattle.std.proofs.Common.{◌∙◌, List, ap, map, subst, sym, ℕ}
-use Rattle.std.proofs.lemmas.Result.{IfOk-weaker}
-use Rattle.dv_catalog.specs.Entries.{Mapping}
-use Rattle.dv_text.specs.declared.rows.NRow.{NRow}
-use Rattle.dv_records.specs.declared.stores.TableRows.{TableRows}
-use Rattle.dv_records.specs.Marts.{hub_feeds, hub_rows}
-use Rattle.dv_records.specs.ReadBack.{any_content_read}
-use Rattle.dv_records.proofs.MultiReadBack.{vault_tells}
-use Rattle.dv_mart.specs.HubContents.{AreInOrder, told_rows}
-use Rattle.dv_print.specs.HubFeeds.{told}
+use Rattle.dv_mart.proofs.Vocabulary.{AreInOrder, IfOk-weaker, List, Mapping, NRow, TableRows, any_content_read, ap, hub_feeds, hub_rows, map, subst, sym, told, told_rows, vault_tells, ℕ, ◌∙◌}
 use Rattle.dv_mart.proofs.HubContents.{mart_is}
 use Rattle.dv_mart.proofs.hub_marts.hub_mart.Goals as goal
 

@@ -1,16 +1,5 @@
-use Rattle.std.proofs.Common.{◌∷◌, ◌∙◌, List, ap, map, subst, sym, ℕ}
-use Rattle.std.proofs.lemmas.Result.{IfOk-weaker}
-use Rattle.dv_catalog.specs.Entries.{Mapping}
-use Rattle.dv_text.specs.declared.rows.NRow.{NRow}
-use Rattle.dv_records.specs.declared.stores.TableRows.{TableRows}
-use Rattle.dv_records.specs.Marts.{hub_feeds, hub_rows}
-use Rattle.dv_records.specs.ReadBack.{any_content_read}
-use Rattle.dv_records.proofs.MultiReadBack.{vault_tells}
-use Rattle.dv_mart.specs.HubContents.{AreInOrder, told_rows}
-use Rattle.dv_print.specs.HubFeeds.{told}
+use Rattle.dv_mart.proofs.Vocabulary.{AreInOrder, HubMartRow, IfOk-weaker, List, Mapping, NRow, TableRows, any_content_read, ap, csv_text, hub_feeds, hub_header, hub_record, hub_rows, map, subst, sym, told, told_rows, vault_tells, ℕ, ◌∙◌, ◌∷◌}
 use Rattle.dv_mart.proofs.HubContents.{mart_is}
-use Rattle.dv_records.specs.declared.mart_rows.HubMartRow.{HubMartRow}
-use Rattle.dv_print.specs.Texts.{csv_text, hub_header, hub_record}
 use Rattle.dv_mart.proofs.hub_marts.hub_mart_text.Goals as goal
 
 pub text_of-requires : goal.text_of-requires

@@ -1,10 +1,4 @@
-use Rattle.std.proofs.Common.{◌∙◌, List, ap, map, subst, sym}
-use Rattle.std.specs.List.Sorted.{IsStrictlySortedBy}
-use Rattle.dv_text.specs.declared.rows.Key.{Key}
-use Rattle.dv_text.specs.Orders.{key_cmp}
-use Rattle.dv_text.proofs.SortedLists.{ascending-sorted_by}
-use Rattle.dv_mart.specs.HubContents.{column_of, column_told, keys_of, row_of}
-use Rattle.dv_mart.specs.KeyOrder.{key_total}
+use Rattle.dv_mart.proofs.Vocabulary.{IsStrictlySortedBy, Key, List, ap, ascending-sorted_by, column_of, column_told, key_cmp, key_total, keys_of, map, row_of, subst, sym, ◌∙◌}
 use Rattle.dv_mart.proofs.HubRows.{lent_are}
 use Rattle.dv_mart.proofs.hub_marts.rows_of.Goals as goal
 

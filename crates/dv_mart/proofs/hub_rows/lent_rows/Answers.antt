@@ -1,8 +1,4 @@
-use Rattle.dv_mart.proofs.Vocabulary.{◌++◌, ◌∷◌, [], ◌∙◌, append-nil, ap, map, sym}
-use Rattle.std.proofs.lemmas.List.{drop_all}
-use Rattle.std.specs.List.{enumerate_from}
-use Rattle.dv_text.specs.declared.rows.Key.{Key}
-use Rattle.dv_mart.specs.HubContents.{lent_row}
+use Rattle.dv_mart.proofs.Vocabulary.{Key, [], ap, append-nil, drop_all, enumerate_from, lent_row, map, sym, ◌++◌, ◌∙◌, ◌∷◌}
 use Rattle.dv_mart.proofs.HubRows.{numbered_more}
 use Rattle.dv_mart.proofs.hub_rows.lent_rows.Goals as goal
 

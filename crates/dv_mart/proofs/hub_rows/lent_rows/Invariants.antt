@@ -1,7 +1,4 @@
-use Rattle.dv_mart.proofs.Vocabulary.{◌≡◌, ◌++◌, map}
-use Rattle.std.specs.List.{enumerate_from}
-use Rattle.std.specs.Prelude.{drop}
-use Rattle.dv_mart.specs.HubContents.{lent_row, lent_rows}
+use Rattle.dv_mart.proofs.Vocabulary.{drop, enumerate_from, lent_row, lent_rows, map, ◌++◌, ◌≡◌}
 use Rattle.dv_mart.proofs.hub_rows.lent_rows.Given as goal
 
 -- the rows so far and those of the keys behind them are all

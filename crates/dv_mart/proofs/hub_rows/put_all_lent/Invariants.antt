@@ -1,5 +1,4 @@
-use Rattle.dv_mart.proofs.Vocabulary.{Appends, IsBetweenRecords, csv_text, map, take, text_written}
-use Rattle.dv_print.specs.Texts.{hub_record}
+use Rattle.dv_mart.proofs.Vocabulary.{Appends, IsBetweenRecords, csv_text, hub_record, map, take, text_written}
 use Rattle.dv_mart.proofs.hub_rows.put_all_lent.Given as goal
 
 abbrev pub invariant-loop-row : goal.invariant-loop-row

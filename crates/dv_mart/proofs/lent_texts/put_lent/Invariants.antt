@@ -1,5 +1,4 @@
-use Rattle.dv_mart.proofs.Vocabulary.{Appends, IsBetweenRecords, csv_text, map, take, text_written}
-use Rattle.dv_print.specs.Texts.{feed_record}
+use Rattle.dv_mart.proofs.Vocabulary.{Appends, IsBetweenRecords, csv_text, feed_record, map, take, text_written}
 use Rattle.dv_mart.proofs.lent_texts.put_lent.Given as goal
 
 abbrev pub invariant-loop-row : goal.invariant-loop-row

@@ -1,6 +1,5 @@
 use Rattle.dv_mart.proofs.Vocabulary.{Ok, ap, subst, sym}
-use Rattle.dv_mart.proofs.OfferedTables.{CanBe, can_be}
-use Rattle.dv_mart.proofs.VaultMarts.{kind_of}
+use Rattle.dv_mart.proofs.{OfferedTables.CanBe, OfferedTables.can_be, VaultMarts.kind_of}
 use Rattle.dv_mart.proofs.marts.mart_text.Goals as goal
 
 pub feed_mart_text-requires : goal.feed_mart_text-requires

@@ -1,5 +1,4 @@
-use Rattle.dv_mart.proofs.Vocabulary.{◌<◌, length, subst, sym, Mapping}
-use Rattle.dv_contents.proofs.PeriodFacts.{effect_within}
+use Rattle.dv_mart.proofs.Vocabulary.{Mapping, effect_within, length, subst, sym, ◌<◌}
 use Rattle.dv_mart.proofs.marts.period_mart_text.Goals as goal
 
 pub feed-requires : goal.feed-requires

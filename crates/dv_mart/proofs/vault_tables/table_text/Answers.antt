@@ -1,4 +1,5 @@
-use Rattle.dv_mart.proofs.Vocabulary.{◌∙◌, subst, Contains, tables, IfOk-weaker, Effect, Hub, Link, Multi, Sat, Status, Effects, Hubs, Links, Multis, Sats, Statuses, effect_rows, hub_rows, link_rows, multi_rows, sat_rows, status_rows}
+use Rattle.dv_mart.proofs.Vocabulary.{Contains, Effect, Effects, Hub, Hubs, IfOk-weaker, Link, Links, Multi, Multis, Sat, Sats, Status, Statuses, effect_rows, link_rows, multi_rows, sat_rows, status_rows, subst, tables, ◌∙◌}
+use Rattle.dv_records.specs.ReadBack.{hub_rows}
 use Rattle.dv_mart.proofs.VaultMarts.{effects_back, hub_within, hubs_back, link_within, links_back, multis_back, said_for, sats_back, status_within, statuses_back, table_here}
 use Rattle.dv_mart.proofs.vault_tables.table_text.Goals as goal
 

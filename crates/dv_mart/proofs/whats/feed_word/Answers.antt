@@ -1,4 +1,4 @@
-use Rattle.dv_mart.proofs.Vocabulary.{◌∙◌, ap, codes, behind, feed_place, Feed}
+use Rattle.dv_mart.proofs.Vocabulary.{Feed, ap, behind, codes, feed_place, ◌∙◌}
 use Rattle.dv_mart.proofs.NoNames.{none_named}
 use Rattle.dv_mart.proofs.whats.feed_word.Goals as goal
 

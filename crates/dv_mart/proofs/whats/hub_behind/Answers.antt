@@ -1,5 +1,4 @@
-use Rattle.dv_mart.proofs.Vocabulary.{◌∙◌, ap, behind, option_and_then}
-use Rattle.dv_mart.specs.Whats.{hub_place}
+use Rattle.dv_mart.proofs.Vocabulary.{ap, behind, hub_place, option_and_then, ◌∙◌}
 use Rattle.dv_mart.proofs.whats.hub_behind.Goals as goal
 
 pub returns : goal.returns

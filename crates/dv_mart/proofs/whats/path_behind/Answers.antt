@@ -1,5 +1,4 @@
-use Rattle.dv_mart.proofs.Vocabulary.{◌∙◌, ap, behind, option_and_then}
-use Rattle.dv_mart.specs.Whats.{path_place}
+use Rattle.dv_mart.proofs.Vocabulary.{ap, behind, option_and_then, path_place, ◌∙◌}
 use Rattle.dv_mart.proofs.whats.path_behind.Goals as goal
 
 pub returns : goal.returns

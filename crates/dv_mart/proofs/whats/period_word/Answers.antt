@@ -1,4 +1,4 @@
-use Rattle.dv_mart.proofs.Vocabulary.{◌∙◌, ap, codes, behind, driver_feed_place, Period}
+use Rattle.dv_mart.proofs.Vocabulary.{Period, ap, behind, codes, driver_feed_place, ◌∙◌}
 use Rattle.dv_mart.proofs.NoNames.{none_named}
 use Rattle.dv_mart.proofs.whats.period_word.Goals as goal
 

@@ -1,8 +1,5 @@
-use Rattle.dv_mart.proofs.Vocabulary.{◌≡◌, true, [], Some, ◌∙◌, ap, subst, sym, IfOk-weaker, Mapping, is_table_of, option_map_or, raw_records, rows_in, text_written}
-use Rattle.dv_print.specs.TableTexts.{table_header}
-use Rattle.dv_mart.proofs.TableRecords.{records_behind}
-use Rattle.dv_mart.proofs.VaultMarts.{of_mapping}
-use Rattle.dv_print.proofs.WrittenTexts.{text_of_parts}
+use Rattle.dv_mart.proofs.Vocabulary.{IfOk-weaker, Mapping, Some, [], ap, is_table_of, option_map_or, raw_records, rows_in, subst, sym, table_header, text_of_parts, text_written, true, ◌∙◌, ◌≡◌}
+use Rattle.dv_mart.proofs.{TableRecords.records_behind, VaultMarts.of_mapping}
 use Rattle.dv_mart.proofs.whole_tables.whole_table_text.Goals as goal
 
 pub table_header-requires : goal.table_header-requires

@@ -1,5 +1,4 @@
-use Rattle.std.specs.Prelude.{◌≡◌, map, take}
-use Rattle.dv_pit.specs.PitRows.{bare_cell, with_cell}
+use Rattle.dv_pit.proofs.Vocabulary.{bare_cell, map, take, with_cell, ◌≡◌}
 use Rattle.dv_pit.proofs.cells.with_bare.Given as goal
 
 -- the rows so far have their cells

@@ -1,5 +1,4 @@
-use Rattle.std.specs.Prelude.{◌≡◌, map, take}
-use Rattle.dv_pit.specs.PitRows.{multi_cell, with_cell}
+use Rattle.dv_pit.proofs.Vocabulary.{map, multi_cell, take, with_cell, ◌≡◌}
 use Rattle.dv_pit.proofs.cells.with_multi.Given as goal
 
 -- the rows so far have their cells

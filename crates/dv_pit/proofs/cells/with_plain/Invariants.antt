@@ -1,5 +1,4 @@
-use Rattle.std.specs.Prelude.{◌≡◌, map, take}
-use Rattle.dv_pit.specs.PitRows.{plain_cell, with_cell}
+use Rattle.dv_pit.proofs.Vocabulary.{map, plain_cell, take, with_cell, ◌≡◌}
 use Rattle.dv_pit.proofs.cells.with_plain.Given as goal
 
 -- the rows so far have their cells

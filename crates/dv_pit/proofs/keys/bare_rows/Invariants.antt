@@ -1,5 +1,4 @@
-use Rattle.std.specs.Prelude.{◌≡◌, map, take}
-use Rattle.dv_pit.specs.PitRows.{bare_row}
+use Rattle.dv_pit.proofs.Vocabulary.{bare_row, map, take, ◌≡◌}
 use Rattle.dv_pit.proofs.keys.bare_rows.Given as goal
 
 -- a row for each key so far

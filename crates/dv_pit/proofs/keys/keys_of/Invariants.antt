@@ -1,5 +1,4 @@
-use Rattle.std.specs.Prelude.{◌≡◌, filter, map, nat_le, take}
-use Rattle.dv_records.specs.declared.raw_rows.HubRow.{HubRow}
+use Rattle.dv_pit.proofs.Vocabulary.{HubRow, filter, map, nat_le, take, ◌≡◌}
 use Rattle.dv_pit.proofs.keys.keys_of.Given as goal
 
 -- the hash keys of the rows so far

@@ -1,5 +1,4 @@
-use Rattle.dv_print.proofs.Vocabulary.{◌≡◌, ◌++◌, flat_map, take}
-use Rattle.dv_print.specs.Texts.{bridge_hub_columns}
+use Rattle.dv_print.proofs.Vocabulary.{bridge_hub_columns, flat_map, take, ◌++◌, ◌≡◌}
 use Rattle.dv_print.proofs.bridge_texts.push_feeds.Given as goal
 
 abbrev pub invariant-loop-feed : goal.invariant-loop-feed

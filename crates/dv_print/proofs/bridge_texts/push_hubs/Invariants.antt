@@ -1,5 +1,4 @@
-use Rattle.dv_print.proofs.Vocabulary.{◌≡◌, ◌++◌, hub_name, map, slice_get, take}
-use Rattle.dv_print.specs.Texts.{dotted}
+use Rattle.dv_print.proofs.Vocabulary.{dotted, hub_name, map, slice_get, take, ◌++◌, ◌≡◌}
 use Rattle.dv_print.proofs.bridge_texts.push_hubs.Given as goal
 
 abbrev pub invariant-loop-hub : goal.invariant-loop-hub

@@ -1,4 +1,4 @@
-use Rattle.dv_print.proofs.Vocabulary.{◌≡◌, ◌++◌, feed_name, map, slice_get, take}
+use Rattle.dv_print.proofs.Vocabulary.{feed_name, map, slice_get, take, ◌++◌, ◌≡◌}
 use Rattle.dv_print.proofs.bridge_texts.push_names.Given as goal
 
 abbrev pub invariant-loop-feed : goal.invariant-loop-feed

@@ -1,5 +1,4 @@
-use Rattle.dv_print.proofs.Vocabulary.{Appends, IsBetweenRecords, csv_text, map, take, text_written}
-use Rattle.dv_print.specs.Texts.{bridge_record}
+use Rattle.dv_print.proofs.Vocabulary.{Appends, IsBetweenRecords, bridge_record, csv_text, map, take, text_written}
 use Rattle.dv_print.proofs.bridge_texts.put_dated.Given as goal
 
 abbrev pub invariant-loop-row : goal.invariant-loop-row

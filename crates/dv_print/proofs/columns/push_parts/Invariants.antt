@@ -1,5 +1,4 @@
-use Rattle.dv_print.proofs.Vocabulary.{◌≡◌, ◌++◌, map, range_with_len}
-use Rattle.dv_print.specs.Texts.{numbered}
+use Rattle.dv_print.proofs.Vocabulary.{map, numbered, range_with_len, ◌++◌, ◌≡◌}
 use Rattle.dv_print.proofs.columns.push_parts.Given as goal
 
 abbrev pub invariant-loop-n : goal.invariant-loop-n

@@ -1,7 +1,6 @@
-use Rattle.std.proofs.Common.{◌∙◌, refl, sym}
-use Rattle.dv_print.proofs.HubFeeds.{fed_pushed, next_other}
+use Rattle.dv_print.proofs.Vocabulary.{refl, sym, ◌∙◌}
+use Rattle.dv_print.proofs.{HubFeeds.fed_pushed, HubFeeds.next_other, hub_feeds.feeds_of.Goals.then-is_of_hub+in_ok-push, hub_feeds.feeds_of.Goals.else-is_of_hub}
 use Rattle.dv_print.proofs.hub_feeds.feeds_of.Goals as goal
-use Rattle.dv_print.proofs.hub_feeds.feeds_of.Goals.{then-is_of_hub+in_ok-push, else-is_of_hub}
 
 pub loop-place-preserved : goal.loop-place-preserved
 loop-place-preserved c =

@@ -1,6 +1,4 @@
-use Rattle.std.specs.Prelude.{◌≡◌, Some, All, map, slice_get}
-use Rattle.dv_print.specs.HubFeeds.{told}
-use Rattle.dv_print.specs.declared.hub_feeds.HubFeed.{HubFeed}
+use Rattle.dv_print.proofs.Vocabulary.{All, HubFeed, Some, map, slice_get, told, ◌≡◌}
 use Rattle.dv_print.proofs.HubFeeds.{feeds_among}
 use Rattle.dv_print.proofs.hub_feeds.feeds_of.Given as goal
 

@@ -1,5 +1,4 @@
-use Rattle.dv_print.proofs.Vocabulary.{◌≡◌, ◌++◌, map, take}
-use Rattle.dv_print.specs.Texts.{dotted}
+use Rattle.dv_print.proofs.Vocabulary.{dotted, map, take, ◌++◌, ◌≡◌}
 use Rattle.dv_print.proofs.hub_texts.push_attrs.Given as goal
 
 abbrev pub invariant-loop-attr : goal.invariant-loop-attr

@@ -1,6 +1,4 @@
-use Rattle.dv_print.proofs.Vocabulary.{◌≡◌, ◌++◌, map, take, flat_map}
-use Rattle.dv_print.specs.HubFeeds.{told}
-use Rattle.dv_print.specs.Texts.{cell_columns}
+use Rattle.dv_print.proofs.Vocabulary.{cell_columns, flat_map, map, take, told, ◌++◌, ◌≡◌}
 use Rattle.dv_print.proofs.hub_texts.push_feeds.Given as goal
 
 abbrev pub invariant-loop-feed : goal.invariant-loop-feed

@@ -1,5 +1,4 @@
-use Rattle.dv_print.proofs.Vocabulary.{◌≡◌, flat_map, take}
-use Rattle.dv_print.specs.Texts.{step_columns}
+use Rattle.dv_print.proofs.Vocabulary.{flat_map, step_columns, take, ◌≡◌}
 use Rattle.dv_print.proofs.path_texts.path_header.Given as goal
 
 abbrev pub invariant-loop-feed : goal.invariant-loop-feed

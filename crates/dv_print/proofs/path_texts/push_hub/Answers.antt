@@ -1,6 +1,4 @@
-use Rattle.dv_print.proofs.Vocabulary.{◌≡◌, ◌++◌, ◌∙◌, ap, map, range_with_len}
-use Rattle.std.proofs.lemmas.Result.{on_ok_weaker}
-use Rattle.dv_print.specs.Texts.{dotted, numbered}
+use Rattle.dv_print.proofs.Vocabulary.{ap, dotted, map, numbered, on_ok_weaker, range_with_len, ◌++◌, ◌∙◌, ◌≡◌}
 use Rattle.dv_print.proofs.PartColumns.{behind_both}
 use Rattle.dv_print.proofs.path_texts.push_hub.Goals as goal
 

@@ -1,5 +1,4 @@
-use Rattle.std.proofs.Common.{arith}
-use Rattle.std.proofs.lemmas.Option.{slice_get_past}
+use Rattle.dv_print.proofs.Vocabulary.{arith, slice_get_past}
 use Rattle.dv_print.proofs.PartColumns.{no_columns}
 use Rattle.dv_print.proofs.path_texts.push_hub_at.Goals as goal
 

@@ -1,5 +1,4 @@
-use Rattle.dv_print.proofs.Vocabulary.{◌≡◌, ◌++◌, flat_map, take}
-use Rattle.dv_print.specs.Texts.{hub_columns}
+use Rattle.dv_print.proofs.Vocabulary.{flat_map, hub_columns, take, ◌++◌, ◌≡◌}
 use Rattle.dv_print.proofs.path_texts.push_hubs.Given as goal
 
 abbrev pub invariant-loop-hub : goal.invariant-loop-hub

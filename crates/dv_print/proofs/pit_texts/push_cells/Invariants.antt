@@ -1,5 +1,4 @@
-use Rattle.dv_print.proofs.Vocabulary.{◌≡◌, ◌++◌, ◌∷◌, [], take, flat_map}
-use Rattle.dv_print.specs.Texts.{load_or_blank, yes_or_no}
+use Rattle.dv_print.proofs.Vocabulary.{[], flat_map, load_or_blank, take, yes_or_no, ◌++◌, ◌∷◌, ◌≡◌}
 use Rattle.dv_print.proofs.pit_texts.push_cells.Given as goal
 
 abbrev pub invariant-loop-cell : goal.invariant-loop-cell

@@ -1,6 +1,4 @@
-use Rattle.dv_print.proofs.Vocabulary.{◌≡◌, ◌++◌, map, take, flat_map}
-use Rattle.dv_print.specs.HubFeeds.{told}
-use Rattle.dv_print.specs.Texts.{pit_columns}
+use Rattle.dv_print.proofs.Vocabulary.{flat_map, map, pit_columns, take, told, ◌++◌, ◌≡◌}
 use Rattle.dv_print.proofs.pit_texts.push_feeds.Given as goal
 
 abbrev pub invariant-loop-feed : goal.invariant-loop-feed

@@ -1,5 +1,4 @@
-use Rattle.dv_print.proofs.Vocabulary.{Appends, IsBetweenRecords, csv_text, map, take, text_written}
-use Rattle.dv_print.specs.Texts.{pit_record}
+use Rattle.dv_print.proofs.Vocabulary.{Appends, IsBetweenRecords, csv_text, map, pit_record, take, text_written}
 use Rattle.dv_print.proofs.pit_texts.put_dated.Given as goal
 
 abbrev pub invariant-loop-row : goal.invariant-loop-row

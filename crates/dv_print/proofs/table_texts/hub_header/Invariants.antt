@@ -1,4 +1,4 @@
-use Rattle.dv_print.proofs.Vocabulary.{◌≡◌, ◌++◌, codes, map, decimal, range_with_len, raw_header}
+use Rattle.dv_print.proofs.Vocabulary.{codes, decimal, map, range_with_len, raw_header, ◌++◌, ◌≡◌}
 use Rattle.dv_print.proofs.table_texts.hub_header.Given as goal
 
 abbrev pub invariant-loop-n : goal.invariant-loop-n

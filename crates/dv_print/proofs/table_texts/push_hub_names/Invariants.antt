@@ -1,4 +1,4 @@
-use Rattle.dv_print.proofs.Vocabulary.{◌≡◌, ◌++◌, map, take, slice_get, hub_name}
+use Rattle.dv_print.proofs.Vocabulary.{hub_name, map, slice_get, take, ◌++◌, ◌≡◌}
 use Rattle.dv_print.proofs.table_texts.push_hub_names.Given as goal
 
 abbrev pub invariant-loop-hub : goal.invariant-loop-hub

@@ -1,4 +1,4 @@
-use Rattle.dv_print.proofs.Vocabulary.{◌∙◌, feed_name, slice_get}
+use Rattle.dv_print.proofs.Vocabulary.{feed_name, slice_get, ◌∙◌}
 use Rattle.dv_print.proofs.JoinedNames.{all_spaced}
 use Rattle.dv_print.proofs.windows_texts.joined_names.Goals as goal
 

@@ -1,4 +1,4 @@
-use Rattle.dv_print.proofs.Vocabulary.{Some, IfOk-weaker, codes, head_record, map, option_map, option_to_list, refl, text_written}
+use Rattle.dv_print.proofs.Vocabulary.{IfOk-weaker, Some, codes, head_record, map, option_map, option_to_list, refl, text_written}
 use Rattle.dv_print.proofs.WrittenTexts.{text_of_parts}
 use Rattle.dv_print.proofs.windows_texts.windows_text.Goals as goal
 

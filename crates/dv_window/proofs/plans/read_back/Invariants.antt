@@ -1,4 +1,4 @@
-use Rattle.dv_window.proofs.Vocabulary.{map, take, ◌≡◌, any_content_read}
+use Rattle.dv_window.proofs.Vocabulary.{any_content_read, map, take, ◌≡◌}
 use Rattle.dv_window.proofs.plans.read_back.Given as goal
 
 -- the feeds so far are read back

@@ -1,7 +1,5 @@
-use Rattle.dv_window.proofs.Vocabulary.{AreTried, Taken, arith, err_from_is_err_and, fault_told, feed_absent, feed_read, rows_taken, rules, subst, sym}
-use Rattle.dv_catalog.proofs.ValidReads.{valid_parts}
-use Rattle.dv_window.proofs.TriedFeeds.{tried_behind, tried_first, tried_within}
-use Rattle.dv_window.proofs.stagings.stage_side_by_side.Goals.{in-Some-2+in_ok-push, in_default}
+use Rattle.dv_window.proofs.Vocabulary.{AreTried, Taken, arith, err_from_is_err_and, fault_told, feed_absent, feed_read, rows_taken, rules, subst, sym, valid_parts}
+use Rattle.dv_window.proofs.{TriedFeeds.tried_behind, TriedFeeds.tried_first, TriedFeeds.tried_within, stagings.stage_side_by_side.Goals.in-Some-2+in_ok-push, stagings.stage_side_by_side.Goals.in_default}
 use Rattle.dv_window.proofs.stagings.stage_side_by_side.Goals as goal
 
 pub with_room-requires-clause-tried : goal.with_room-requires-clause-tried

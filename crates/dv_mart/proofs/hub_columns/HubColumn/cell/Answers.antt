@@ -1,8 +1,4 @@
-use Rattle.dv_mart.proofs.Vocabulary.{◌∙◌, ap}
-use Rattle.std.specs.Borrow.{Bor}
-use Rattle.std.specs.Option.{is_some}
-use Rattle.dv_text.specs.declared.rows.NRow.{NRow}
-use Rattle.dv_mart.specs.HubContents.{shown_attrs}
+use Rattle.dv_mart.proofs.Vocabulary.{Bor, NRow, ap, is_some, shown_attrs, ◌∙◌}
 use Rattle.dv_mart.proofs.HubRows.{some_told}
 use Rattle.dv_mart.proofs.hub_columns.HubColumn.cell.Goals as goal
 

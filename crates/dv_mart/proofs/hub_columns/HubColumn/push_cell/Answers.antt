@@ -1,11 +1,4 @@
-use Rattle.dv_mart.proofs.Vocabulary.{◌≡◌, ◌∙◌, ◌++◌, ◌∷◌, [], List, ℕ, ap, subst}
-use Rattle.std.proofs.Common.{append_assoc}
-use Rattle.std.specs.Borrow.{Bor}
-use Rattle.std.specs.Option.{is_some}
-use Rattle.std.specs.Prelude.{OnOk}
-use Rattle.dv_text.specs.declared.rows.NRow.{NRow}
-use Rattle.dv_print.specs.Texts.{yes_or_no}
-use Rattle.dv_mart.specs.HubContents.{row_at, shown_attrs}
+use Rattle.dv_mart.proofs.Vocabulary.{Bor, List, NRow, OnOk, [], ap, append_assoc, is_some, row_at, shown_attrs, subst, yes_or_no, ℕ, ◌++◌, ◌∙◌, ◌∷◌, ◌≡◌}
 use Rattle.dv_mart.proofs.HubRows.{some_told}
 use Rattle.dv_mart.proofs.hub_columns.HubColumn.push_cell.Goals as goal
 

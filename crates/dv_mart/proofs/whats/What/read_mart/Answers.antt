@@ -1,4 +1,4 @@
-use Rattle.dv_mart.proofs.Vocabulary.{◌∙◌, ap, if_mart, option_and_then, sym}
+use Rattle.dv_mart.proofs.Vocabulary.{ap, if_mart, option_and_then, sym, ◌∙◌}
 use Rattle.dv_mart.proofs.OfferedMarts.{marts_offered}
 use Rattle.dv_mart.proofs.whats.What.read_mart.Goals as goal
 

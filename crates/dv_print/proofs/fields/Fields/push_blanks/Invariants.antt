@@ -1,5 +1,4 @@
-use Rattle.dv_print.proofs.Vocabulary.{◌≡◌, ◌++◌}
-use Rattle.std.specs.Prelude.{◌≤◌, [], replicate}
+use Rattle.dv_print.proofs.Vocabulary.{[], replicate, ◌++◌, ◌≡◌, ◌≤◌}
 use Rattle.dv_print.proofs.fields.Fields.push_blanks.Given as goal
 
 -- as many blanks so far

@@ -1,4 +1,4 @@
-use Rattle.dv_print.proofs.Vocabulary.{◌≡◌, ◌++◌, take, flat_map}
+use Rattle.dv_print.proofs.Vocabulary.{flat_map, take, ◌++◌, ◌≡◌}
 use Rattle.dv_print.proofs.fields.Fields.push_columns.Given as goal
 
 abbrev pub invariant-loop-columns : goal.invariant-loop-columns

@@ -1,4 +1,4 @@
-use Rattle.dv_print.proofs.Vocabulary.{◌≡◌, ◌++◌, map, take, encode_lower}
+use Rattle.dv_print.proofs.Vocabulary.{encode_lower, map, take, ◌++◌, ◌≡◌}
 use Rattle.dv_print.proofs.fields.Fields.push_digests.Given as goal
 
 abbrev pub invariant-loop-digest : goal.invariant-loop-digest

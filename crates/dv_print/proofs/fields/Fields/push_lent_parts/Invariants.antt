@@ -1,4 +1,4 @@
-use Rattle.dv_print.proofs.Vocabulary.{◌≡◌, ◌++◌, map, take, all_parts}
+use Rattle.dv_print.proofs.Vocabulary.{all_parts, map, take, ◌++◌, ◌≡◌}
 use Rattle.dv_print.proofs.fields.Fields.push_lent_parts.Given as goal
 
 abbrev pub invariant-loop-key : goal.invariant-loop-key

@@ -1,4 +1,4 @@
-use Rattle.dv_print.proofs.Vocabulary.{◌≡◌, ◌++◌, take, all_parts}
+use Rattle.dv_print.proofs.Vocabulary.{all_parts, take, ◌++◌, ◌≡◌}
 use Rattle.dv_print.proofs.fields.Fields.push_parts.Given as goal
 
 abbrev pub invariant-loop-key : goal.invariant-loop-key

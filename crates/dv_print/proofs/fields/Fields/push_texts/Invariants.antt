@@ -1,4 +1,4 @@
-use Rattle.dv_print.proofs.Vocabulary.{◌≡◌, ◌++◌, take}
+use Rattle.dv_print.proofs.Vocabulary.{take, ◌++◌, ◌≡◌}
 use Rattle.dv_print.proofs.fields.Fields.push_texts.Given as goal
 
 abbrev pub invariant-loop-text : goal.invariant-loop-text

@@ -1,4 +1,4 @@
-use Rattle.dv_window.proofs.Vocabulary.{None, false, refl, Held}
+use Rattle.dv_window.proofs.Vocabulary.{Held, None, false, refl}
 use Rattle.dv_window.proofs.StartFacts.{stands_new}
 use Rattle.dv_window.proofs.offices.Office.begin.Goals as goal
 

@@ -1,6 +1,4 @@
-use Rattle.dv_window.proofs.Vocabulary.{Begun, Fits, Held, IfSome, None, Option, RawVault, ap, head_of, subst, sym, true, ◌∙◌, ◌≡◌}
-use Rattle.dv_restore.specs.Restored.{are_in_order}
-use Rattle.dv_restore.proofs.HeadsInOrder.{one_later}
+use Rattle.dv_window.proofs.Vocabulary.{Begun, Fits, Held, IfSome, None, Option, RawVault, ap, are_in_order, head_of, one_later, subst, sym, true, ◌∙◌, ◌≡◌}
 use Rattle.dv_window.proofs.Agreed.{left_fits}
 use Rattle.dv_window.proofs.offices.Office.carry_out.Goals as goal
 

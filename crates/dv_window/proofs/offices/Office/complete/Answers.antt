@@ -1,4 +1,4 @@
-use Rattle.dv_window.proofs.Vocabulary.{Begun, Fits, IfSome, Option, Some, subst, sym, true, ◌∙◌, ◌≡◌, Agrees, CompletesAs, HasKept, Held}
+use Rattle.dv_window.proofs.Vocabulary.{Agrees, Begun, CompletesAs, Fits, HasKept, Held, IfSome, Option, Some, subst, sym, true, ◌∙◌, ◌≡◌}
 use Rattle.dv_window.proofs.Agreed.{came_with}
 use Rattle.dv_window.proofs.offices.Office.complete.Goals as goal
 

@@ -1,4 +1,4 @@
-use Rattle.dv_window.proofs.Vocabulary.{ap, none_from, sym, ◌∙◌, head_at}
+use Rattle.dv_window.proofs.Vocabulary.{ap, head_at, none_from, sym, ◌∙◌}
 use Rattle.dv_window.proofs.PlanFacts.{head_feeds, none_later}
 use Rattle.dv_window.proofs.offices.Office.head_at.Goals as goal
 

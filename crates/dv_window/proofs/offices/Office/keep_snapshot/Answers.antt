@@ -1,5 +1,4 @@
-use Rattle.dv_window.proofs.Vocabulary.{ap, ◌∙◌, Held}
-use Rattle.dv_records.specs.declared.snapshots.Snap.{Snap}
+use Rattle.dv_window.proofs.Vocabulary.{Held, Snap, ap, ◌∙◌}
 use Rattle.dv_window.proofs.KeptSnapshots.{agrees_broken, agrees_kept, broken_step, made_with, new_there, stored_step}
 use Rattle.dv_window.proofs.offices.Office.keep_snapshot.Goals as goal
 

@@ -1,7 +1,5 @@
-use Rattle.dv_window.proofs.Vocabulary.{IsPlanned, None, StepsTo, false, staged, true, hashes_of, refl, subst, sym}
-use Rattle.dv_window.proofs.Agreed.{agrees_closed, agrees_then, new_tables, none_staged}
-use Rattle.dv_window.proofs.BrokenOff.{untold, untold_in, untold_open}
-use Rattle.dv_window.proofs.Stepped.{new_step, open_step, stopped_step}
+use Rattle.dv_window.proofs.Vocabulary.{IsPlanned, None, StepsTo, false, hashes_of, refl, staged, subst, sym, true}
+use Rattle.dv_window.proofs.{Agreed.agrees_closed, Agreed.agrees_then, Agreed.new_tables, Agreed.none_staged, BrokenOff.untold, BrokenOff.untold_in, BrokenOff.untold_open, Stepped.new_step, Stepped.open_step, Stepped.stopped_step}
 use Rattle.dv_window.proofs.offices.Office.load_fresh.Goals as goal
 
 pub carry_out-requires-clause-told : goal.carry_out-requires-clause-told

@@ -1,4 +1,4 @@
-use Rattle.dv_window.proofs.Vocabulary.{ap, inr, length, staged, subst, sym, ◌∙◌, hashes_of, last_head, late_after, full_at, Window, IsAddition, Held}
+use Rattle.dv_window.proofs.Vocabulary.{Held, IsAddition, Window, ap, full_at, hashes_of, inr, last_head, late_after, length, staged, subst, sym, ◌∙◌}
 use Rattle.dv_window.proofs.PlanFacts.{not_late}
 use Rattle.dv_window.proofs.offices.Office.plan_new.Goals as goal
 

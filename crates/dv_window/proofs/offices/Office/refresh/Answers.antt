@@ -1,6 +1,5 @@
-use Rattle.dv_window.proofs.Vocabulary.{BreaksRule, Some, ap, rules, subst, sym, true, ◌∙◌, ◌≡◌, Agrees, Held, IsIn, IsInForm, IsMappedBy, IsReadAs, Mapping, Stands, hashes_of}
-use Rattle.dv_window.proofs.Refreshed.{mapping_for, not_damaged, rule_for}
-use Rattle.dv_window.proofs.StartFacts.{stands_as}
+use Rattle.dv_window.proofs.Vocabulary.{Agrees, BreaksRule, Held, IsIn, IsInForm, IsMappedBy, IsReadAs, Mapping, Some, Stands, ap, hashes_of, rules, subst, sym, true, ◌∙◌, ◌≡◌}
+use Rattle.dv_window.proofs.{Refreshed.mapping_for, Refreshed.not_damaged, Refreshed.rule_for, StartFacts.stands_as}
 use Rattle.dv_window.proofs.offices.Office.refresh.Goals as goal
 
 pub returns-in_err-catalog-clause-damaged : goal.returns-in_err-catalog-clause-damaged

@@ -1,4 +1,4 @@
-use Rattle.dv_window.proofs.Vocabulary.{Err, Held, IsLeftIn, CompletesTo, None, StandsFor, ap, hashes_of, subst, sym, ◌∙◌}
+use Rattle.dv_window.proofs.Vocabulary.{CompletesTo, Err, Held, IsLeftIn, None, StandsFor, ap, hashes_of, subst, sym, ◌∙◌}
 use Rattle.dv_window.proofs.Refreshed.{is_damaged, not_err, unresumed_step}
 use Rattle.dv_window.proofs.offices.Office.resume.Goals as goal
 

@@ -1,8 +1,5 @@
-use Rattle.dv_window.proofs.Vocabulary.{AgreesUnlessStale, CompletesTo, Held, None, refl, true, subst, sym}
-use Rattle.dv_records.specs.declared.answers.ResumeAnswer.TheVariants.{NothingOpen}
-use Rattle.dv_window.proofs.Agreed.{agrees_then}
-use Rattle.dv_window.proofs.BrokenOff.{untold_in, untold_open}
-use Rattle.dv_window.proofs.Stepped.{nothing_completes, open_completes}
+use Rattle.dv_window.proofs.Vocabulary.{AgreesUnlessStale, CompletesTo, Held, None, NothingOpen, refl, subst, sym, true}
+use Rattle.dv_window.proofs.{Agreed.agrees_then, BrokenOff.untold_in, BrokenOff.untold_open, Stepped.nothing_completes, Stepped.open_completes}
 use Rattle.dv_window.proofs.offices.Office.resume_fresh.Goals as goal
 
 pub returns-in-Some-clause-step : goal.returns-in-Some-clause-step

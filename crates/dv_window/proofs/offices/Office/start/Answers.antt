@@ -1,5 +1,4 @@
-use Rattle.dv_window.proofs.Vocabulary.{Some, inr, rules, subst, sym, ◌∙◌, ◌≡◌, Agrees, Held, IsInForm, IsMappedBy, Mapping, Stands, hashes_of}
-use Rattle.dv_restore.proofs.StandingStores.{never_unread, same_mapping}
+use Rattle.dv_window.proofs.Vocabulary.{Agrees, Held, IsInForm, IsMappedBy, Mapping, Some, Stands, hashes_of, inr, never_unread, rules, same_mapping, subst, sym, ◌∙◌, ◌≡◌}
 use Rattle.dv_window.proofs.StartFacts.{none_stored, read_as}
 use Rattle.dv_window.proofs.offices.Office.start.Goals as goal
 

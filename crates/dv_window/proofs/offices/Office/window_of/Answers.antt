@@ -1,4 +1,4 @@
-use Rattle.dv_window.proofs.Vocabulary.{None, staged, subst, sym, true, ◌∙◌, ◌≡◌, Mapping, is_window, window_of, window_rule, Window}
+use Rattle.dv_window.proofs.Vocabulary.{Mapping, None, Window, is_window, staged, subst, sym, true, window_of, window_rule, ◌∙◌, ◌≡◌}
 use Rattle.dv_window.proofs.PlanFacts.{early_none, read_whole}
 use Rattle.dv_window.proofs.offices.Office.window_of.Goals as goal
 

@@ -1,9 +1,0 @@
-use Rattle.dv_bridge.proofs.WholeLinks.{links_more}
-use Rattle.dv_bridge.specs.BridgeRows.{first_row, is_whole}
-use Rattle.dv_bridge.specs.Joins.{told_row}
-use Rattle.dv_bridge.proofs.whole_links.links_of.Goals as goal
-
-pub loop-row-preserved : goal.loop-row-preserved
-loop-row-preserved c =
-    rw (c.in_ok-put_link.ensures, c.loop-row.invariant)
-    (links_more told_row is_whole first_row c.args.rows.now c.loop-row.row-index c.row-item.result c.loop-row-test.true c.row-item.is)

@@ -1,5 +1,0 @@
-use Rattle.dv_snapshots.proofs.Vocabulary.{heads_weight, take, ◌≡◌}
-use Rattle.dv_snapshots.proofs.refusals.weight_with.Given as goal
-
-abbrev pub invariant-loop-stored : goal.invariant-loop-stored
-invariant-loop-stored l = l.sum ≡ heads_weight (take l.stored-index l.heads)

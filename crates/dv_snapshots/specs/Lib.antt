@@ -1,9 +1,0 @@
-pub mod Pages
-pub mod Plans
-pub mod Refusals
-pub mod RowForms
-pub mod SnapSteps
-pub mod StoredFaults
-pub mod StoredRows
-pub mod StoredTexts
-pub mod Tables
