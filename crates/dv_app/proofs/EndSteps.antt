@@ -1,10 +1,8 @@
 -- How what came of `try` ends the command.
-use Rattle.dv_app.proofs.Vocabulary.{Bool, List, Option, ap, false, inl, inr, refl, subst, sym, true, ℕ, ◌++◌, ◌∙◌, ◌≡◌, ◌≤◌, ◌⊎◌, Err, Ok, arith, ⊎_elim, Ends, NamedFile, Rose, Seen, Status, DigestFunction, after, after-after, after-nil, got_behind, got_nothing}
-use Rattle.dv_app.proofs.Vocabulary.{Absent, BadMapping, BadQuery, Ending, EndsBy, EndsOrMemory, Gives, HasLast, IsReadCause, Memory, Tried, Unread, Unwritten, absent_line, ended, line_of_ending, memory_line, query_line, read_fault_line, refused_mapping_line, status_for, status_of}
-use Rattle.dv_app.proofs.Vocabulary.{CutShort, EndsBehind, EndsEarly, IsCaused, IsCutLines, IsEnded, TextCut, Trial, TrialSays, TriesAll, TrySays, Wanted, trial_of, tried_of}
-use Rattle.dv_given.proofs.EndSteps.{ends_or, rose_later}
-use Rattle.dv_given.proofs.ReadSteps.{between}
-use Rattle.dv_given.specs.Worlds.{Sight}
+use Rattle.dv_app.proofs.Vocabulary.{Absent, BadMapping, BadQuery, Bool, CutShort, DigestFunction, Ending, EndsBehind, EndsBy, EndsEarly, EndsOrMemory, Err, Gives, HasLast, IsCaused, IsCutLines, IsEnded, IsReadCause, List, Memory, NamedFile, Ok, Option, Rose, Seen, Sight, Status, TextCut, Trial}
+use Rattle.dv_app.proofs.Vocabulary.{TrialSays, Tried, TriesAll, TrySays, Unread, Unwritten, Wanted, absent_line, after, after-after, after-nil, ap, arith, between, ended, ends_or, false, got_behind, got_nothing, inl, inr, line_of_ending, memory_line, query_line, read_fault_line, refl}
+use Rattle.dv_app.proofs.Vocabulary.{refused_mapping_line, rose_later, status_for, status_of, subst, sym, trial_of, tried_of, true, ℕ, ⊎_elim, ◌++◌, ◌∙◌, ◌≡◌, ◌≤◌, ◌⊎◌}
+use Rattle.dv_outside.specs.Ends.{Ends}
 use Rattle.dv_outside.specs.declared.statuses.Status.TheVariants as statuses
 
 -- ---- where all was written

@@ -1,10 +1,6 @@
 -- How the windows that are made are taken one after another, and what is counted behind them.
-use Rattle.dv_app.proofs.Vocabulary.{List, ap, arith, subst, sym, ℕ, ◌+◌, ◌∙◌, ◌≡◌, Hashes, HasSealed, Held, Mapping, RawVault, State, Taken, Window, WindowIn, beginning, outcome, outcome_of, vault}
-use Rattle.dv_app.proofs.Vocabulary.{IsReady, TookWindow, state_after}
-use Rattle.std.specs.Prelude.{suc}
-use Rattle.dv_mart.proofs.VaultMarts.{kind_of}
-use Rattle.dv_app.specs.Exercised.{HasKinds, HasTaken, counts_of, counts_text, exercised, state_behind}
-use Rattle.dv_app.specs.Generated.{generated_mapping, generated_window, load_date}
+use Rattle.dv_app.proofs.Vocabulary.{HasKinds, HasSealed, HasTaken, Hashes, Held, IsReady, List, Mapping, RawVault, State, Taken, TookWindow, Window, WindowIn, ap, arith, beginning, counts_of, counts_text, exercised, generated_mapping, generated_window, kind_of, load_date, outcome, outcome_of}
+use Rattle.dv_app.proofs.Vocabulary.{state_after, state_behind, subst, suc, sym, vault, ℕ, ◌+◌, ◌∙◌, ◌≡◌}
 
 -- ---- the windows
 

@@ -1,12 +1,5 @@
 -- What the loops over numbers keep, and the numbers of load dates.
-use Rattle.std.specs.Prelude.{◌≡◌, ℕ, ◌+◌, ◌<◌, true, List, [], ◌∷◌, ◌++◌}
-use Rattle.std.specs.List.{flat_map, range_with_len}
-use Rattle.std.proofs.Common.{ap, arith, refl, sym, ◌∙◌}
-use Rattle.std.proofs.lemmas.Bool.{lt-ltb}
-use Rattle.std.proofs.lemmas.List.{flat_map_more, map-id}
-use Rattle.std.proofs.lemmas.List.FromFn.{map-range_with_len_more}
-use Rattle.dv_text.specs.Stamps.{is_stamp_number}
-use Rattle.dv_app.specs.Generated.{load_date}
+use Rattle.dv_app.proofs.Vocabulary.{List, [], ap, arith, flat_map, flat_map_more, is_stamp_number, load_date, lt-ltb, map-id, map-range_with_len_more, range_with_len, refl, sym, true, ℕ, ◌++◌, ◌+◌, ◌<◌, ◌∙◌, ◌∷◌, ◌≡◌}
 
 -- one number more
 counted_more : (n : ℕ) → range_with_len 0 (n + 1) ≡ range_with_len 0 n ++ n ∷ []

@@ -1,42 +1,14 @@
 -- What comes of the storing of the mapping.
-use Rattle.std.specs.Prelude.{◌≡◌, ◌⊎◌, ◌≤◌, ℕ, List, [], Option, Some, None, Result, Ok, Err, IsErrOf, option_map}
-use Rattle.std.proofs.Common.{◌∙◌, ap, arith, inl, inr, refl, subst, sym}
-use Rattle.dv_text.specs.Causes.{Rose}
-use Rattle.dv_text.specs.Keys.{DigestFunction, Hashes, hashes_of}
-use Rattle.dv_text.specs.Told.{Told}
-use Rattle.dv_catalog.specs.Entries.{Mapping}
-use Rattle.dv_catalog.specs.MappingFiles.{read_mapping}
-use Rattle.dv_catalog.specs.declared.map_error.MapError.{MapError}
-use Rattle.dv_outside.specs.Seen.{Seen}
-use Rattle.dv_outside.specs.declared.folders.NamedFile.{NamedFile}
-use Rattle.dv_outside.specs.declared.statuses.Status.TheVariants as statuses
-use Rattle.dv_records.specs.declared.answers.Damage.{Damage}
-use Rattle.dv_records.specs.declared.answers.InitAnswer.{InitAnswer}
-use Rattle.dv_records.specs.declared.answers.InitAnswer.TheVariants as init
-use Rattle.dv_records.specs.declared.keepers.KeeperError.TheVariants as errors
-use Rattle.dv_records.specs.declared.stores.Store.{Store}
-use Rattle.dv_records.specs.Changes.{Changes, changed}
-use Rattle.dv_records.specs.Steps.{InitStep, IsStored}
-use Rattle.dv_records.specs.Stores.{with_mapping}
-use Rattle.dv_restore.specs.Damages.{IsNotRead, IsReadAs, mapping_damage}
-use Rattle.dv_restore.specs.declared.faults.StoreFault.{StoreFault}
-use Rattle.dv_restore.specs.declared.faults.StoreFault.TheVariants as faults
-use Rattle.dv_given.specs.declared.endings.Ending.{Ending}
-use Rattle.dv_given.specs.declared.endings.Ending.TheVariants as endings
-use Rattle.dv_given.specs.declared.mapping_files.MappingFile.{MappingFile}
-use Rattle.dv_given.specs.Endings.{IsReadCause, MappingEnds, ending_of_store}
-use Rattle.dv_given.specs.FolderReads.{ReadsMapping}
-use Rattle.dv_given.specs.Given.{absent_line}
-use Rattle.dv_given.specs.Tried.{Tried, ended, mapping_at, mapping_bytes}
-use Rattle.dv_given.proofs.EndSteps.{rose_later}
-use Rattle.dv_app.specs.declared.replies.Reply.{Reply}
-use Rattle.dv_app.specs.Inits.{Compares, IsFaultOf, InitLeaves, Settled, Unsettled}
-use Rattle.dv_app.specs.Kept.{InitBy, InitFor, InitSays, InitWith, IsStanding, Stays, damaged_said, init_said, keeper_said, memory_said}
-use Rattle.dv_app.specs.Places.{Places}
-use Rattle.dv_app.specs.Words.{Init}
-use Rattle.dv_app.specs.Works.{Does, Tells, Works, said_of}
+use Rattle.dv_app.proofs.Vocabulary.{Changes, Compares, Damage, DigestFunction, Does, Ending, Err, Hashes, Init, InitAnswer, InitBy, InitFor, InitLeaves, InitSays, InitStep, InitWith, IsErrOf, IsFaultOf, IsNotRead, IsReadAs, IsReadCause, IsStanding, IsStored, List, MapError, Mapping, MappingEnds}
+use Rattle.dv_app.proofs.Vocabulary.{MappingFile, NamedFile, None, Ok, Option, Places, ReadsMapping, Reply, Result, Rose, Seen, Settled, Some, Stays, Store, StoreFault, Tells, Told, Tried, Unsettled, Works, [], absent_line, ap, arith, changed, damaged_said, ended, ending_of_store, hashes_of}
+use Rattle.dv_app.proofs.Vocabulary.{init_said, inl, inr, keeper_said, mapping_at, mapping_bytes, mapping_damage, memory_said, option_map, read_mapping, refl, rose_later, said_of, subst, sym, with_mapping, ℕ, ◌∙◌, ◌≡◌, ◌≤◌, ◌⊎◌}
 use Rattle.dv_app.proofs.OpenSteps.{Facts}
 use Rattle.dv_app.proofs.WorkSteps.{comes_one, does, done_sound, keeper_cause, keeper_sound, mapping_sound, memory_cause, memory_does, memory_sound, read_fault_sound, refused_sound}
+use Rattle.dv_outside.specs.declared.statuses.Status.TheVariants as statuses
+use Rattle.dv_records.specs.declared.answers.InitAnswer.TheVariants as init
+use Rattle.dv_records.specs.declared.keepers.KeeperError.TheVariants as errors
+use Rattle.dv_restore.specs.declared.faults.StoreFault.TheVariants as faults
+use Rattle.dv_given.specs.declared.endings.Ending.TheVariants as endings
 
 -- ---- the storing of the file
 

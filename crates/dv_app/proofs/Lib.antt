@@ -11,6 +11,7 @@ pub mod QuerySteps
 pub mod RunSteps
 pub mod SnapshotSteps
 pub mod StoredSteps
+pub mod TextSteps
 pub mod TrySteps
 pub mod Vocabulary
 pub mod WindowSteps

@@ -1,6 +1,5 @@
 -- How a manifest that is taken leads the run.
-use Rattle.dv_app.proofs.Vocabulary.{List, ℕ, inl, inr, refl, ◌∙◌, ◌≡◌, Ok, Err, GotPrefix, Rose, Seen, Told, Hashes, Mapping, NamedFile, after, Arrived, Arrives, Brings, Ending, Unwritten, arrival, arrival_of}
-use Rattle.dv_app.proofs.Vocabulary.{Goes, Loading, Progress, TookLine, step}
+use Rattle.dv_app.proofs.Vocabulary.{Arrived, Arrives, Brings, Ending, Err, Goes, GotPrefix, Hashes, List, Loading, Mapping, NamedFile, Ok, Progress, Rose, Seen, Told, TookLine, Unwritten, after, arrival, arrival_of, inl, inr, refl, step, ℕ, ◌∙◌, ◌≡◌}
 use Rattle.dv_app.proofs.WindowSteps.{whole_step}
 
 module _ (hashes : Hashes) (name : List ℕ) (loading loading' : Loading) (folder : Seen (List NamedFile)) (err : Seen (List ℕ)) where

@@ -1,43 +1,15 @@
 -- What comes of a load, and of the completion of the open window.
-use Rattle.std.specs.Prelude.{◌≡◌, ◌⊎◌, ◌≤◌, ℕ, [], Bool, true, false, List, None, Option, Some, Result, Ok, Err}
-use Rattle.std.proofs.Common.{ap, arith, inl, inr, refl, subst, sym, ◌∙◌}
-use Rattle.dv_text.specs.Causes.{Rose}
-use Rattle.dv_text.specs.Keys.{DigestFunction, Hashes, hashes_of}
-use Rattle.dv_text.specs.Told.{Told}
-use Rattle.dv_catalog.specs.Entries.{Mapping}
-use Rattle.dv_catalog.specs.declared.rules.Rule.{Rule}
-use Rattle.dv_catalog.specs.declared.windows.WindowIn.{WindowIn}
-use Rattle.dv_mart.specs.declared.query_rules.QueryRule.TheVariants.{NothingOpen}
-use Rattle.dv_outside.specs.Seen.{Seen}
-use Rattle.dv_outside.specs.declared.folders.NamedFile.{NamedFile}
-use Rattle.dv_records.specs.declared.answers.Damage.{Damage}
-use Rattle.dv_records.specs.declared.answers.LoadAnswer.{LoadAnswer}
-use Rattle.dv_records.specs.declared.answers.LoadAnswer.TheVariants as load
-use Rattle.dv_records.specs.declared.answers.Outcome.TheVariants as outcomes
-use Rattle.dv_records.specs.declared.answers.ResumeAnswer.{ResumeAnswer}
-use Rattle.dv_records.specs.declared.answers.ResumeAnswer.TheVariants as resume
-use Rattle.dv_records.specs.declared.stores.Store.{Store}
-use Rattle.dv_records.specs.Outcomes.{outcome}
-use Rattle.dv_records.specs.States.{State}
-use Rattle.dv_records.specs.Steps.{LoadBroke, LoadStep, ResumeStep}
-use Rattle.dv_window.specs.Offices.{CompletesTo, Held, IsIn, LeavesStill, LeavesStore, StaleAfter, StaleThen, StepsTo}
-use Rattle.dv_given.specs.declared.arrivals.Arrived.{Arrived}
-use Rattle.dv_given.specs.declared.endings.Ending.{Ending}
-use Rattle.dv_given.specs.declared.endings.Ending.TheVariants as endings
-use Rattle.dv_given.specs.FolderReads.{Arrives}
-use Rattle.dv_given.specs.Readings.{Brings, StandsForWhole, arrival_of}
-use Rattle.dv_given.specs.Tried.{Absent, Arrival, Broken, Brought, arrival, refusal_text, window_line}
-use Rattle.dv_given.proofs.EndSteps.{rose_later}
-use Rattle.dv_given.proofs.Vocabulary.{append-nil}
-use Rattle.dv_app.specs.declared.replies.Reply.{Reply}
-use Rattle.dv_app.specs.Kept.{ArrivalStep, IsBrought, StandsAt, Stays, load_said, resume_said}
-use Rattle.dv_app.specs.Openings.{IsOpen, Opening}
-use Rattle.dv_app.specs.Places.{Places}
-use Rattle.dv_app.specs.Takings.{Gave, IsStep}
-use Rattle.dv_app.specs.Words.{Load, Resume}
-use Rattle.dv_app.specs.Works.{Does, Tells, Works, said_of}
+use Rattle.dv_app.proofs.Vocabulary.{Arrival, ArrivalStep, Arrived, Arrives, Bool, Brings, Broken, Brought, CompletesTo, Damage, DigestFunction, Does, Ending, Err, Gave, Hashes, Held, IsBrought, IsIn, IsOpen, IsStep, LeavesStill, List, Load, LoadAnswer, LoadBroke, LoadStep, Mapping, NamedFile}
+use Rattle.dv_app.proofs.Vocabulary.{None, NothingOpen, Ok, Opening, Option, Places, Reply, Result, Resume, ResumeAnswer, ResumeStep, Rose, Rule, Seen, Some, StaleAfter, StaleThen, StandsAt, StandsForWhole, State, Stays, StepsTo, Store, Tells, Told, WindowIn, Works, [], ap, append-nil, arith}
+use Rattle.dv_app.proofs.Vocabulary.{arrival, arrival_of, false, hashes_of, inl, inr, load_said, outcome, refl, refusal_text, resume_said, rose_later, said_of, subst, sym, true, window_line, ℕ, ◌∙◌, ◌≡◌, ◌≤◌, ◌⊎◌}
+use Rattle.dv_window.specs.Offices.{LeavesStore}
+use Rattle.dv_given.specs.Tried.{Absent}
 use Rattle.dv_app.proofs.OpenSteps.{Facts, left_stands, memory_left, opened_does, steps_come}
 use Rattle.dv_app.proofs.WorkSteps.{done_sound, keeper_cause, keeper_sound, memory_cause, memory_sound, read_fault_sound, refused_sound}
+use Rattle.dv_records.specs.declared.answers.LoadAnswer.TheVariants as load
+use Rattle.dv_records.specs.declared.answers.Outcome.TheVariants as outcomes
+use Rattle.dv_records.specs.declared.answers.ResumeAnswer.TheVariants as resume
+use Rattle.dv_given.specs.declared.endings.Ending.TheVariants as endings
 
 -- ---- the completion of the open window
 

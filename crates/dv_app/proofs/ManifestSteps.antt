@@ -1,9 +1,7 @@
 -- The run over manifests, so far.
-use Rattle.dv_app.proofs.Vocabulary.{List, Some, [], ap, get_or, inl, inr, length, refl, slice_get-get_or, subst, sym, take, take_more, drop_more, ℕ, ◌++◌, ◌+◌, ◌<◌, ◌∙◌, ◌∷◌, ◌≡◌, ◌≤◌, ◌⊎◌, Err, Ok, Result, drop, take-append-drop, take_all}
-use Rattle.dv_app.proofs.Vocabulary.{GotPrefix, Hashes, Mapping, NamedFile, Seen, after, after-after, after-nil, got_behind, Absent, BringEnds, Ending, Memory, Unread}
-use Rattle.dv_app.proofs.Vocabulary.{IsLoaded, LineCut, LinesCut, Loaded, Loading, NextEnds, Progress, Unbrought, Unloaded, Went, lines_of, start, step, step_by, step_on, steps}
-use Rattle.dv_given.proofs.EndSteps.{bring_end_so, rose_later}
-use Rattle.dv_given.proofs.ReadSteps.{joined}
+use Rattle.dv_app.proofs.Vocabulary.{Absent, BringEnds, Ending, Err, GotPrefix, Hashes, IsLoaded, LineCut, LinesCut, List, Loaded, Loading, Mapping, Memory, NamedFile, NextEnds, Ok, Progress, Result, Seen, Some, Unbrought, Unloaded, Unread, Went, [], after, after-after, after-nil, ap}
+use Rattle.dv_app.proofs.Vocabulary.{bring_end_so, drop, drop_more, get_or, got_behind, inl, inr, joined, length, lines_of, refl, rose_later, slice_get-get_or, start, step, step_by, step_on, steps, subst, sym, take, take-append-drop, take_all, take_more, ℕ, ◌++◌, ◌+◌, ◌<◌, ◌∙◌, ◌∷◌, ◌≡◌, ◌≤◌}
+use Rattle.dv_app.proofs.Vocabulary.{◌⊎◌}
 
 -- ---- the run over the folder's files
 

@@ -1,36 +1,12 @@
 -- A command that opens what is kept: what it says where that could not be opened, and what it says by the office.
-use Rattle.std.specs.Prelude.{◌≡◌, ◌⊎◌, [], Option, Some, Result, Ok, Err, IsErrOf, None}
-use Rattle.std.proofs.Common.{◌∙◌, arith, inl, inr, refl, subst, sym}
-use Rattle.dv_text.specs.Causes.{Rose}
-use Rattle.dv_text.specs.Keys.{DigestFunction, Hashes, hashes_of}
-use Rattle.dv_text.specs.Told.{Told}
-use Rattle.dv_catalog.specs.Entries.{Mapping}
-use Rattle.dv_outside.specs.Seen.{Seen}
-use Rattle.dv_records.specs.declared.answers.Damage.{Damage}
-use Rattle.dv_records.specs.declared.stores.Store.{Store}
-use Rattle.dv_records.specs.Standing.{Stands}
-use Rattle.dv_records.specs.States.{State}
-use Rattle.dv_restore.specs.Damages.{IsNamedBySome}
-use Rattle.dv_restore.specs.declared.faults.StoreFault.TheVariants as unread
-use Rattle.dv_restore.specs.declared.faults.StartFault.{StartFault}
-use Rattle.dv_restore.specs.declared.faults.StartFault.TheVariants as faults
-use Rattle.dv_window.specs.Offices.{Held, IsIn, IsLeftIn}
-use Rattle.dv_given.specs.declared.endings.Ending.{Ending}
-use Rattle.dv_given.specs.declared.endings.Ending.TheVariants as endings
-use Rattle.dv_given.specs.Endings.{ending_of_start}
-use Rattle.dv_given.specs.Tried.{Tried}
-use Rattle.dv_app.specs.declared.replies.Reply.{Reply}
-use Rattle.dv_app.specs.Changes.{Leaves}
-use Rattle.dv_app.specs.Damaged.{Finds, FindsFirst, HasFirst}
-use Rattle.dv_app.specs.Kept.{IsBroken, IsUndamaged, KeptSays, OpenedSays, OpensOr, StandsAt, Stays, Steps, damaged_said, keeper_said, memory_said}
-use Rattle.dv_app.specs.Openings.{IsOpen, IsUnopened, Opening}
-use Rattle.dv_app.specs.Places.{Places}
-use Rattle.dv_app.specs.Replies.{IsSaidFor}
-use Rattle.dv_app.specs.Words.{Init, KeptCommand, Load, Mart, Resume, Snapshot, Stored, Table, Windows, office_command}
-use Rattle.dv_app.specs.declared.words.OfficeCommand.{OfficeCommand}
-use Rattle.dv_app.specs.declared.words.OfficeCommand.TheVariants as office_commands
-use Rattle.dv_app.specs.Works.{Comes, Does, Tells, Works, said_of}
+use Rattle.dv_app.proofs.Vocabulary.{Comes, Damage, DigestFunction, Does, Ending, Err, Finds, FindsFirst, HasFirst, Hashes, Held, Init, IsBroken, IsErrOf, IsIn, IsLeftIn, IsNamedBySome, IsOpen, IsSaidFor, IsUndamaged, IsUnopened, KeptCommand, KeptSays, Leaves, Load, Mapping, Mart, None}
+use Rattle.dv_app.proofs.Vocabulary.{OfficeCommand, Ok, OpenedSays, Opening, OpensOr, Option, Places, Reply, Result, Resume, Rose, Seen, Snapshot, Some, Stands, StandsAt, StartFault, State, Stays, Steps, Store, Stored, Table, Tells, Told, Tried, Windows, Works, [], arith, damaged_said}
+use Rattle.dv_app.proofs.Vocabulary.{ending_of_start, hashes_of, inl, inr, keeper_said, memory_said, office_command, refl, said_of, subst, sym, ◌∙◌, ◌≡◌, ◌⊎◌}
 use Rattle.dv_app.proofs.WorkSteps.{Kept, comes_one, does, keeper_cause, keeper_sound, mapping_sound, memory_cause, memory_does, memory_sound}
+use Rattle.dv_restore.specs.declared.faults.StoreFault.TheVariants as unread
+use Rattle.dv_restore.specs.declared.faults.StartFault.TheVariants as faults
+use Rattle.dv_given.specs.declared.endings.Ending.TheVariants as endings
+use Rattle.dv_app.specs.declared.words.OfficeCommand.TheVariants as office_commands
 
 -- ---- the opening
 

@@ -1,10 +1,5 @@
 -- What words say, word by word.
-use Rattle.std.specs.Global.{Global}
-use Rattle.std.specs.Prelude.{◌≡◌, ℕ, ◌+◌, ◌<◌, List, String, drop, get_or, length, map, option_and_then, string_bytes, Option}
-use Rattle.std.proofs.Common.{ap, sym, ◌∙◌}
-use Rattle.std.proofs.lemmas.List.{at_drop_more}
-use Rattle.dv_app.specs.Options.{parted_from, taken}
-use Rattle.dv_app.specs.declared.options.Found.{Found}
+use Rattle.dv_app.proofs.Vocabulary.{Found, Global, List, Option, String, ap, at_drop_more, drop, get_or, length, map, option_and_then, parted_from, string_bytes, sym, taken, ℕ, ◌+◌, ◌<◌, ◌∙◌, ◌≡◌}
 
 module _ (words : List (String Global)) (i : ℕ) (word : String Global) (within : i < length words) (is : word ≡ get_or words i word) where
   -- what the words behind this one say, if it was taken

@@ -1,36 +1,9 @@
 -- What is said of a query, and what comes of a command that writes its text.
-use Rattle.std.specs.Prelude.{◌≡◌, ℕ, true, List, Option, Some, None, Result, Ok, Err, IfOk, IfErr, option_map, option_to_list}
-use Rattle.std.proofs.Common.{ap, arith, inl, subst, sym, ◌∙◌}
-use Rattle.dv_text.specs.Keys.{DigestFunction, Hashes, hashes_of}
-use Rattle.dv_text.specs.Stamps.{stamp_of}
-use Rattle.dv_catalog.specs.Entries.{Mapping}
-use Rattle.dv_catalog.specs.Tables.{tables}
-use Rattle.dv_catalog.specs.declared.tables.TableId.{TableId}
-use Rattle.dv_mart.specs.declared.query_rules.QueryRule.{QueryRule}
-use Rattle.dv_mart.specs.declared.whats.What.{What}
-use Rattle.dv_mart.specs.MartTexts.{mart_text}
-use Rattle.dv_mart.specs.Whats.{offered_mart, table_named}
-use Rattle.dv_print.specs.TableTexts.{table_text}
-use Rattle.dv_print.specs.Texts.{windows_text}
-use Rattle.dv_records.specs.declared.stores.Store.{Store}
-use Rattle.dv_records.specs.Standing.{Stands}
-use Rattle.dv_records.specs.States.{State, head_of}
-use Rattle.dv_records.specs.Stores.{rows_in}
-use Rattle.dv_restore.specs.Completions.{rows_there}
-use Rattle.dv_vault.specs.Vaults.{HasSealed, RawVault, has_table}
-use Rattle.dv_window.specs.Offices.{Held, StandsFor, staged}
-use Rattle.dv_given.specs.declared.endings.Ending.{Ending}
+use Rattle.dv_app.proofs.Vocabulary.{DateEnds, DigestFunction, Does, Ending, Err, HasSealed, Hashes, Held, IfErr, IfOk, Init, IsAnswer, IsAnswered, IsOpen, IsTextFor, IsTextOf, KeptCommand, List, Load, Mapping, Mart, MartEnds, None, Ok, OpenedSays, Opening, Option, Places, QueryEnds, QueryRule}
+use Rattle.dv_app.proofs.Vocabulary.{RawVault, Result, Resume, Snapshot, Some, Stands, StandsFor, State, Store, Stored, Table, TableEnds, TableId, TextEnds, Tried, What, Windows, Works, ap, arith, has_table, hashes_of, head_of, inl, mart_at, mart_for, mart_says, mart_text, offered_mart}
+use Rattle.dv_app.proofs.Vocabulary.{option_map, option_to_list, refused_said, rows_in, rows_there, said_of, staged, stamp_of, subst, sym, table_for, table_named, table_text, tables, text_or, text_reply, true, windows_text, ℕ, ◌∙◌, ◌≡◌}
+use Rattle.dv_app.proofs.{OpenSteps.Opens, OpenSteps.memory_left, OpenSteps.opened_kept, WorkSteps.does, WorkSteps.done_sound, WorkSteps.refused_does}
 use Rattle.dv_given.specs.declared.endings.Ending.TheVariants as endings
-use Rattle.dv_given.specs.Endings.{DateEnds, IsTextFor, IsTextOf, QueryEnds, TextEnds}
-use Rattle.dv_given.specs.Tried.{Tried}
-use Rattle.dv_app.specs.Kept.{OpenedSays, mart_at, mart_for, mart_says, refused_said, table_for, text_or}
-use Rattle.dv_app.specs.Openings.{IsOpen, Opening}
-use Rattle.dv_app.specs.Places.{Places}
-use Rattle.dv_app.specs.Queries.{IsAnswer, IsAnswered, MartEnds, TableEnds, text_reply}
-use Rattle.dv_app.specs.Words.{Init, KeptCommand, Load, Mart, Resume, Snapshot, Stored, Table, Windows}
-use Rattle.dv_app.specs.Works.{Does, Works, said_of}
-use Rattle.dv_app.proofs.OpenSteps.{Opens, memory_left, opened_kept}
-use Rattle.dv_app.proofs.WorkSteps.{does, done_sound, refused_does}
 
 -- what ends a query, by what more is said of the rule
 pub query_ends_so : (P Q : QueryRule → Type 0) → ((rule : QueryRule) → P rule → Q rule) → (ending : Ending) → QueryEnds P ending → QueryEnds Q ending

@@ -1,31 +1,8 @@
 -- What `run` promises of a call, by what the words ask for.
-use Rattle.std.specs.Global.{Global}
-use Rattle.std.specs.Prelude.{◌≡◌, ◌⊎◌, ℕ, List, [], String}
-use Rattle.std.proofs.Common.{⊎_elim, ap, inl, inr, refl, subst, sym, ◌∙◌}
-use Rattle.dv_text.specs.Causes.{Rose}
-use Rattle.dv_text.specs.Keys.{DigestFunction}
-use Rattle.dv_outside.specs.Bytes.{after}
-use Rattle.dv_outside.specs.Ends.{Ends as EndsAt}
-use Rattle.dv_outside.specs.Seen.{Seen}
-use Rattle.dv_outside.specs.Worlds.{World}
-use Rattle.dv_outside.specs.declared.statuses.Status.{Status}
+use Rattle.dv_app.proofs.Vocabulary.{ChangesAsSaid, Command, CommandCompletes, CommandSays, DamageIsNamed, DigestFunction, Does, Ends, EndsAs, EndsAside, EndsAt, ExerciseSays, Exercises, Gives, Global, HadAll, Init, IsBroken, IsCause, IsCauseOf, IsCaused, IsRefusal, IsText, KeptCommand, Leaves}
+use Rattle.dv_app.proofs.Vocabulary.{LeavesStore, List, Load, Mart, MayChange, NoCommand, NoneFell, OnKeeper, Ran, Resume, Rose, Seen, Snapshot, Status, Store, Stored, String, Table, Trial, TrialSays, Tried, Tries, TrySays, Wanted, Windows, World, [], after, after-nil, ap, asked_of, ended}
+use Rattle.dv_app.proofs.Vocabulary.{got_nothing, inl, inr, memory_line, memory_said, places_of, refl, sight_of, subst, sym, trial_of, tried_of, usage_said, ℕ, ⊎_elim, ◌∙◌, ◌≡◌, ◌⊎◌}
 use Rattle.dv_outside.specs.declared.statuses.Status.TheVariants as statuses
-use Rattle.dv_outside.proofs.Told.{after-nil, got_nothing}
-use Rattle.dv_records.specs.declared.stores.Store.{Store}
-use Rattle.dv_given.specs.Lines.{memory_line}
-use Rattle.dv_given.specs.Says.{Gives}
-use Rattle.dv_given.specs.Tried.{Tried, ended}
-use Rattle.dv_given.specs.Worlds.{sight_of}
-use Rattle.dv_app.specs.Causes.{IsCaused}
-use Rattle.dv_app.specs.Says.{Trial, TrialSays, TrySays, Wanted, trial_of, tried_of}
-use Rattle.dv_app.specs.Changes.{IsRefusal, IsText, Leaves, LeavesStore, MayChange}
-use Rattle.dv_app.specs.Kept.{IsBroken, memory_said}
-use Rattle.dv_app.specs.Exercised.{ExerciseSays}
-use Rattle.dv_app.specs.Places.{places_of}
-use Rattle.dv_app.specs.Replies.{EndsAs, IsCauseOf}
-use Rattle.dv_app.specs.Run.{ChangesAsSaid, CommandCompletes, CommandSays, DamageIsNamed, Ends, EndsAside, HadAll, IsCause, NoneFell, Ran, usage_said}
-use Rattle.dv_app.specs.Words.{Command, Exercises, Init, KeptCommand, Load, Mart, NoCommand, OnKeeper, Resume, Snapshot, Stored, Table, Tries, Windows, asked_of}
-use Rattle.dv_app.specs.Works.{Does}
 
 -- ---- what is written
 

@@ -1,33 +1,8 @@
 -- What comes of a snapshot.
-use Rattle.std.specs.Prelude.{◌≡◌, ◌≤◌, ℕ, List, [], Option, Some, Result, Ok, Err, slice_get}
-use Rattle.std.proofs.Common.{arith, inl, inr, refl, subst, sym}
-use Rattle.dv_text.specs.Causes.{Rose}
-use Rattle.dv_text.specs.Keys.{DigestFunction, Hashes, hashes_of}
-use Rattle.dv_text.specs.Stamps.{stamp_of}
-use Rattle.dv_bridge.specs.ZeroKeys.{HasZeroKeys}
-use Rattle.dv_catalog.specs.Entries.{Mapping}
-use Rattle.dv_bridge.proofs.ZeroKeys.{zero_keys}
-use Rattle.dv_mart.specs.MartTexts.{name_of_path}
-use Rattle.dv_mart.specs.declared.query_rules.QueryRule.TheVariants.{Future, SnapshotsFull, TooLarge}
-use Rattle.dv_records.specs.declared.answers.SnapAnswer.{SnapAnswer}
+use Rattle.dv_app.proofs.Vocabulary.{DateEnds, DigestFunction, Ending, Err, Future, HasZeroKeys, Hashes, Held, IsIn, LeavesBoth, List, Mapping, Ok, Opening, Option, Places, Reply, Result, Rose, SnapAnswer, SnapStep, SnapsTo, Snapshot, SnapshotSays, SnapshotsFull, Some, State, Store, Tells}
+use Rattle.dv_app.proofs.Vocabulary.{TooLarge, Works, [], arith, hashes_of, inl, inr, name_of_path, refl, refused_said, rose_later, slice_get, snapshot_said, stamp_of, subst, sym, zero_keys, ℕ, ◌≡◌, ◌≤◌}
+use Rattle.dv_app.proofs.{OpenSteps.Facts, OpenSteps.left_stands, OpenSteps.steps_come, QuerySteps.refused_works, WorkSteps.done_sound, WorkSteps.keeper_cause, WorkSteps.keeper_sound, WorkSteps.memory_cause, WorkSteps.memory_sound, WorkSteps.refused_sound}
 use Rattle.dv_records.specs.declared.answers.SnapAnswer.TheVariants as answers
-use Rattle.dv_records.specs.declared.stores.Store.{Store}
-use Rattle.dv_records.specs.States.{State}
-use Rattle.dv_records.specs.Steps.{SnapStep}
-use Rattle.dv_snapshots.specs.SnapSteps.{LeavesBoth, SnapsTo}
-use Rattle.dv_window.specs.Offices.{Held, IsIn}
-use Rattle.dv_given.specs.declared.endings.Ending.{Ending}
-use Rattle.dv_given.specs.Endings.{DateEnds}
-use Rattle.dv_given.proofs.EndSteps.{rose_later}
-use Rattle.dv_app.specs.declared.replies.Reply.{Reply}
-use Rattle.dv_app.specs.Kept.{SnapshotSays, refused_said, snapshot_said}
-use Rattle.dv_app.specs.Openings.{Opening}
-use Rattle.dv_app.specs.Places.{Places}
-use Rattle.dv_app.specs.Words.{Snapshot}
-use Rattle.dv_app.specs.Works.{Tells, Works}
-use Rattle.dv_app.proofs.OpenSteps.{Facts, left_stands, steps_come}
-use Rattle.dv_app.proofs.QuerySteps.{refused_works}
-use Rattle.dv_app.proofs.WorkSteps.{done_sound, keeper_cause, keeper_sound, memory_cause, memory_sound, refused_sound}
 
 -- the date is none
 pub undated_works : (date : List ℕ) (function : DigestFunction) (at : Places) → at.folder.new ≡ at.folder.old → at.folder.now ≡ at.folder.before → (office : Held) → Opening function at.keeper (Ok office)

@@ -1,44 +1,11 @@
 -- What comes of a command for the text of a stored table.
-use Rattle.std.specs.List.{list_any}
-use Rattle.std.specs.Prelude.{◌≡◌, ◌≤◌, ℕ, ◌==◌, Bool, true, false, List, [], None, Option, Some, Result, Ok, Err, if◌then◌else◌, IsErrOf, length}
-use Rattle.std.proofs.Common.{ap, arith, inl, inr, refl, subst, sym, ◌∙◌}
-use Rattle.dv_text.proofs.Passing.{find_none, list_any-map, none_found_at, none_pass, none_passes}
-use Rattle.dv_text.specs.Causes.{Rose}
-use Rattle.dv_text.specs.declared.rows.Key.{Key}
-use Rattle.dv_text.specs.Keys.{DigestFunction, Hashes, hashes_of}
-use Rattle.dv_text.specs.Stamps.{stamp_of}
-use Rattle.dv_text.specs.Told.{Told}
-use Rattle.dv_catalog.specs.Entries.{Mapping}
-use Rattle.dv_catalog.specs.MappingFiles.{read_mapping}
-use Rattle.dv_store_rules.proofs.Widths.{of_width}
-use Rattle.dv_mart.specs.declared.query_rules.QueryRule.TheVariants.{NoSnapshot}
-use Rattle.dv_records.specs.declared.answers.Damage.{Damage}
-use Rattle.dv_records.specs.declared.snapshots.SnapHead.{SnapHead}
-use Rattle.dv_records.specs.declared.snapshots.SnapId.{SnapId}
-use Rattle.dv_records.specs.declared.stores.Store.{Store}
-use Rattle.dv_records.specs.Snapshots.{snapshot}
-use Rattle.dv_records.specs.Standing.{IsMappedBy, Stands}
-use Rattle.dv_records.specs.States.{State}
-use Rattle.dv_snapshots.specs.declared.stored.StoredFault.{StoredFault}
-use Rattle.dv_snapshots.specs.declared.stored.StoredFault.TheVariants as stored
-use Rattle.dv_snapshots.specs.StoredRows.{asked_of, head_at}
-use Rattle.dv_snapshots.specs.StoredTexts.{AreInNoState, IsDamageOf, IsRowOf, IsStoredDamage, table_text as snap_text}
-use Rattle.dv_window.specs.Offices.{Held, IsIn, StandsFor}
-use Rattle.dv_given.specs.declared.endings.Ending.{Ending}
-use Rattle.dv_given.specs.Endings.{DateEnds}
-use Rattle.dv_given.specs.Tried.{Tried}
-use Rattle.dv_given.proofs.EndSteps.{rose_later}
+use Rattle.dv_app.proofs.Vocabulary.{AreInNoState, Bool, Damage, DateEnds, DigestFunction, Does, Ending, Err, Hashes, Held, IsDamageOf, IsErrOf, IsIn, IsMappedBy, IsRowOf, IsStanding, IsStoredDamage, IsTableDamage, Key, List, Mapping, NoSnapshot, None, Ok, Opening, Option, Places, Result, Rose}
+use Rattle.dv_app.proofs.Vocabulary.{SnapHead, SnapId, Some, Stands, StandsFor, State, Store, Stored, StoredEnds, StoredFault, StoredTable, Told, Tried, Works, [], ap, arith, damaged_said, ending_of_stored, false, find_none, hashes_of, head_at, if◌then◌else◌, inl, inr, length, list_any}
+use Rattle.dv_app.proofs.Vocabulary.{list_any-map, none_found_at, none_pass, none_passes, of_width, read_mapping, refl, refused_said, rose_later, said_of, snap_text, snapshot, stamp_of, stored_at, stored_for, stored_id, stored_says, subst, sym, text_or, true, ℕ, ◌==◌, ◌∙◌, ◌≡◌, ◌≤◌}
+use Rattle.dv_window.specs.StoredRows.{asked_of}
+use Rattle.dv_app.proofs.{OpenSteps.keeper_left, OpenSteps.memory_left, OpenSteps.opened_in, OpenSteps.opened_kept, QuerySteps.refused_works, QuerySteps.text_does, WorkSteps.Kept, WorkSteps.refused_does}
+use Rattle.dv_window.specs.declared.stored.StoredFault.TheVariants as stored
 use Rattle.dv_app.specs.declared.replies.Reply.TheVariants as reply
-use Rattle.dv_app.specs.Damaged.{IsTableDamage}
-use Rattle.dv_app.specs.Kept.{IsStanding, damaged_said, refused_said, stored_at, stored_for, stored_id, stored_says, text_or}
-use Rattle.dv_app.specs.Openings.{Opening}
-use Rattle.dv_app.specs.Places.{Places}
-use Rattle.dv_app.specs.Queries.{StoredEnds, ending_of_stored}
-use Rattle.dv_app.specs.Words.{Stored, StoredTable}
-use Rattle.dv_app.specs.Works.{Does, Works, said_of}
-use Rattle.dv_app.proofs.OpenSteps.{keeper_left, memory_left, opened_in, opened_kept}
-use Rattle.dv_app.proofs.QuerySteps.{refused_works, text_does}
-use Rattle.dv_app.proofs.WorkSteps.{Kept, refused_does}
 
 -- a text is read as one mapping at most
 same_ok : {E : Type 0} (x y : Mapping) (r : Result Mapping E) → r ≡ Ok x → r ≡ Ok y → x ≡ y

@@ -1,15 +1,9 @@
 -- How the parts of `try` are parts of what it says.
-use Rattle.dv_app.proofs.Vocabulary.{List, Option, Some, None, [], ap, arith, inl, inr, length, refl, subst, sym, take, ℕ, ◌++◌, ◌∙◌, ◌≡◌, ◌≤◌, ◌⊎◌, Err, Ok, Result, take_all}
-use Rattle.dv_app.proofs.Vocabulary.{DigestFunction, GotPrefix, HasSealed, Mapping, MapError, NamedFile, QueryRule, RawVault, Rose, Seen, What, after, after-nil, got_all, got_longer, got_nothing, hashes_of, mart_text, stamp_of, vault, what_of}
-use Rattle.dv_app.proofs.Vocabulary.{Absent, BadMapping, BadQuery, DateEnds, Ending, IsReadCause, IsTextFor, MappingEnds, Memory, ReadsMapping, TextEnds, Tried, Unread, Unwritten, absent_line, ended, line_of_ending, mapping_at, memory_line, query_line}
-use Rattle.dv_app.proofs.Vocabulary.{status_for, status_of}
-use Rattle.dv_app.proofs.Vocabulary.{Begins, EndsBehind, HasLines, IsEnded, IsLoaded, IsMemory, Loaded, Loading, NextEnds, Progress, Readied, ReadsTrial, Trial, TriesAll, Unloaded, LinesCut, Wanted, WhatEnds}
-use Rattle.dv_app.proofs.Vocabulary.{at_end, lines_before, lines_of, lines_with, start, steps, trial_of, tried_at, tried_for, tried_of, tried_with, with_text}
-use Rattle.dv_given.proofs.EndSteps.{bring_cause, bring_end_so, query_cause}
-use Rattle.dv_given.proofs.ReadSteps.{between, joined, reads_ended, reads_made}
+use Rattle.dv_app.proofs.Vocabulary.{Absent, BadMapping, BadQuery, Begins, DateEnds, DigestFunction, Ending, EndsBehind, Err, GotPrefix, HasLines, HasSealed, IsEnded, IsLoaded, IsMemory, IsReadCause, IsTextFor, LinesCut, List, Loaded, Loading, MapError, Mapping, MappingEnds, MappingFile, Memory}
+use Rattle.dv_app.proofs.Vocabulary.{NamedFile, NextEnds, None, Ok, Option, Progress, QueryRule, RawVault, Readied, ReadsMapping, ReadsTrial, Result, Rose, Seen, Sight, Some, TextEnds, Trial, Tried, TriesAll, Unloaded, Unread, Unwritten, Wanted, What, WhatEnds, [], absent_line, after, after-nil}
+use Rattle.dv_app.proofs.Vocabulary.{ap, arith, at_end, between, bring_cause, bring_end_so, ended, got_all, got_longer, got_nothing, hashes_of, inl, inr, joined, length, line_of_ending, lines_before, lines_of, lines_with, mapping_at, mart_text, memory_line, query_cause, query_line, reads_ended}
+use Rattle.dv_app.proofs.Vocabulary.{reads_made, refl, stamp_of, start, status_for, status_of, steps, subst, sym, take, take_all, trial_of, tried_at, tried_for, tried_of, tried_with, vault, what_of, with_text, ℕ, ◌++◌, ◌∙◌, ◌≡◌, ◌≤◌, ◌⊎◌}
 use Rattle.dv_outside.specs.declared.statuses.Status.TheVariants as statuses
-use Rattle.dv_given.specs.Worlds.{Sight}
-use Rattle.dv_given.specs.declared.mapping_files.MappingFile.{MappingFile}
 
 -- the mapping over which it is loaded
 abbrev mapping_of : Readied → Mapping

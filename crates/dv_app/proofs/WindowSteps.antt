@@ -1,10 +1,9 @@
 -- How what an office takes is a step of the run.
-use Rattle.dv_app.proofs.Vocabulary.{Bool, List, None, [], ap, codes, false, refl, subst, sym, true, ℕ, ◌++◌, ◌||◌, ◌∙◌, ◌≡◌, Ok, append-nil, append_assoc, Hashes, Held, Mapping, Outcome, Rule, StaleAfter, StandsFor, State, StepsTo, WindowIn, decimal, outcome}
-use Rattle.dv_app.proofs.Vocabulary.{Arrival, Arrived, Brings, Broken, Brought, HasRefusal, StandsForWhole, Taken, arrival_of, is_refused, outcome_of, outcome_text, refusal_text, taken_text, window_line}
-use Rattle.dv_app.proofs.Vocabulary.{HasRows, IsReady, Loading, Progress, TookArrival, TookLine, TookWindow, state_after, step_by, with_outcome, with_refusal}
-use Rattle.dv_given.specs.Tried.{Absent}
+use Rattle.dv_app.proofs.Vocabulary.{Arrival, Arrived, Bool, Brings, Broken, Brought, HasRefusal, HasRows, Hashes, Held, IsReady, List, LoadAnswer, Loading, Mapping, None, Ok, Outcome, Progress, Rule, StaleAfter, StandsFor, StandsForWhole, State, StepsTo, Taken, TookArrival, TookLine, TookWindow}
+use Rattle.dv_app.proofs.Vocabulary.{WindowIn, [], ap, append-nil, append_assoc, arrival_of, false, is_refused, outcome, outcome_of, outcome_text, refl, refusal_text, state_after, step_by, subst, sym, taken_text, true, window_line, with_outcome, with_refusal, ℕ, ◌++◌, ◌||◌, ◌∙◌}
+use Rattle.dv_app.proofs.Vocabulary.{◌≡◌}
+use Rattle.dv_given.specs.Tried.{Absent, loaded_text}
 use Rattle.dv_given.specs.declared.windows.Taken.TheVariants as taken
-use Rattle.dv_records.specs.declared.answers.LoadAnswer.{LoadAnswer}
 use Rattle.dv_records.specs.declared.answers.LoadAnswer.TheVariants as answers
 use Rattle.dv_records.specs.declared.answers.Outcome.TheVariants as outcomes
 
@@ -81,7 +80,7 @@ module _ (hashes : Hashes) (name : List ℕ) (loading loading' : Loading) (line 
   -- the words of a line
   window_text : (mapping : Mapping) (state : State) (given : WindowIn) (came_of : Taken) → HasRows mapping hashes state given came_of
       → taken_text came_of ≡ outcome_text mapping hashes state given (outcome_of came_of)
-  window_text mapping state given (taken.Loaded rows) rows_are = ap (λ n. codes ": Loaded " ++ decimal n) rows_are
+  window_text mapping state given (taken.Loaded rows) rows_are = ap loaded_text rows_are
   window_text mapping state given taken.Repeated rows_are = refl
   window_text mapping state given (taken.Refused rule) rows_are = refl
 

@@ -1,22 +1,8 @@
 -- What comes of a command's work: what it says, why, what it leaves, and the damage that it names.
-use Rattle.std.specs.Prelude.{◌≡◌, ◌⊎◌, [], Result, Ok, Err}
-use Rattle.std.proofs.Common.{inl, inr, refl, subst, sym}
-use Rattle.dv_text.specs.Causes.{Rose}
-use Rattle.dv_text.specs.Keys.{DigestFunction}
-use Rattle.dv_text.specs.Told.{Told}
-use Rattle.dv_mart.specs.declared.query_rules.QueryRule.{QueryRule}
+use Rattle.dv_app.proofs.Vocabulary.{Comes, DigestFunction, Does, Ending, Err, IsSaidFor, IsUndamaged, KeptCommand, KeptSays, Leaves, NamesDamage, Ok, Places, QueryRule, Reply, Result, Rose, Tells, Told, Tried, [], inl, inr, keeper_said, memory_said, refl, refused_said, said_of, subst, sym, ◌≡◌}
+use Rattle.dv_app.proofs.Vocabulary.{◌⊎◌}
 use Rattle.dv_outside.specs.declared.statuses.Status.TheVariants as statuses
-use Rattle.dv_given.specs.declared.endings.Ending.{Ending}
-use Rattle.dv_given.specs.Tried.{Tried}
-use Rattle.dv_app.specs.declared.replies.Reply.{Reply}
-use Rattle.dv_app.specs.Changes.{Leaves}
-use Rattle.dv_app.specs.Damaged.{NamesDamage}
-use Rattle.dv_app.specs.Kept.{IsUndamaged, KeptSays, keeper_said, memory_said, refused_said}
-use Rattle.dv_app.specs.Places.{Places}
 use Rattle.dv_app.specs.Replies as replies
-use Rattle.dv_app.specs.Replies.{IsSaidFor}
-use Rattle.dv_app.specs.Words.{KeptCommand}
-use Rattle.dv_app.specs.Works.{Comes, Does, Tells, said_of}
 
 -- ---- no damage is named
 

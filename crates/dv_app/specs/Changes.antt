@@ -1,11 +1,10 @@
 -- What a command may change of the keeper's store: by what it says, whether or not the store stands for a state.
-use Rattle.std.specs.Fmt.{decimal}
-use Rattle.std.specs.Prelude.{◌≡◌, ◌⊎◌, ◌++◌, ℕ, codes}
+use Rattle.std.specs.Prelude.{◌≡◌, ◌⊎◌, ℕ}
 use Rattle.dv_outside.specs.Seen.{Seen}
 use Rattle.dv_outside.specs.declared.statuses.Status.{Status}
 use Rattle.dv_outside.specs.declared.statuses.Status.TheVariants as statuses
 use Rattle.dv_records.specs.declared.stores.Store.{Store}
-use Rattle.dv_given.specs.Tried.{Tried, ended, window_line}
+use Rattle.dv_given.specs.Tried.{Tried, ended, loaded_text, window_line}
 use Rattle.dv_app.specs.Kept.{IsBroken}
 use Rattle.dv_app.specs.Lines.{resumed_line, snapshot_line, stored_line}
 use Rattle.dv_app.specs.Words.{Command, Init, KeptCommand, Load, Mart, OnKeeper, Resume, Snapshot, Stored, Table, Windows}
@@ -16,7 +15,7 @@ use Rattle.dv_app.specs.Words.{Command, Init, KeptCommand, Load, Mart, OnKeeper,
 -- snapshot stored; or that it broke off. A text changes nothing
 abbrev pub MayChange : KeptCommand → Tried → Type 0
 MayChange Init said = (said ≡ ended statuses.Done stored_line) ⊎ IsBroken said
-MayChange (Load name) said = ((rows : ℕ) × (said ≡ ended statuses.Done (window_line name (codes ": Loaded " ++ decimal rows)))) ⊎ IsBroken said
+MayChange (Load name) said = ((rows : ℕ) × (said ≡ ended statuses.Done (window_line name (loaded_text rows)))) ⊎ IsBroken said
 MayChange Resume said = ((rows : ℕ) × (said ≡ ended statuses.Done (resumed_line rows))) ⊎ IsBroken said
 MayChange (Snapshot date) said = ((rows : ℕ) × (said ≡ ended statuses.Done (snapshot_line rows))) ⊎ IsBroken said
 MayChange (Mart what date) said = ⊥

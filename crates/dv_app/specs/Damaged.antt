@@ -10,8 +10,8 @@ use Rattle.dv_records.specs.declared.answers.Damage.{Damage}
 use Rattle.dv_records.specs.declared.snapshots.SnapHead.{SnapHead}
 use Rattle.dv_records.specs.declared.snapshots.SnapId.{SnapId}
 use Rattle.dv_records.specs.declared.stores.Store.{Store}
-use Rattle.dv_snapshots.specs.StoredRows.{asked_of, head_at}
-use Rattle.dv_snapshots.specs.StoredTexts.{IsDamageOf, IsRowOf}
+use Rattle.dv_window.specs.StoredRows.{asked_of, head_at}
+use Rattle.dv_window.specs.StoredTexts.{IsDamageOf, IsRowOf}
 use Rattle.dv_restore.specs.Damages.{IsFirstDamage, IsNamedBySome, IsNotRead, mapping_damage}
 use Rattle.dv_given.specs.Tried.{Tried}
 use Rattle.dv_app.specs.Kept.{IsOpenedBy, IsStanding, damaged_said, stored_id}

@@ -1,7 +1,6 @@
 -- What each command on the vault that is kept says, by what the keeper's store has and the state that it stands for.
-use Rattle.std.specs.Fmt.{decimal}
 use Rattle.std.specs.List.{list_any}
-use Rattle.std.specs.Prelude.{◌≡◌, ◌⊎◌, ◌++◌, ℕ, ◌==◌, List, [], Option, Some, None, Result, Ok, Err, codes, if◌then◌else◌, option_map, option_to_list, slice_get}
+use Rattle.std.specs.Prelude.{◌≡◌, ◌⊎◌, ℕ, ◌==◌, List, [], Option, Some, None, Result, Ok, Err, if◌then◌else◌, option_map, option_to_list, slice_get}
 use Rattle.dv_text.specs.Causes.{Rose}
 use Rattle.dv_text.specs.Keys.{DigestFunction, Hashes, hashes_of}
 use Rattle.dv_text.specs.Stamps.{stamp_of}
@@ -10,10 +9,11 @@ use Rattle.dv_catalog.specs.declared.map_error.MapError.{MapError}
 use Rattle.dv_catalog.specs.declared.tables.TableId.{TableId}
 use Rattle.dv_catalog.specs.Entries.{Mapping}
 use Rattle.dv_catalog.specs.MappingFiles.{read_mapping}
-use Rattle.dv_mart.specs.declared.query_rules.QueryRule.{QueryRule}
-use Rattle.dv_mart.specs.declared.query_rules.QueryRule.TheVariants.{UnknownMart, BadDate, TooLarge, Future, NoSnapshot, UnknownTable, SnapshotsFull, NothingOpen}
+use Rattle.dv_print.specs.declared.query_rules.QueryRule.{QueryRule}
+use Rattle.dv_print.specs.declared.query_rules.QueryRule.TheVariants.{UnknownMart, BadDate, TooLarge, Future, NoSnapshot, UnknownTable, SnapshotsFull, NothingOpen}
 use Rattle.dv_mart.specs.declared.whats.What.{What}
-use Rattle.dv_mart.specs.MartTexts.{mart_text, name_of_path}
+use Rattle.dv_mart.specs.MartTexts.{mart_text}
+use Rattle.dv_bridge.specs.Paths.{name_of_path}
 use Rattle.dv_print.specs.TableTexts.{table_text}
 use Rattle.dv_print.specs.Texts.{windows_text}
 use Rattle.dv_mart.specs.Whats.{hub_place, offered_mart, path_place, table_named}
@@ -36,12 +36,12 @@ use Rattle.dv_records.specs.States.{State, head_of}
 use Rattle.dv_records.specs.Steps.{InitStep, LoadStep, ResumeStep, SnapStep}
 use Rattle.dv_records.specs.Stores.{rows_in}
 use Rattle.dv_records.specs.Vault.{vault}
-use Rattle.dv_snapshots.specs.StoredTexts.{table_text as snap_text}
+use Rattle.dv_window.specs.StoredTexts.{table_text as snap_text}
 use Rattle.dv_restore.specs.Damages.{IsFirstDamage, IsInForm, IsNotRead, mapping_damage}
 use Rattle.dv_given.specs.Given.{absent_line, query_line, read_fault_line, refused_mapping_line}
 use Rattle.dv_given.specs.Lines.{damaged_line, differs_line, keeper_line, mapping_file, memory_line, none_line}
 use Rattle.dv_given.specs.Says.{IsReadFor}
-use Rattle.dv_given.specs.Tried.{Absent, Arrival, Broken, Brought, Tried, arrival, ended, mapping_bytes, refusal_text, window_line}
+use Rattle.dv_given.specs.Tried.{Absent, Arrival, Broken, Brought, Tried, arrival, ended, loaded_text, mapping_bytes, refusal_text, repeated_text, window_line}
 use Rattle.dv_app.specs.Lines.{kept_line, repeated_line, resumed_line, snapshot_line, stored_line}
 use Rattle.dv_app.specs.Places.{Places}
 use Rattle.dv_app.specs.Words.{KeptCommand, StoredTable, Init, Load, Resume, Mart, Table, Windows, Snapshot, Stored, Pit, Bridge}
@@ -74,8 +74,8 @@ init_said init.Memory = memory_said
 
 -- of the load of a manifest's window
 abbrev pub load_said : List ℕ → LoadAnswer → Tried
-load_said name (load.Loaded rows) = ended statuses.Done (window_line name (codes ": Loaded " ++ decimal rows))
-load_said name load.Repeated = ended statuses.Done (window_line name (codes ": Repeated"))
+load_said name (load.Loaded rows) = ended statuses.Done (window_line name (loaded_text rows))
+load_said name load.Repeated = ended statuses.Done (window_line name repeated_text)
 load_said name (load.Refused rule) = ended statuses.Refused (window_line name (refusal_text rule))
 load_said name (load.Damaged damage) = damaged_said damage
 load_said name load.KeeperFault = keeper_said

@@ -18,6 +18,7 @@ pub mod Replies
 pub mod Run
 pub mod Says
 pub mod Takings
+pub mod Texts
 pub mod Tried
 pub mod Words
 pub mod Works

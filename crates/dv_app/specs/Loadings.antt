@@ -8,7 +8,7 @@ use Rattle.dv_catalog.specs.Windows.{window_of}
 use Rattle.dv_catalog.specs.declared.windows.WindowIn.{WindowIn}
 use Rattle.dv_mart.specs.OfferedMarts.{IsOffered}
 use Rattle.dv_mart.specs.Whats.{what_of}
-use Rattle.dv_mart.specs.declared.query_rules.QueryRule.TheVariants.{UnknownMart}
+use Rattle.dv_print.specs.declared.query_rules.QueryRule.TheVariants.{UnknownMart}
 use Rattle.dv_outside.specs.Bytes.{after, GotPrefix}
 use Rattle.dv_outside.specs.Seen.{Seen}
 use Rattle.dv_outside.specs.declared.folders.NamedFile.{NamedFile}

@@ -4,7 +4,7 @@ use Rattle.std.specs.Prelude.{ℕ, ◌==◌, Bool, false, ◌||◌, List, [], �
 use Rattle.std.specs.Str.{bytes_eq}
 use Rattle.dv_crew.specs.declared.orders.Order.{Order}
 use Rattle.dv_crew.specs.declared.orders.Order.TheVariants.{Declared, Reverse}
-use Rattle.dv_mart.specs.Whats.{behind}
+use Rattle.dv_print.specs.Words.{behind}
 use Rattle.dv_given.specs.Numbers.{default_workers, workers_in}
 use Rattle.dv_app.specs.declared.options.Expected.{Expected}
 use Rattle.dv_app.specs.declared.options.Expected.TheVariants.{Any, Value, Positional}

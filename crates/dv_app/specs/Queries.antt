@@ -3,14 +3,14 @@ use Rattle.std.specs.Prelude.{◌≡◌, ℕ, List, None, Option, Result, Ok, Er
 use Rattle.dv_text.specs.Keys.{DigestFunction, hashes_of}
 use Rattle.dv_text.specs.Told.{Told}
 use Rattle.dv_catalog.specs.Entries.{Mapping}
-use Rattle.dv_mart.specs.declared.query_rules.QueryRule.TheVariants.{NoSnapshot, UnknownMart, UnknownTable}
+use Rattle.dv_print.specs.declared.query_rules.QueryRule.TheVariants.{NoSnapshot, UnknownMart, UnknownTable}
 use Rattle.dv_mart.specs.Whats.{offered_mart, table_named}
 use Rattle.dv_records.specs.declared.stores.Store.{Store}
 use Rattle.dv_window.specs.Offices.{Held}
 use Rattle.dv_given.specs.declared.endings.Ending.{Ending}
 use Rattle.dv_given.specs.declared.endings.Ending.TheVariants as endings
-use Rattle.dv_snapshots.specs.declared.stored.StoredFault.{StoredFault}
-use Rattle.dv_snapshots.specs.declared.stored.StoredFault.TheVariants as stored
+use Rattle.dv_window.specs.declared.stored.StoredFault.{StoredFault}
+use Rattle.dv_window.specs.declared.stored.StoredFault.TheVariants as stored
 use Rattle.dv_given.specs.Endings.{QueryEnds}
 use Rattle.dv_given.specs.Tried.{Tried}
 use Rattle.dv_app.specs.declared.replies.Reply.{Reply}

@@ -9,8 +9,8 @@ use Rattle.dv_catalog.specs.declared.rules.Rule.{Rule}
 use Rattle.dv_catalog.specs.declared.windows.WindowIn.{WindowIn}
 use Rattle.dv_mart.specs.MartTexts.{mart_text}
 use Rattle.dv_mart.specs.Whats.{what_of}
-use Rattle.dv_mart.specs.declared.query_rules.QueryRule.{QueryRule}
-use Rattle.dv_mart.specs.declared.query_rules.QueryRule.TheVariants.{UnknownMart, BadDate}
+use Rattle.dv_print.specs.declared.query_rules.QueryRule.{QueryRule}
+use Rattle.dv_print.specs.declared.query_rules.QueryRule.TheVariants.{UnknownMart, BadDate}
 use Rattle.dv_mart.specs.declared.whats.What.{What}
 use Rattle.dv_outside.specs.declared.folders.NamedFile.{NamedFile}
 use Rattle.dv_outside.specs.declared.statuses.Status.TheVariants as statuses

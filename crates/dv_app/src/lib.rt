@@ -18,6 +18,7 @@ mod replies;
 mod resumes;
 mod snapshots;
 mod stored_tables;
+mod texts;
 mod top;
 mod tries;
 mod words;

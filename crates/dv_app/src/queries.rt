@@ -13,10 +13,11 @@ ghost use Rattle.dv_app.specs.Queries.{IsAnswered, MartEnds, TableEnds};
 ghost use Rattle.dv_app.specs.Words as words;
 
 use crate::replies::Reply;
+use crate::texts::text_of;
 use dv_catalog::{Catalog, TableId};
-use dv_given::{Ending, check_date, text_of};
-use dv_mart::{QueryRule, What, whole_table_text};
-use dv_print::windows_text;
+use dv_given::{Ending, check_date};
+use dv_mart::{What, whole_table_text};
+use dv_print::{QueryRule, windows_text};
 use dv_text::{Duplicate, Memory, Text, WindowHead};
 use dv_vault::head;
 use dv_window::Office;

@@ -10,8 +10,9 @@ use crate::replies::{Reply, done, done_with};
 use crate::works::Work;
 use dv_catalog::Catalog;
 use dv_given::{Ending, check_date};
-use dv_mart::{QueryRule, What, too_large};
+use dv_mart::{What, too_large};
 use dv_outside::{Folder, Gate};
+use dv_print::QueryRule;
 use dv_records::{Keeper, SnapAnswer};
 use dv_text::{KeyDigest, Text};
 use dv_window::Office;
@@ -48,7 +49,7 @@ impl<R, F: Folder, K: Keeper, H: KeyDigest, G: Gate> Work<'_, '_, '_, '_, '_, R,
         ensures same { Same self.old self.new }
     {
         let date = check_date(date)?;
-        let answer = dv_snapshots::snapshot(alloc, office, self.keeper, date);
+        let answer = dv_window::snapshot(alloc, office, self.keeper, date);
         answered(alloc, office.catalog(), answer)
     }
 }

@@ -1,6 +1,6 @@
 // The commands `pit` and `bridge`: the text of a table of a stored snapshot.
 ghost use Rattle.std.specs.Prelude.{◌≡◌, IfErr, IfOk, Some};
-ghost use Rattle.dv_snapshots.specs.StoredTexts.{HasTable};
+ghost use Rattle.dv_window.specs.StoredTexts.{HasTable};
 ghost use Rattle.dv_app.specs.Kept.{stored_id};
 ghost use Rattle.dv_app.specs.Lent.{Same, places};
 ghost use Rattle.dv_app.specs.Openings.{IsOpen};
@@ -15,12 +15,11 @@ use crate::words::StoredTable;
 use crate::works::Work;
 use dv_catalog::Catalog;
 use dv_given::{Ending, check_date};
-use dv_mart::QueryRule;
 use dv_outside::{Folder, Gate};
+use dv_print::QueryRule;
 use dv_records::{Keeper, SnapId};
-use dv_snapshots::{StoredFault, stored_text};
 use dv_text::{KeyDigest, Stamp, Text};
-use dv_window::Office;
+use dv_window::{Office, StoredFault, stored_text};
 use std::alloc::Global;
 
 // The table that is asked for, by the place of its hub or its path.

@@ -9,10 +9,9 @@ ghost use Rattle.dv_app.specs.Says.{wanted, TrySays};
 
 use crate::loadings::{Loading, Tools, begin_loading, take};
 use crate::queries::check_what;
+use crate::texts::text_of;
 use crate::words::Asked;
-use dv_given::{
-    Ending, bring, check_date, end_command, read_mapping_file, status_of_windows, text_of,
-};
+use dv_given::{Ending, bring, check_date, end_command, read_mapping_file, status_of_windows};
 use dv_mart::What;
 use dv_outside::{Failed, Folder, Gate, Sink, Status, write_all};
 use dv_text::{KeyDigest, Stamp, Text};

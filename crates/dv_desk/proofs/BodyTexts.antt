@@ -1,13 +1,5 @@
 -- The bodies of replies as they are written.
-use Rattle.std.specs.Prelude.{◌≡◌, ℕ, List, ◌++◌, codes}
-use Rattle.std.specs.Fmt.{decimal}
-use Rattle.std.proofs.Common.{Global, String, append_assoc, rules, string_bytes}
-use Rattle.json.specs.Print.{quoted}
-use Rattle.serde_json.specs.Data.{Data, number, string, object, no_members, put, unsigned}
-use Rattle.serde_json.specs.View.{view}
-use Rattle.serde_json.specs.Written.{compact_text}
-use Rattle.serde_json.specs.declared.value.Value.{String as Text, the_lemmas}
-use Rattle.serde_json.proofs.OnLiterals.{serde_json_on_literals}
+use Rattle.dv_desk.proofs.Vocabulary.{Data, Global, List, String, Text, append_assoc, codes, compact_text, decimal, no_members, number, object, put, quoted, rules, serde_json_on_literals, string, string_bytes, the_lemmas, unsigned, view, ℕ, ◌++◌, ◌≡◌}
 
 -- the name of an answer, and what it tells more
 abbrev pub told : List ℕ → List ℕ → Data → Data

@@ -1,22 +1,9 @@
 -- How the serving of doors starts, and where it ends with a damage.
-use Rattle.std.specs.Prelude.{◌≡◌, ℕ, List, Option, None, Result, Ok, Err}
-use Rattle.std.proofs.Common.{inl, inr, refl, subst, sym, ◌∙◌}
-use Rattle.dv_text.specs.Causes.{HasCause, Rose}
-use Rattle.dv_text.specs.Keys.{DigestFunction, hashes_of}
-use Rattle.dv_text.specs.Told.{Told}
-use Rattle.dv_outside.specs.Ends.{Ends}
-use Rattle.dv_outside.specs.Seen.{Seen}
-use Rattle.dv_outside.specs.declared.folders.Failed.{Failed}
-use Rattle.dv_outside.specs.declared.statuses.Status.{Status}
+use Rattle.dv_desk.proofs.Vocabulary.{Damage, DigestFunction, Ends, EndsAs, EndsBy, EndsOrMemory, Err, Failed, HasCause, IsFaultOf, IsFirstDamage, IsNamedBySome, IsServeCause, List, None, Ok, Option, Result, Rose, Seen, StartFault, Status, Store, Told, ending_of_start, hashes_of, inl, inr, refl}
+use Rattle.dv_desk.proofs.Vocabulary.{subst, sym, ℕ, ◌∙◌, ◌≡◌}
 use Rattle.dv_outside.specs.declared.statuses.Status.TheVariants as statuses
-use Rattle.dv_given.specs.Endings.{EndsBy, EndsOrMemory, ending_of_start}
-use Rattle.dv_records.specs.declared.answers.Damage.{Damage}
-use Rattle.dv_records.specs.declared.stores.Store.{Store}
-use Rattle.dv_restore.specs.Damages.{IsFirstDamage, IsNamedBySome}
 use Rattle.dv_restore.specs.declared.faults.StoreFault.TheVariants as unread
-use Rattle.dv_restore.specs.declared.faults.StartFault.{StartFault}
 use Rattle.dv_restore.specs.declared.faults.StartFault.TheVariants as faults
-use Rattle.dv_desk.specs.Doors.{EndsAs, IsFaultOf, IsServeCause}
 
 -- why no office could be started
 pub fault_is : (function : DigestFunction) (store : Option Store) (before now : ℕ) (fault : StartFault) → (fault ≡ faults.NoMapping → Told store (λ s. s.mapping ≡ None))

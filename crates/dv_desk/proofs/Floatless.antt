@@ -1,12 +1,5 @@
 -- The windows as JSON have no float.
-use Rattle.std.specs.Prelude.{◌≡◌, ℕ, false, List, [], ◌∷◌, map, Option, Some, None}
-use Rattle.std.proofs.Common.{refl}
-use Rattle.serde_json.specs.Data.{Data}
-use Rattle.serde_json.specs.View.{items_of}
-use Rattle.serde_json.specs.Written.{has_float, items_have_float}
-use Rattle.dv_text.specs.declared.rows.WindowHead.{WindowHead}
-use Rattle.dv_catalog.specs.Entries.{Mapping}
-use Rattle.dv_desk.specs.Bodies.{begun_data, feed_data, head_data, heads_data}
+use Rattle.dv_desk.proofs.Vocabulary.{Data, List, Mapping, None, Option, Some, WindowHead, [], begun_data, false, feed_data, has_float, head_data, heads_data, items_have_float, items_of, map, refl, ℕ, ◌∷◌, ◌≡◌}
 
 items_floatless : {A : Type 0} (data_of : A → Data) → ((x : A) → has_float (data_of x) ≡ false) → (xs : List A) → items_have_float (items_of (map data_of xs)) ≡ false
 items_floatless data_of none [] = refl

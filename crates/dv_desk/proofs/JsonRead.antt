@@ -1,10 +1,5 @@
 -- The JSON that bytes are.
-use Rattle.std.specs.Prelude.{◌≡◌, ℕ, Bool, true, false, List, None}
-use Rattle.std.specs.Str.{IsUtf8, is_utf8}
-use Rattle.std.proofs.Common.{refl}
-use Rattle.std.proofs.lemmas.Str.{IsUtf8-from_is_utf8, is_utf8-from_IsUtf8}
-use Rattle.serde_json.specs.Read.{read}
-use Rattle.dv_desk.specs.Posted.{json_of}
+use Rattle.dv_desk.proofs.Vocabulary.{Bool, IsUtf8, IsUtf8-from_is_utf8, List, None, false, is_utf8, is_utf8-from_IsUtf8, json_of, read, refl, true, ℕ, ◌≡◌}
 
 -- what is no text is no JSON
 pub no_text : (bytes : List ℕ) → (IsUtf8 bytes → ⊥) → None ≡ json_of bytes

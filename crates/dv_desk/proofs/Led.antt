@@ -1,19 +1,6 @@
 -- Serving leads from states to states.
-use Rattle.std.specs.Prelude.{◌≡◌, ◌≤◌, ℕ, List, [], ◌∷◌, Option, Some, IsSome}
-use Rattle.std.proofs.Common.{refl, subst, sym, ◌∙◌}
-use Rattle.dv_text.specs.Keys.{DigestFunction, Hashes, hashes_of}
-use Rattle.dv_outside.specs.Lines.{Lines}
-use Rattle.dv_outside.specs.Seen.{Seen}
-use Rattle.dv_outside.specs.declared.statuses.Status.{Status}
-use Rattle.dv_records.specs.declared.stores.Store.{Store}
-use Rattle.dv_records.specs.Standing.{Stands}
-use Rattle.dv_records.specs.States.{State}
-use Rattle.dv_window.specs.Offices.{IsIn}
-use Rattle.dv_serving.specs.Doors.{ServesEach}
-use Rattle.dv_serving.specs.Exchanges.{Chain, Exchange}
-use Rattle.dv_desk.specs.Answers.{refusal}
-use Rattle.dv_desk.specs.Doors.{ServedDoors, ServesWith, Started, StandsThen, Tells}
-use Rattle.dv_desk.specs.Turns.{HasWidth, IsReplied, Moment}
+use Rattle.dv_desk.proofs.Vocabulary.{Chain, DigestFunction, Exchange, HasWidth, Hashes, IsIn, IsReplied, IsSome, Lines, List, Moment, Option, Seen, ServedDoors, ServesEach, ServesWith, Some, Stands, StandsThen, Started, State, Status, Store, Tells, [], hashes_of, refl, refusal, subst, sym, ℕ}
+use Rattle.dv_desk.proofs.Vocabulary.{◌∙◌, ◌∷◌, ◌≡◌, ◌≤◌}
 use Rattle.dv_desk.proofs.Talked.{leads_in_states, told_of}
 
 -- what stays from one moment to another

@@ -5,7 +5,9 @@ pub mod JsonRead
 pub mod Led
 pub mod Listed
 pub mod Read
+pub mod ServedAll
 pub mod Stamped
 pub mod Talked
 pub mod Turned
+pub mod Vocabulary
 pub mod WordSteps

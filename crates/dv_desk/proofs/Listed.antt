@@ -1,11 +1,5 @@
 -- A list that becomes JSON item by item.
-use Rattle.std.specs.Prelude.{◌≡◌, ℕ, ◌+◌, ◌<◌, ◌≤◌, List, [], ◌∷◌, ◌++◌, length, get_or, map, take}
-use Rattle.std.proofs.Common.{Global, Vec, ap, sym, ◌∙◌}
-use Rattle.std.proofs.lemmas.List.{map-append, take_all, take_more}
-use Rattle.serde_json.specs.Data.{Data, array}
-use Rattle.serde_json.specs.View.{items_of, view}
-use Rattle.serde_json.specs.declared.value.Value.{Array, Value}
-use Rattle.serde_json.proofs.Views.{view-Array}
+use Rattle.dv_desk.proofs.Vocabulary.{Array, Data, Global, List, Value, Vec, [], ap, array, get_or, items_of, length, map, map-append, sym, take, take_all, take_more, view, view-Array, ℕ, ◌++◌, ◌+◌, ◌<◌, ◌∙◌, ◌∷◌, ◌≡◌, ◌≤◌}
 
 module _ {A : Type 0} (data_of : A → Data) (xs : List A) (i : ℕ) where
   -- one more

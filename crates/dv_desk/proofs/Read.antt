@@ -1,50 +1,12 @@
 -- What is read of an office is what is due in the state that it stands for, and by its store.
-use Rattle.std.specs.List.{Contains, list_any}
-use Rattle.std.specs.Prelude.{◌≡◌, ◌↔◌, ◌≤◌, ℕ, ◌==◌, Bool, true, false, List, None, Option, Some, Result, Ok, Err, IfOk, IfSome, IsErrOf, if◌then◌else◌}
-use Rattle.std.proofs.Common.{ap, arith, inl, inr, refl, subst, sym, ◌∙◌}
-use Rattle.dv_text.proofs.Passing.{find_none, list_any-map, none_found_at, none_pass, none_passes}
-use Rattle.dv_text.specs.declared.rows.Window.{Window}
-use Rattle.dv_text.specs.Causes.{Rose}
-use Rattle.dv_text.specs.Told.{Told}
-use Rattle.dv_text.specs.Keys.{DigestFunction, Hashes, hashes_of}
-use Rattle.dv_text.specs.Stamps.{stamp_of}
-use Rattle.dv_bridge.proofs.ZeroKeys.{zero_keys}
-use Rattle.dv_bridge.specs.ZeroKeys.{HasZeroKeys}
-use Rattle.dv_catalog.specs.Entries.{Mapping}
-use Rattle.dv_catalog.specs.Tables.{tables}
-use Rattle.dv_catalog.specs.declared.tables.TableId.{TableId}
-use Rattle.dv_store_rules.proofs.Widths.{of_width}
-use Rattle.dv_mart.proofs.OfferedTables.{named_among}
-use Rattle.dv_mart.specs.MartTexts.{mart_text}
-use Rattle.dv_mart.specs.Whats.{hub_place, offered_mart, table_named}
-use Rattle.dv_mart.specs.declared.query_rules.QueryRule.{QueryRule}
-use Rattle.dv_mart.specs.declared.whats.What.{What}
-use Rattle.dv_records.specs.declared.snapshots.SnapHead.{SnapHead}
-use Rattle.dv_records.specs.declared.answers.Damage.{Damage}
-use Rattle.dv_records.specs.declared.snapshots.SnapId.{SnapId}
-use Rattle.dv_records.specs.declared.snapshots.SnapId.TheVariants.{Pit}
-use Rattle.dv_records.specs.declared.stores.Store.{Store}
-use Rattle.dv_records.specs.Snapshots.{pit, snapshot}
-use Rattle.dv_records.specs.States.{State}
-use Rattle.dv_records.specs.Stores.{rows_in}
-use Rattle.dv_snapshots.specs.declared.stored.StoredFault.{StoredFault}
-use Rattle.dv_snapshots.specs.declared.stored.StoredFault.TheVariants as stored
-use Rattle.dv_snapshots.specs.StoredRows.{head_at}
-use Rattle.dv_snapshots.specs.StoredTexts.{AreInNoState, IsRowOf, IsStoredDamage, table_text as snap_text}
-use Rattle.dv_restore.specs.Completions.{rows_there}
-use Rattle.dv_print.specs.TableTexts.{table_text}
-use Rattle.dv_print.specs.Texts.{pit_text}
-use Rattle.dv_vault.specs.Vaults.{HasSealed, RawVault, has_table}
+use Rattle.dv_desk.proofs.Vocabulary.{Answer, AreInNoState, Bool, CanReply, Contains, Damage, DigestFunction, Due, Err, HasSealed, HasZeroKeys, Hashes, Heads, Held, IfOk, IfSome, IsDue, IsErrOf, IsIn, IsPitAt, IsQuiet, IsReadAs, IsReadBy, IsReadCause, IsRowOf, IsStoredDamage, IsStoredFor, List}
+use Rattle.dv_desk.proofs.Vocabulary.{Looked, LookedBy, Mapping, MartAt, Moment, None, Ok, Option, Pit, PitAt, Query, QueryRule, RawVault, Read, ReadOffice, Result, Rose, SnapHead, SnapId, Some, State, Store, StoredFault, TableId, TableOf, Told, What, Window, answer_of_stored, ap, arith}
+use Rattle.dv_desk.proofs.Vocabulary.{bad_date, begun_load, due_by, false, find_none, has_table, hashes_of, head_at, heads_body, hub_place, if◌then◌else◌, inl, inr, list_any, list_any-map, made_stale, mart_at, mart_due, mart_for, mart_text, named_among, no_fault, none_found_at, none_pass}
+use Rattle.dv_desk.proofs.Vocabulary.{none_passes, of_width, offered_mart, or_memory, pit, pit_at, pit_due, pit_for, pit_text, refl, rows_in, rows_there, snap_text, snapshot, staged, stamp_of, stored_pit, subst, sym, table_for, table_named, table_text, tables, text_or, true, zero_keys, ℕ, ◌==◌}
+use Rattle.dv_desk.proofs.Vocabulary.{◌↔◌, ◌∙◌, ◌≡◌, ◌≤◌}
+use Rattle.dv_window.specs.declared.stored.StoredFault.TheVariants as stored
 pub use Rattle.dv_window.proofs.StartFacts.{none_of}
-use Rattle.dv_window.specs.Offices.{Held, IsIn, made_stale, staged}
-use Rattle.dv_desk.specs.declared.answers.Answer.{Answer}
 use Rattle.dv_desk.specs.declared.answers.Answer.TheVariants as answers
-use Rattle.dv_desk.specs.Bodies.{heads_body}
-use Rattle.dv_desk.specs.Queries.{begun_load, mart_at, mart_for, pit_at, pit_for, stored_pit, table_for, text_or}
-use Rattle.dv_desk.specs.Reads.{Due, IsPitAt, IsQuiet, IsReadAs, IsReadBy, IsReadCause, Looked, LookedBy, answer_of_stored, bad_date, due_by, mart_due, or_memory, pit_due}
-use Rattle.dv_desk.specs.Routes.{Heads, MartAt, PitAt, Query, Read, TableOf}
-use Rattle.dv_desk.specs.Turns.{CanReply, IsDue, IsStoredFor, Moment, ReadOffice}
-use Rattle.dv_snapshots.proofs.TableReads.{no_fault}
 
 -- ---- what needs the office alone
 

@@ -1,13 +1,6 @@
 -- The text of a stamp is UTF-8.
-use Rattle.std.specs.Prelude.{◌≡◌, ◌≢◌, ℕ, ◌+◌, ◌==◌, ◌/◌, ◌%◌, Bool, true, false, ◌&&◌, nat_lt, List, codes, Option, Some, None, if◌then◌else◌}
-use Rattle.std.specs.Char.{is_ascii_digit}
-use Rattle.std.specs.Str.Lossy.{utf8_lossy}
-use Rattle.std.proofs.Common.{arith, refl, ◌∙◌}
-use Rattle.std.proofs.lemmas.Bool.{and_parts}
-use Rattle.std.proofs.lemmas.Str.{utf8_lossy-IsUtf8}
-use Rattle.json.proofs.Printed.Utf8.{are_ascii, IsUtf8-are_ascii}
-use Rattle.dv_text.specs.Stamps.{has_form, open_end, stamp_in, stamp_of, stamp_text, text_of}
-use Rattle.dv_text.proofs.Forms.{form_parts}
+use Rattle.dv_desk.proofs.Vocabulary.{Bool, IsUtf8-are_ascii, List, None, Option, Some, and_parts, are_ascii, arith, codes, false, form_parts, has_form, if◌then◌else◌, is_ascii_digit, nat_lt, open_end, refl, stamp_in, stamp_of, stamp_text, text_of, true, utf8_lossy, utf8_lossy-IsUtf8, ℕ, ◌%◌}
+use Rattle.dv_desk.proofs.Vocabulary.{◌&&◌, ◌+◌, ◌/◌, ◌==◌, ◌∙◌, ◌≡◌, ◌≢◌}
 
 taken : (b : Bool) (found : Option ℕ) (n : ℕ) → (if b then found else None) ≡ Some n → b ≡ true
 taken true found n is = refl

@@ -1,26 +1,8 @@
 -- A talk in states: what is answered leads from a state to a state.
-use Rattle.std.specs.Prelude.{◌≡◌, ◌≤◌, ℕ, List, [], ◌∷◌, Option, Some, None, IsSome}
-use Rattle.std.proofs.Common.{ap, arith, refl, subst, sym, ◌∙◌}
-use Rattle.std.proofs.lemmas.Bool.{false≢true}
-use Rattle.dv_text.specs.Causes.{Rose}
-use Rattle.dv_text.specs.Keys.{DigestFunction, Hashes, hashes_of}
-use Rattle.dv_outside.specs.Seen.{NoFault}
-use Rattle.dv_catalog.specs.declared.rules.Rule.{Rule}
-use Rattle.dv_catalog.specs.declared.rules.Rule.TheVariants.{Late, OpenOther, TooLong, Differs, Collision}
-use Rattle.dv_http.specs.declared.replies.Reply.{Reply}
-use Rattle.dv_http.specs.declared.requests.Request.{Request}
-use Rattle.dv_records.specs.declared.stores.Store.{Store}
-use Rattle.dv_records.specs.States.{State}
-use Rattle.dv_window.specs.Offices.{IsIn, IsLeftIn}
-use Rattle.dv_serving.specs.Exchanges.{Chain, Exchange}
-use Rattle.dv_serving.specs.Serving.{ServesOn, Tells}
-use Rattle.dv_serving.specs.declared.served.Served.{Served}
-use Rattle.dv_desk.specs.declared.answers.Answer.{Answer}
+use Rattle.dv_desk.proofs.Vocabulary.{Answer, AreSure, Asked, Chain, Collision, Differs, DigestFunction, Exchange, HasWidth, Hashes, IsCauseOf, IsIn, IsLeftIn, IsReplied, IsSome, IsSure, Late, LeadsInStates, List, Moment, NoFault, None, OpenOther, Option, Reply, Request, Rose, Rule, Served}
+use Rattle.dv_desk.proofs.Vocabulary.{Serves, ServesOn, Some, StandsAs, State, Store, Talked, TalksIn, TooLong, [], ap, arith, false≢true, hashes_of, refl, refusal, status_of, status_of_rule, subst, sym, ℕ, ◌∙◌, ◌∷◌, ◌≡◌, ◌≤◌}
+use Rattle.dv_serving.specs.Serving.{Tells}
 use Rattle.dv_desk.specs.declared.answers.Answer.TheVariants as answers
-use Rattle.dv_desk.specs.Answers.{refusal, status_of, status_of_rule}
-use Rattle.dv_desk.specs.Routes.{Asked}
-use Rattle.dv_desk.specs.Serving.{AreSure, IsSure, LeadsInStates, Serves, StandsAs, Talked, TalksIn}
-use Rattle.dv_desk.specs.Turns.{HasWidth, IsCauseOf, IsReplied, Moment}
 
 -- what is told of
 pub told_of : {A : Type 0} (o : Option A) → IsSome o → (x : A) × (o ≡ Some x)
@@ -68,11 +50,11 @@ module _ (function : DigestFunction) where
 
   -- ---- the keeper's faults
 
-  chain_later : (exchanges : List Exchange) (before after : Moment) → Chain (IsReplied function) exchanges before after → before.faults ≤ after.faults
+  pub chain_later : (exchanges : List Exchange) (before after : Moment) → Chain (IsReplied function) exchanges before after → before.faults ≤ after.faults
   chain_later [] before after same = subst (λ (m : Moment). before.faults ≤ m.faults) (sym same) (omega arith)
   chain_later (exchange ∷ exchanges) before after (next, replied, chain) = omega (arith, replied.turn.later, chain_later exchanges next after chain)
 
-  rose_within : (first before now last : ℕ) → first ≤ before → now ≤ last → Rose before now → Rose first last
+  pub rose_within : (first before now last : ℕ) → first ≤ before → now ≤ last → Rose before now → Rose first last
   rose_within first before now last less more rose = omega (arith, less, more, rose)
 
   sure_rule : (rule : Rule) → status_of_rule rule ≡ 503 → ⊥

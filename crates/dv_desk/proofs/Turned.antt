@@ -1,39 +1,12 @@
 -- How a request that was answered is a turn.
-use Rattle.std.specs.Prelude.{◌≡◌, ◌⊎◌, ℕ, ◌≤◌, Bool, true, false, List, Option, IsSome, Result, Ok, Err}
-use Rattle.std.proofs.Common.{ap, arith, inl, inr, refl, subst, sym, ◌∙◌}
-use Rattle.std.proofs.lemmas.Bool.{false≢true}
-use Rattle.dv_text.specs.Causes.{Rose}
-use Rattle.dv_text.specs.Keys.{DigestFunction, Hashes, hashes_of}
-use Rattle.dv_text.specs.Told.{Told}
-use Rattle.dv_catalog.specs.Entries.{Mapping}
-use Rattle.dv_catalog.specs.declared.rules.Rule.TheVariants.{Manifest}
-use Rattle.dv_catalog.specs.declared.windows.WindowIn.{WindowIn}
-use Rattle.dv_http.specs.declared.replies.Reply.{Reply}
-use Rattle.dv_http.specs.declared.requests.Request.{Request}
-use Rattle.dv_records.specs.declared.answers.Damage.{Damage}
-use Rattle.dv_records.specs.declared.answers.LoadAnswer.{LoadAnswer}
+use Rattle.dv_desk.proofs.Vocabulary.{AgreesUnlessStale, Allowed, Answer, Answered, Asked, Bool, Came, CanReply, Damage, DigestFunction, Err, Faulty, Given, HasWidth, Hashes, Held, IsAllowed, IsAskedFor, IsCauseOf, IsDamageFor, IsDamageIn, IsIn, IsLeftIn, IsNamed, IsReadAs, IsReadCause}
+use Rattle.dv_desk.proofs.Vocabulary.{IsReplied, IsSome, IsSound, IsStoredDamage, IsStoredFor, IsThere, Leads, Leaves, LeavesOffice, LeavesStore, List, Load, LoadAnswer, LoadLeaves, LoadOffice, Manifest, Mapping, MayBe, Moment, NotAllowed, NotFound, NotJson, Ok, Option, PostSays, Posted, Query}
+use Rattle.dv_desk.proofs.Vocabulary.{Read, ReadOffice, Refreshed, RepliedTo, Reply, Request, Result, Rose, Said, Says, StaleAfter, StaleBy, State, StepsTo, Store, StoreBy, StoreFault, Told, WindowIn, answer_of, ap, arith, asked, came_of, false, false≢true, hashes_of, inl, inr, made_stale}
+use Rattle.dv_desk.proofs.Vocabulary.{posted, refl, reply_of, reply_text, subst, sym, true, unrefreshed, ℕ, ◌∙◌, ◌≡◌, ◌≤◌, ◌⊎◌}
 use Rattle.dv_records.specs.declared.answers.LoadAnswer.TheVariants as load
-use Rattle.dv_records.specs.declared.stores.Store.{Store}
-use Rattle.dv_records.specs.States.{State}
-use Rattle.dv_http.specs.Replies.{reply_text}
-use Rattle.dv_serving.specs.declared.steps.Came.{Came}
 use Rattle.dv_serving.specs.declared.steps.Came.TheVariants as came
-use Rattle.dv_serving.specs.Steps.{RepliedTo, Said, came_of}
-use Rattle.dv_snapshots.specs.StoredTexts.{IsStoredDamage}
-use Rattle.dv_restore.specs.Damages.{IsNamed}
-use Rattle.dv_restore.specs.declared.faults.StoreFault.{StoreFault}
 use Rattle.dv_restore.specs.declared.faults.StoreFault.TheVariants as faults
-use Rattle.dv_window.specs.Offices.{AgreesUnlessStale, Held, IsDamageFor, IsIn, IsLeftIn, LeavesOffice, LeavesStore, StaleAfter, StepsTo, made_stale}
-use Rattle.dv_desk.specs.declared.answers.Answer.{Answer}
 use Rattle.dv_desk.specs.declared.answers.Answer.TheVariants as answers
-use Rattle.dv_desk.specs.declared.routes.Allowed.{Allowed}
-use Rattle.dv_desk.specs.declared.posted.Posted.{Posted}
-use Rattle.dv_desk.specs.declared.posted.Posted.TheVariants.{NotJson, Faulty, Given}
-use Rattle.dv_desk.specs.Answers.{reply_of, unrefreshed}
-use Rattle.dv_desk.specs.Posted.{posted}
-use Rattle.dv_desk.specs.Reads.{IsReadAs, IsReadCause}
-use Rattle.dv_desk.specs.Routes.{Asked, Load, Query, Read, NotFound, NotAllowed, asked}
-use Rattle.dv_desk.specs.Turns.{Answered, CanReply, HasWidth, IsAllowed, IsAskedFor, IsCauseOf, IsDamageIn, IsReplied, IsSound, IsStoredFor, IsThere, Leads, Leaves, LoadLeaves, LoadOffice, MayBe, Moment, PostSays, ReadOffice, Refreshed, Says, StaleBy, StoreBy, answer_of}
 
 -- ---- what leaves the store
 

@@ -1,8 +1,5 @@
 -- The words behind a port.
-use Rattle.std.specs.Global.{Global}
-use Rattle.std.specs.Prelude.{◌≡◌, ◌≤◌, List, [], ◌∷◌, None, String, length, map, string_bytes}
-use Rattle.std.proofs.Common.{arith, refl}
-use Rattle.dv_desk.specs.ServeWords.{workers_said}
+use Rattle.dv_desk.proofs.Vocabulary.{Global, List, None, String, [], arith, length, map, refl, string_bytes, workers_said, ◌∷◌, ◌≡◌, ◌≤◌}
 
 -- three say no number of workers
 pub too_many : (words : List (String Global)) → 3 ≤ length words → None ≡ workers_said (map string_bytes words)

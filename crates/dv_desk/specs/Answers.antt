@@ -8,7 +8,7 @@ use Rattle.dv_http.specs.declared.replies.ReplyKind.{ReplyKind}
 use Rattle.dv_http.specs.declared.replies.ReplyKind.TheVariants.{Json, Csv}
 use Rattle.dv_http.specs.declared.requests.WireError.{WireError}
 use Rattle.dv_http.specs.declared.requests.WireError.TheVariants as errors
-use Rattle.dv_mart.specs.QueryTexts.{query_text}
+use Rattle.dv_print.specs.QueryTexts.{query_text}
 use Rattle.dv_restore.specs.declared.faults.StoreFault.{StoreFault}
 use Rattle.dv_restore.specs.declared.faults.StoreFault.TheVariants as faults
 use Rattle.dv_given.specs.Lines.{damage_text}

@@ -24,7 +24,7 @@ use Rattle.dv_given.specs.Endings.{EndsBy, ending_of_start}
 use Rattle.dv_given.specs.Lines.{read_fault_front}
 use Rattle.dv_serving.specs.Doors.{ServesDoors}
 pub use Rattle.dv_serving.specs.Serving.{Tells, tells}
-use Rattle.dv_desk.specs.Serving.{LeadsInStates}
+use Rattle.dv_desk.specs.Serving.{IsSurelyReplied, LeadsInStates}
 use Rattle.dv_desk.specs.Answers.{refusal}
 use Rattle.dv_desk.specs.Turns.{IsReplied, Moment}
 
@@ -125,7 +125,22 @@ IsServedOut statuses.Mapping = Unit {0}
 IsServedOut statuses.Damaged = Unit {0}
 IsServedOut result = ⊥
 
+-- with an office that was started connections were served until none was left, or as many were as may be, and each of their
+-- requests was answered, none of them that the keeper failed
+pub record ServedAll {L : Type 0} (function : DigestFunction) (tells : Tells L) (old new : Option (Lines L)) (store : Option Store) (result : Status) : Type 0 where
+  pub done : result ≡ statuses.Done
+  pub began : Moment
+  pub after : Moment
+  pub started : Started function store began
+  pub serves : ServesDoors (IsSurelyReplied function) refusal tells old new began after (Ok tt)
+
+-- so it ended, and over a store that stands for a state all were served
+pub record ServedOut {L : Type 0} (function : DigestFunction) (tells : Tells L) (old new : Option (Lines L)) (store : Option Store) (result : Status) : Type 0 where
+  pub ended : IsServedOut result
+  pub all : (mapping : Mapping) → StandsThen mapping (hashes_of function) store → ServedAll function tells old new store result
+
 -- with no fault of the doors, the keeper and the sink, and memory enough
-abbrev pub ServeCompletes : ℕ → ℕ → Seen Store → Seen (List ℕ) → Status → Type 0
-ServeCompletes before now kept err result =
-    NoFault before now → NoFault kept.before kept.now → NoFault err.before err.now → (result ≡ statuses.Memory → ⊥) → IsServedOut result
+abbrev pub ServeCompletes : {L : Type 0} → DigestFunction → Tells L → Option (Lines L) → Option (Lines L) → ℕ → ℕ → Seen Store → Seen (List ℕ) → Status → Type 0
+ServeCompletes function tells old new before now kept err result =
+    NoFault before now → NoFault kept.before kept.now → NoFault err.before err.now → (result ≡ statuses.Memory → ⊥)
+    → ServedOut function tells old new kept.old result

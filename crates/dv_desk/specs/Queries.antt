@@ -9,8 +9,8 @@ use Rattle.dv_catalog.specs.Entries.{Mapping}
 use Rattle.dv_catalog.specs.declared.tables.TableId.{TableId}
 use Rattle.dv_mart.specs.MartTexts.{mart_text}
 use Rattle.dv_mart.specs.Whats.{hub_place, offered_mart, table_named}
-use Rattle.dv_mart.specs.declared.query_rules.QueryRule.{QueryRule}
-use Rattle.dv_mart.specs.declared.query_rules.QueryRule.TheVariants.{BadDate}
+use Rattle.dv_print.specs.declared.query_rules.QueryRule.{QueryRule}
+use Rattle.dv_print.specs.declared.query_rules.QueryRule.TheVariants.{BadDate}
 use Rattle.dv_mart.specs.declared.whats.What.{What}
 use Rattle.dv_records.specs.declared.snapshots.SnapId.{SnapId}
 use Rattle.dv_records.specs.declared.snapshots.SnapId.TheVariants.{Pit}

@@ -3,15 +3,15 @@ use Rattle.std.specs.Prelude.{◌≡◌, ◌≤◌, ℕ, List, Some, Result, Ok,
 use Rattle.dv_text.specs.Causes.{Rose}
 use Rattle.dv_text.specs.Keys.{DigestFunction, Hashes, hashes_of}
 use Rattle.dv_text.specs.Told.{Told}
-use Rattle.dv_mart.specs.declared.query_rules.QueryRule.TheVariants.{BadDate}
+use Rattle.dv_print.specs.declared.query_rules.QueryRule.TheVariants.{BadDate}
 use Rattle.dv_mart.specs.declared.whats.What.{What}
 use Rattle.dv_records.specs.declared.snapshots.SnapId.{SnapId}
 use Rattle.dv_records.specs.declared.snapshots.SnapId.TheVariants.{Pit}
 use Rattle.dv_records.specs.declared.stores.Store.{Store}
 use Rattle.dv_records.specs.States.{State}
-use Rattle.dv_snapshots.specs.declared.stored.StoredFault.{StoredFault}
-use Rattle.dv_snapshots.specs.declared.stored.StoredFault.TheVariants as stored
-use Rattle.dv_snapshots.specs.StoredTexts.{IsRowOf, IsStoredDamage}
+use Rattle.dv_window.specs.declared.stored.StoredFault.{StoredFault}
+use Rattle.dv_window.specs.declared.stored.StoredFault.TheVariants as stored
+use Rattle.dv_window.specs.StoredTexts.{IsRowOf, IsStoredDamage}
 use Rattle.dv_window.specs.Offices.{Agrees, Held, IsIn, StandsFor}
 use Rattle.dv_desk.specs.declared.answers.Answer.{Answer}
 use Rattle.dv_desk.specs.declared.answers.Answer.TheVariants as answers

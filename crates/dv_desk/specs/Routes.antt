@@ -3,7 +3,7 @@ use Rattle.std.specs.Prelude.{ℕ, List, [], ◌∷◌, Option, Some, None, code
 use Rattle.std.specs.Str.{bytes_eq}
 use Rattle.dv_catalog.specs.FirstOf.{first_of}
 use Rattle.dv_http.specs.declared.requests.Request.{Request}
-use Rattle.dv_mart.specs.Whats.{behind}
+use Rattle.dv_print.specs.Words.{behind}
 use Rattle.dv_desk.specs.declared.routes.Route.{Route as Found}
 use Rattle.dv_desk.specs.declared.routes.Route.TheVariants as found
 use Rattle.dv_desk.specs.declared.routes.Asked.{Asked as Given}

@@ -1,7 +1,7 @@
 -- The words behind `serve`.
 use Rattle.std.specs.Prelude.{ℕ, List, [], ◌∷◌, Option, Some, None, codes, option_and_then, option_map, if◌then◌else◌}
 use Rattle.std.specs.Str.{bytes_eq}
-use Rattle.dv_mart.specs.Whats.{behind}
+use Rattle.dv_print.specs.Words.{behind}
 use Rattle.dv_given.specs.Numbers.{default_workers, number_in, workers_in}
 use Rattle.dv_desk.specs.declared.words.ServeWords.{ServeWords}
 

@@ -8,10 +8,12 @@ use Rattle.dv_records.specs.Standing.{Stands}
 use Rattle.dv_records.specs.States.{State}
 use Rattle.dv_window.specs.Offices.{IsIn}
 use Rattle.dv_http.specs.declared.replies.Reply.{Reply}
+use Rattle.dv_http.specs.declared.requests.Request.{Request}
 use Rattle.dv_serving.specs.Exchanges.{Chain, Exchange}
-use Rattle.dv_serving.specs.Serving.{ServesOn, Tells}
+use Rattle.dv_serving.specs.Serving.{IsServedWhole, ServesOn, Tells}
 use Rattle.dv_serving.specs.declared.served.Served.{Served}
 use Rattle.dv_desk.specs.declared.answers.Answer.{Answer}
+use Rattle.dv_desk.specs.declared.answers.Answer.TheVariants as answers
 use Rattle.dv_desk.specs.Answers.{refusal, reply_of}
 use Rattle.dv_desk.specs.Routes.{asked}
 use Rattle.dv_desk.specs.Turns.{HasWidth, IsReplied, Moment, Says}
@@ -72,3 +74,16 @@ LeadsInStates function =
 pub record Serves {L : Type 0} (function : DigestFunction) (tells : Tells L) (line back : L) (before after : Moment) (how : Served) : Type 0 where
   pub served : ServesOn (IsReplied function) refusal tells line back before after how
   pub states : InStates function served.exchanges before after
+
+-- ---- completeness
+
+-- a request is answered, and not that the keeper failed
+pub record IsSurelyReplied (function : DigestFunction) (before : Moment) (request : Request) (reply : Reply) (after : Moment) : Type 0 where
+  pub replied : IsReplied function before request reply after
+  pub sure : replied.answer ≡ answers.Keeper → ⊥
+
+-- all that was taken of a connection was answered, and each reply was written whole; where the keeper's count of faults did not
+-- rise, none of them was that it failed
+pub record ServesWhole {L : Type 0} (function : DigestFunction) (tells : Tells L) (line back : L) (before after : Moment) (how : Served) : Type 0 where
+  pub whole : IsServedWhole how
+  pub sure : NoFault before.faults after.faults → ServesOn (IsSurelyReplied function) refusal tells line back before after how

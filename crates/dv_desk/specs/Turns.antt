@@ -15,7 +15,7 @@ use Rattle.dv_records.specs.declared.snapshots.SnapId.{SnapId}
 use Rattle.dv_records.specs.declared.stores.Store.{Store}
 use Rattle.dv_records.specs.States.{State}
 use Rattle.dv_records.specs.Steps.{LoadStep}
-use Rattle.dv_snapshots.specs.StoredTexts.{IsRowOf, IsStoredDamage}
+use Rattle.dv_window.specs.StoredTexts.{IsRowOf, IsStoredDamage}
 use Rattle.dv_restore.specs.Damages.{IsNamed}
 use Rattle.dv_window.specs.Offices.{AgreesUnlessStale, Held, IsDamageFor, IsIn, IsLeftIn, LeavesStore, made_stale}
 use Rattle.dv_desk.specs.declared.answers.Answer.{Answer}

@@ -7,7 +7,7 @@ use crate::routes::Allowed;
 use dv_catalog::{Rule, rule_text};
 use dv_given::damage_text;
 use dv_http::{Reply, ReplyKind, WireError};
-use dv_mart::QueryRule;
+use dv_print::QueryRule;
 use dv_records::{Damage, LoadAnswer};
 use dv_restore::StoreFault;
 use dv_text::{Memory, Text};

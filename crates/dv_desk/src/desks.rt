@@ -9,9 +9,8 @@ use dv_catalog::Rule;
 use dv_http::Request;
 use dv_outside::Gate;
 use dv_records::{Keeper, SnapId};
-use dv_snapshots::stored_text;
 use dv_text::{KeyDigest, Memory, Stamp};
-use dv_window::{Office, Order, workers_for};
+use dv_window::{Office, Order, stored_text, workers_for};
 use std::alloc::Global;
 use std::thread::Threads;
 

@@ -46,8 +46,8 @@ pub fn serve<R: Threads + Sync, D: Doors, K: Keeper, E: Sink, H: KeyDigest, G: G
         (seen K.store K.faults keeper.old keeper.new) (seen E.contents E.faults err.old err.new) result }
 
     // With no fault of the doors, the keeper and the sink, and memory enough, all connections were served, or no office could be
-    // started by what is stored.
-    ensures complete { ServeCompletes (D.faults doors.old) (D.faults doors.new)
+    // started by what is stored; over a store that stands for a state all were, and no answer was that the keeper failed.
+    ensures complete { ServeCompletes H.function (tells D.Line.Link) (D.lines doors.old) (D.lines doors.new) (D.faults doors.old) (D.faults doors.new)
         (seen K.store K.faults keeper.old keeper.new) (seen E.contents E.faults err.old err.new) result }
 
     // A store that stands for a state is never called damaged.

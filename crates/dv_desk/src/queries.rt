@@ -11,10 +11,10 @@ ghost use Rattle.dv_desk.specs.Routes.{Heads, MartAt, TableOf};
 use crate::answers::Answer;
 use crate::bodies::heads_body;
 use dv_catalog::{Catalog, TableId};
-use dv_mart::{MartFault, QueryRule, What, mart_text, too_large, whole_table_text};
-use dv_snapshots::StoredFault;
+use dv_mart::{MartFault, What, mart_text, too_large, whole_table_text};
+use dv_print::QueryRule;
 use dv_text::{Memory, Stamp, Text};
-use dv_window::Office;
+use dv_window::{Office, StoredFault};
 use std::alloc::Global;
 
 /// What was answered, or that memory ran out.

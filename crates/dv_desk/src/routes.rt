@@ -1,6 +1,6 @@
 // What a request asks for.
 ghost use Rattle.std.specs.Prelude.{◌≡◌, option_map};
-ghost use Rattle.dv_mart.specs.Whats.{behind as behind_front};
+ghost use Rattle.dv_print.specs.Words.{behind as behind_front};
 ghost use Rattle.dv_desk.specs.Routes.{asked as asked_of, asked_as, asked_at, date_of as date_asked, mart_route, pit_route, route_as, route_of, table_route, windows_asked};
 
 use dv_http::Request;

@@ -15,7 +15,7 @@ use Rattle.dv_records.specs.declared.stores.Store.{Store}
 use Rattle.dv_given.specs.Lines.{usage_line}
 use Rattle.dv_app.specs.Run.{HadAll, IsApart, IsRunCause, RunCompletes, RunSays}
 use Rattle.dv_app.specs.Words.{asked_of as command_of}
-use Rattle.dv_desk.specs.Doors.{IsServeCause, IsServedOut, ServeSays, Tells, tells}
+use Rattle.dv_desk.specs.Doors.{IsServeCause, ServeSays, ServedOut, Tells, tells}
 use Rattle.dv_desk.specs.ServeWords.{serve_words}
 use Rattle.dv_desk.specs.declared.words.ServeWords.{ServeWords}
 use Rattle.dv_program.specs.declared.programs.Asked.{Asked as Given}
@@ -93,10 +93,11 @@ IsCause words doors w result = IsCauseFor words (asked_of words) doors w result
 -- ---- completeness
 
 -- with no fault and memory enough, a command does all that the definitions say, and serving ends where no connection is
--- left or could not begin by what is stored
+-- left or could not begin by what is stored, which no store does that stands for a state
 abbrev pub AskedCompletes : {L : Type 0} → List (String Global) → Asked → DigestFunction → Opened L → World Store → Status → Type 0
 AskedCompletes words Runs function doors w result = RunCompletes words function w result
-AskedCompletes words (Serves given) function doors w result = NoFault doors.before doors.now → HadAll w result → IsServedOut result
+AskedCompletes words (Serves given) function doors w result =
+    NoFault doors.before doors.now → HadAll w result → ServedOut function doors.tells doors.old doors.new w.keeper.old result
 AskedCompletes words Misused function doors w result = HadAll w result → result ≡ statuses.Usage
 
 abbrev pub Completes : {L : Type 0} → List (String Global) → DigestFunction → Opened L → World Store → Status → Type 0

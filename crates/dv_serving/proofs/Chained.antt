@@ -1,16 +1,6 @@
 -- One more exchange behind others.
-use Rattle.std.specs.List.{list_any}
-use Rattle.std.specs.Prelude.{◌≡◌, ℕ, Bool, true, false, ◌||◌, List, [], ◌∷◌, ◌++◌, Option, Some, Ok}
-use Rattle.std.proofs.Common.{ap, append_assoc, refl, subst, sym, ◌∙◌}
-use Rattle.std.proofs.lemmas.List.{append-nil}
-use Rattle.dv_outside.proofs.Told.{after-after}
-use Rattle.dv_outside.specs.Bytes.{after as with_bytes}
-use Rattle.dv_http.specs.Requests.{Takes}
-use Rattle.dv_http.specs.declared.replies.Reply.{Reply}
-use Rattle.dv_http.specs.declared.requests.Request.{Request}
-use Rattle.dv_serving.specs.Exchanges.{AreOpen, Chain, Exchange, is_last, replied, replies}
-use Rattle.dv_serving.specs.Serving.{StandIn, WroteAll, WroteFront}
-use Rattle.dv_serving.specs.Writing.{GotPart}
+use Rattle.dv_serving.proofs.Vocabulary.{AreOpen, Bool, Chain, Exchange, GotPart, List, Ok, Option, Reply, Request, Some, StandIn, Takes, WroteAll, WroteFront, [], after-after, ap, append-nil, append_assoc, false, is_last, list_any, refl, replied, replies, subst, sym, true, with_bytes, ℕ, ◌++◌}
+use Rattle.dv_serving.proofs.Vocabulary.{◌||◌, ◌∙◌, ◌∷◌, ◌≡◌}
 
 pub stand_more : (input all others : Option (List ℕ)) (exchanges : List Exchange) (exchange : Exchange) → StandIn input exchanges all → Takes all others (Ok (Some exchange.request))
     → StandIn input (exchanges ++ exchange ∷ []) others

@@ -1,15 +1,6 @@
 -- How the connections of doors follow one another.
-use Rattle.std.specs.Prelude.{◌≡◌, ℕ, ◌+◌, ◌≤◌, List, [], ◌∷◌, ◌++◌, length, Option, Some, None, IfSome, Result}
-use Rattle.std.proofs.Common.{ap, append_assoc, arith, length-append, refl, subst, sym, ◌∙◌}
-use Rattle.std.proofs.lemmas.List.{append-nil}
-use Rattle.dv_outside.specs.Lines.{GivesNext, Lines, with_back}
-use Rattle.dv_outside.specs.declared.folders.Failed.{Failed}
-use Rattle.dv_http.specs.declared.replies.Reply.{Reply}
-use Rattle.dv_http.specs.declared.requests.Request.{Request}
-use Rattle.dv_http.specs.declared.requests.WireError.{WireError}
-use Rattle.dv_serving.specs.declared.served.Served.{Served}
-use Rattle.dv_serving.specs.Doors.{DoorsEnd, Passes, PassesTold, ServesDoors, ServesEach, ServesLine, most_lines}
-use Rattle.dv_serving.specs.Serving.{Tells}
+use Rattle.dv_serving.proofs.Vocabulary.{DoorsEnd, Failed, GivesNext, IfSome, Lines, List, None, Option, Passes, PassesTold, Reply, Request, Result, Served, ServesDoors, ServesEach, ServesLine, Some, Tells, WireError, [], ap, append-nil, append_assoc, arith, length, length-append, most_lines}
+use Rattle.dv_serving.proofs.Vocabulary.{refl, subst, sym, with_back, ℕ, ◌++◌, ◌+◌, ◌∙◌, ◌∷◌, ◌≡◌, ◌≤◌}
 
 module _ {L M : Type 0} (turn : M → Request → Reply → M → Type 0) (refusal : WireError → Option Reply) (tells : Tells L) where
   -- one more connection is served behind others

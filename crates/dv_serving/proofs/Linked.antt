@@ -1,20 +1,9 @@
 -- How the requests of a connection follow one another.
-use Rattle.std.specs.Prelude.{◌≡◌, ◌⊎◌, ℕ, ◌+◌, ◌<◌, List, [], ◌∷◌, ◌++◌, length, Option, Some, None, IfSome}
-use Rattle.std.proofs.Common.{arith, inl, inr, length-append, refl, subst, sym, ◌∙◌}
-use Rattle.dv_outside.proofs.Told.{after-nil}
-use Rattle.dv_outside.specs.Bytes.{in_front}
-use Rattle.dv_http.specs.Replies.{reply_text}
-use Rattle.dv_http.specs.declared.replies.Reply.{Reply}
-use Rattle.dv_http.specs.declared.requests.Request.{Request}
-use Rattle.dv_http.specs.declared.requests.WireError.{WireError}
-use Rattle.dv_serving.specs.declared.served.Served.{Served}
-use Rattle.dv_serving.specs.declared.served.Served.TheVariants as served
-use Rattle.dv_serving.specs.declared.steps.Came.{Came}
-use Rattle.dv_serving.specs.declared.steps.Came.TheVariants as came
-use Rattle.dv_serving.specs.Exchanges.{AreOpen, Chain, Exchange, replied}
-use Rattle.dv_serving.specs.Serving.{Ends, GoOn, IsLeftOf, ServesLink, StandIn, WroteAll, most_requests}
-use Rattle.dv_serving.specs.Steps.{Answered, BreaksRefusal, BreaksReply, Comes, Nothing, Unsaid, end_with}
+use Rattle.dv_serving.proofs.Vocabulary.{Answered, AreOpen, BreaksRefusal, BreaksReply, Came, Chain, Comes, Ends, Exchange, GoOn, IfSome, IsLeftOf, List, None, Nothing, Option, Reply, Request, Served, ServesLink, Some, StandIn, Unsaid, WireError, WroteAll, [], after-nil, arith, end_with}
+use Rattle.dv_serving.proofs.Vocabulary.{in_front, inl, inr, length, length-append, most_requests, refl, replied, reply_text, subst, sym, ℕ, ◌++◌, ◌+◌, ◌<◌, ◌∙◌, ◌∷◌, ◌≡◌, ◌⊎◌}
 use Rattle.dv_serving.proofs.Chained.{chain_more, open_more, stand_more, wrote_behind, wrote_front, wrote_more}
+use Rattle.dv_serving.specs.declared.served.Served.TheVariants as served
+use Rattle.dv_serving.specs.declared.steps.Came.TheVariants as came
 
 -- so many requests were taken and answered, none of them the last one, and all replies were written whole
 pub record Going {M : Type 0} (turn : M → Request → Reply → M → Type 0) (input all old new : Option (List ℕ)) (before now : M) (count : ℕ) : Type 0 where

@@ -1,17 +1,7 @@
 -- What comes of one request, by what was taken and what was written.
-use Rattle.std.specs.Prelude.{◌≡◌, ℕ, Bool, true, false, List, Option, Some, None, IfOk, Result, Ok, Err}
-use Rattle.std.proofs.Common.{inl, inr, refl, sym}
-use Rattle.dv_outside.specs.Bytes.{after as with_bytes, in_front}
-use Rattle.dv_http.specs.Replies.{reply_text}
-use Rattle.dv_http.specs.Requests.{Takes, Waited}
-use Rattle.dv_http.specs.declared.replies.Reply.{Reply}
-use Rattle.dv_http.specs.declared.requests.Request.{Request}
-use Rattle.dv_http.specs.declared.requests.WireError.{WireError}
+use Rattle.dv_serving.proofs.Vocabulary.{Answered, Bool, Came, Comes, Err, Exchange, IfOk, List, None, Ok, Option, Refused, RepliedTo, Reply, Request, Result, Said, Some, Takes, Waited, WireError, came_of, false, in_front, inl, inr, quiet, refl, reply_text, sym, true, with_bytes, ℕ, ◌≡◌}
 use Rattle.dv_http.specs.declared.requests.WireError.TheVariants as errors
-use Rattle.dv_serving.specs.declared.steps.Came.{Came}
 use Rattle.dv_serving.specs.declared.steps.Came.TheVariants as came
-use Rattle.dv_serving.specs.Exchanges.{Exchange}
-use Rattle.dv_serving.specs.Steps.{Answered, Comes, Refused, RepliedTo, Said, came_of, quiet}
 
 module _ {M : Type 0} (turn : M → Request → Reply → M → Type 0) (refusal : WireError → Option Reply) (all : Option (List ℕ)) (front : List ℕ) (left old new : Option (List ℕ)) (before after : M) where
   abbrev others : Option (List ℕ)

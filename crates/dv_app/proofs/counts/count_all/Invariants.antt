@@ -1,5 +1,4 @@
-use Rattle.std.specs.Prelude.{◌≡◌, sum_by, take}
-use Rattle.dv_app.specs.Exercised.{table_count}
+use Rattle.dv_app.proofs.Vocabulary.{sum_by, table_count, take, ◌≡◌}
 use Rattle.dv_app.proofs.counts.count_all.Given as goal
 
 -- the rows of the tables so far

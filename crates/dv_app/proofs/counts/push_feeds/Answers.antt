@@ -1,5 +1,5 @@
+use Rattle.dv_app.proofs.Vocabulary.{feed_line}
 use Rattle.dv_app.proofs.GeneratedSteps.{numbered_part}
-use Rattle.dv_app.specs.Exercised.{feed_line}
 use Rattle.dv_app.proofs.counts.push_feeds.Goals as goal
 
 pub loop-feed-preserved : goal.loop-feed-preserved

@@ -1,6 +1,4 @@
-use Rattle.dv_app.proofs.Vocabulary.{Hashes, HasSealed, List, Window, ◌++◌, ◌≡◌}
-use Rattle.std.specs.List.{flat_map, range_with_len}
-use Rattle.dv_app.specs.Exercised.{feed_line}
+use Rattle.dv_app.proofs.Vocabulary.{HasSealed, Hashes, List, Window, feed_line, flat_map, range_with_len, ◌++◌, ◌≡◌}
 use Rattle.dv_app.proofs.counts.push_feeds.Given as goal
 
 -- the lines of the feeds so far

@@ -1,6 +1,4 @@
-use Rattle.dv_app.proofs.Vocabulary.{Mapping, subst, sym, true, ◌≡◌}
-use Rattle.dv_catalog.specs.TableLookups.{is_table_of}
-use Rattle.dv_mart.proofs.VaultMarts.{of_mapping}
+use Rattle.dv_app.proofs.Vocabulary.{Mapping, is_table_of, of_mapping, subst, sym, true, ◌≡◌}
 use Rattle.dv_app.proofs.counts.push_table.Goals as goal
 
 pub table_name-requires : goal.table_name-requires

@@ -1,6 +1,4 @@
-use Rattle.std.specs.Prelude.{◌≡◌, ◌++◌, take}
-use Rattle.std.specs.List.{flat_map}
-use Rattle.dv_app.specs.Exercised.{table_line}
+use Rattle.dv_app.proofs.Vocabulary.{flat_map, table_line, take, ◌++◌, ◌≡◌}
 use Rattle.dv_app.proofs.counts.push_tables.Given as goal
 
 -- the lines of the tables so far

@@ -1,7 +1,4 @@
-use Rattle.dv_app.proofs.Vocabulary.{subst}
-use Rattle.std.specs.Prelude.{Contains}
-use Rattle.dv_catalog.specs.Tables.{tables}
-use Rattle.dv_mart.proofs.VaultMarts.{hub_within, link_within, status_within}
+use Rattle.dv_app.proofs.Vocabulary.{Contains, hub_within, link_within, status_within, subst, tables}
 use Rattle.dv_app.proofs.counts.table_count.Goals as goal
 
 pub hub-requires : goal.hub-requires

@@ -1,5 +1,4 @@
-use Rattle.dv_app.proofs.Vocabulary.{arith, hashes_of, subst, ◌≡◌}
-use Rattle.dv_app.specs.Exercised.{HasTaken}
+use Rattle.dv_app.proofs.Vocabulary.{HasTaken, arith, hashes_of, subst, ◌≡◌}
 use Rattle.dv_app.proofs.exercises.load_all.Goals as goal
 
 pub returns : goal.returns

@@ -1,5 +1,4 @@
-use Rattle.dv_app.proofs.Vocabulary.{hashes_of}
-use Rattle.dv_app.specs.Exercised.{HasTaken}
+use Rattle.dv_app.proofs.Vocabulary.{HasTaken, hashes_of}
 use Rattle.dv_app.proofs.exercises.load_all.Given as goal
 
 -- the windows so far are taken

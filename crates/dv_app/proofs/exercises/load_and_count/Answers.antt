@@ -1,5 +1,4 @@
-use Rattle.dv_app.proofs.Vocabulary.{hashes_of}
-use Rattle.dv_mart.proofs.Vocabulary.{IfOk-weaker}
+use Rattle.dv_app.proofs.Vocabulary.{IfOk-weaker, hashes_of}
 use Rattle.dv_app.proofs.ExerciseSteps.{counts_so, exercised_so, kinds_so}
 use Rattle.dv_app.proofs.exercises.load_and_count.Goals as goal
 

@@ -1,5 +1,4 @@
-use Rattle.dv_app.proofs.Vocabulary.{hashes_of}
-use Rattle.dv_app.specs.Exercised.{state_behind}
+use Rattle.dv_app.proofs.Vocabulary.{hashes_of, state_behind}
 use Rattle.dv_app.proofs.ExerciseSteps.{one_more}
 use Rattle.dv_app.proofs.exercises.load_generated.Goals as goal
 

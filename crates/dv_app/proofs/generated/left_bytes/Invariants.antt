@@ -1,6 +1,4 @@
-use Rattle.std.specs.Prelude.{◌≡◌, ◌++◌, codes}
-use Rattle.std.specs.List.{flat_map, range_with_len}
-use Rattle.dv_app.specs.Generated.{left_line}
+use Rattle.dv_app.proofs.Vocabulary.{codes, flat_map, left_line, range_with_len, ◌++◌, ◌≡◌}
 use Rattle.dv_app.proofs.generated.left_bytes.Given as goal
 
 -- the records of the items so far

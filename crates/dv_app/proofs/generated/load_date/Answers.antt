@@ -1,6 +1,4 @@
-use Rattle.std.proofs.Common.{arith}
-use Rattle.std.proofs.lemmas.Int.{ints}
-use Rattle.dv_app.specs.Generated.{load_date}
+use Rattle.dv_app.proofs.Vocabulary.{arith, ints, load_date}
 use Rattle.dv_app.proofs.GeneratedSteps.{load_date_known}
 use Rattle.dv_app.proofs.generated.load_date.Goals as goal
 

@@ -1,5 +1,4 @@
-use Rattle.std.specs.Prelude.{codes}
-use Rattle.dv_app.specs.Generated.{right_line}
+use Rattle.dv_app.proofs.Vocabulary.{codes, right_line}
 use Rattle.dv_app.proofs.GeneratedSteps.{numbered_part}
 use Rattle.dv_app.proofs.generated.right_bytes.Goals as goal
 

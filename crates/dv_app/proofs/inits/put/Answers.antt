@@ -1,8 +1,6 @@
-use Rattle.dv_given.proofs.Vocabulary.{Err, ap, arith, refl, subst, ◌∙◌}
-use Rattle.dv_records.specs.declared.keepers.KeeperError.TheVariants as errors
-use Rattle.dv_records.specs.Changes.{Changes, changed}
-use Rattle.dv_records.specs.Stores.{with_mapping}
+use Rattle.dv_app.proofs.Vocabulary.{Changes, Err, ap, arith, changed, refl, subst, with_mapping, ◌∙◌}
 use Rattle.dv_app.proofs.InitSteps.{fault_settled, memory_settled, stored_settled}
+use Rattle.dv_records.specs.declared.keepers.KeeperError.TheVariants as errors
 use Rattle.dv_app.proofs.inits.put.Goals as goal
 
 pub returns-in_default : goal.returns-in_default

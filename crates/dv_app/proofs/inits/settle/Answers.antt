@@ -1,10 +1,4 @@
-use Rattle.std.specs.Prelude.{Option}
-use Rattle.std.proofs.Common.{subst, sym, ◌∙◌}
-use Rattle.dv_given.proofs.Vocabulary.{err_from_is_err_and}
-use Rattle.dv_catalog.specs.Entries.{Mapping}
-use Rattle.dv_outside.specs.Seen.{seen}
-use Rattle.dv_restore.specs.Damages.{IsMappedAs}
-use Rattle.dv_window.proofs.StartFacts.{read_as}
+use Rattle.dv_app.proofs.Vocabulary.{IsMappedAs, Mapping, Option, err_from_is_err_and, read_as, seen, subst, sym, ◌∙◌}
 use Rattle.dv_app.proofs.InitSteps.{compared_settled, fault_of, settled_since}
 use Rattle.dv_app.proofs.inits.settle.Goals as goal
 

@@ -1,4 +1,4 @@
-use Rattle.dv_given.proofs.Vocabulary.{refl}
+use Rattle.dv_app.proofs.Vocabulary.{refl}
 use Rattle.dv_app.proofs.LoadSteps.{gave_rule, gave_window}
 use Rattle.dv_app.proofs.loads.give.Goals as goal
 

@@ -1,5 +1,4 @@
-use Rattle.dv_given.proofs.Vocabulary.{err_from_is_err_and, ◌∙◌}
-use Rattle.dv_outside.specs.Seen.{seen}
+use Rattle.dv_app.proofs.Vocabulary.{err_from_is_err_and, seen, ◌∙◌}
 use Rattle.dv_app.proofs.OpenSteps.{unstarted}
 use Rattle.dv_app.proofs.openings.open_office.Goals as goal
 

@@ -1,4 +1,4 @@
-use Rattle.dv_given.proofs.Vocabulary.{sym, ◌∙◌}
+use Rattle.dv_app.proofs.Vocabulary.{sym, ◌∙◌}
 use Rattle.dv_app.proofs.OptionSteps.{goes_on}
 use Rattle.dv_app.proofs.options.parted.Goals as goal
 

@@ -1,5 +1,4 @@
-use Rattle.dv_given.proofs.Vocabulary.{drop, map, ◌≡◌, string_bytes}
-use Rattle.dv_app.specs.Options.{parted, parted_from}
+use Rattle.dv_app.proofs.Vocabulary.{drop, map, parted, parted_from, string_bytes, ◌≡◌}
 use Rattle.dv_app.proofs.options.parted.Given as goal
 
 abbrev pub invariant-loop-word : goal.invariant-loop-word

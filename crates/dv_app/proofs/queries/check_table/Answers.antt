@@ -1,5 +1,4 @@
-use Rattle.dv_given.proofs.Vocabulary.{sym, ◌∙◌}
-use Rattle.dv_mart.proofs.OfferedTables.{named_among}
+use Rattle.dv_app.proofs.Vocabulary.{named_among, sym, ◌∙◌}
 use Rattle.dv_app.proofs.queries.check_table.Goals as goal
 
 pub returns-in-Some-clause-there : goal.returns-in-Some-clause-there

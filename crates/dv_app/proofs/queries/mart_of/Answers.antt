@@ -1,6 +1,4 @@
-use Rattle.dv_given.proofs.Vocabulary.{ap, err_from_is_err_and, subst, sym, ◌∙◌, IsOffered, RawVault}
-use Rattle.dv_mart.specs.Whats.{offered_mart}
-use Rattle.dv_app.specs.Queries.{MartEnds}
+use Rattle.dv_app.proofs.Vocabulary.{IsOffered, MartEnds, RawVault, ap, err_from_is_err_and, offered_mart, subst, sym, ◌∙◌}
 use Rattle.dv_app.proofs.QuerySteps.{mart_answered, mart_undated, mart_unknown}
 use Rattle.dv_app.proofs.queries.mart_of.Goals as goal
 

@@ -1,6 +1,4 @@
-use Rattle.dv_given.proofs.Vocabulary.{ap, ◌∙◌}
-use Rattle.std.specs.Prelude.{option_map, option_to_list}
-use Rattle.dv_print.specs.Texts.{windows_text}
+use Rattle.dv_app.proofs.Vocabulary.{ap, option_map, option_to_list, windows_text, ◌∙◌}
 use Rattle.dv_app.proofs.QuerySteps.{windows_answered}
 use Rattle.dv_app.proofs.queries.windows_of.Goals as goal
 

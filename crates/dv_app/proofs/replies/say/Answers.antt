@@ -1,4 +1,4 @@
-use Rattle.dv_given.proofs.Vocabulary.{refl}
+use Rattle.dv_app.proofs.Vocabulary.{refl}
 use Rattle.dv_app.proofs.RunSteps.{line_ends}
 use Rattle.dv_app.proofs.replies.say.Goals as goal
 

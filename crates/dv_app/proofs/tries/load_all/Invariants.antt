@@ -1,5 +1,5 @@
-use Rattle.dv_app.proofs.Vocabulary.{Leaves, Loaded, hashes_of, take}
-use Rattle.dv_outside.specs.Seen.{seen}
+use Rattle.dv_app.proofs.Vocabulary.{Loaded, hashes_of, seen, take}
+use Rattle.dv_app.specs.Loadings.{Leaves}
 use Rattle.dv_app.proofs.tries.load_all.Given as goal
 
 -- the manifests so far were taken

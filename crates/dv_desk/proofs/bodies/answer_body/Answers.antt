@@ -1,8 +1,4 @@
-use Rattle.std.proofs.Common.{◌≡◌, codes, rules}
-use Rattle.serde_json.specs.Data.{string, object, member, no_members}
-use Rattle.serde_json.specs.View.{view}
-use Rattle.serde_json.specs.declared.value.Value.{the_lemmas}
-use Rattle.serde_json.proofs.OnLiterals.{serde_json_on_literals}
+use Rattle.dv_desk.proofs.Vocabulary.{codes, member, no_members, object, rules, serde_json_on_literals, string, the_lemmas, view, ◌≡◌}
 use Rattle.dv_desk.proofs.bodies.answer_body.Goals as goal
 
 pub returns : goal.returns

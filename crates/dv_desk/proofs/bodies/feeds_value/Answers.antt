@@ -1,5 +1,4 @@
-use Rattle.std.proofs.Common.{get_or, refl}
-use Rattle.dv_desk.specs.Bodies.{feed_data}
+use Rattle.dv_desk.proofs.Vocabulary.{feed_data, get_or, refl}
 use Rattle.dv_desk.proofs.Listed.{all_listed, one_more}
 use Rattle.dv_desk.proofs.bodies.feeds_value.Goals as goal
 

@@ -1,5 +1,4 @@
-use Rattle.std.specs.Prelude.{◌≡◌, map, take}
-use Rattle.serde_json.specs.View.{view}
+use Rattle.dv_desk.proofs.Vocabulary.{map, take, view, ◌≡◌}
 use Rattle.dv_desk.specs.Bodies as spec
 use Rattle.dv_desk.proofs.bodies.feeds_value.Given as goal
 

@@ -1,6 +1,4 @@
-use Rattle.std.proofs.Common.{◌∙◌, ap}
-use Rattle.std.proofs.lemmas.Result.{IfOk-weaker}
-use Rattle.serde_json.specs.Written.{compact_text, has_float}
+use Rattle.dv_desk.proofs.Vocabulary.{IfOk-weaker, ap, compact_text, has_float, ◌∙◌}
 use Rattle.dv_desk.proofs.Floatless.{heads_floatless}
 use Rattle.dv_desk.proofs.bodies.heads_body.Goals as goal
 

@@ -1,7 +1,5 @@
-use Rattle.std.proofs.Common.{ap, ◌∙◌}
-use Rattle.serde_json.specs.Data.{string}
-use Rattle.dv_desk.proofs.BodyTexts.{view_text}
-use Rattle.dv_desk.proofs.Stamped.{stamp_utf8}
+use Rattle.dv_desk.proofs.Vocabulary.{ap, string, ◌∙◌}
+use Rattle.dv_desk.proofs.{BodyTexts.view_text, Stamped.stamp_utf8}
 use Rattle.dv_desk.proofs.bodies.load_value.Goals as goal
 
 pub returns : goal.returns

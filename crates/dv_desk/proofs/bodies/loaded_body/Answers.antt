@@ -1,6 +1,4 @@
-use Rattle.std.proofs.Common.{◌∙◌, ap, codes}
-use Rattle.std.proofs.lemmas.Result.{IfOk-weaker}
-use Rattle.serde_json.specs.Written.{compact_text, has_float}
+use Rattle.dv_desk.proofs.Vocabulary.{IfOk-weaker, ap, codes, compact_text, has_float, ◌∙◌}
 use Rattle.dv_desk.proofs.BodyTexts.{told, written_rows}
 use Rattle.dv_desk.proofs.bodies.loaded_body.Goals as goal
 

@@ -1,5 +1,4 @@
-use Rattle.std.proofs.Common.{refl}
-use Rattle.dv_desk.specs.Bodies.{head_data}
+use Rattle.dv_desk.proofs.Vocabulary.{head_data, refl}
 use Rattle.dv_desk.proofs.Listed.{all_listed, one_more}
 use Rattle.dv_desk.proofs.bodies.sealed_value.Goals as goal
 

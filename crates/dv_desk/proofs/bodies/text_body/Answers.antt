@@ -1,8 +1,4 @@
-use Rattle.std.proofs.Common.{◌∙◌, ap, codes}
-use Rattle.std.proofs.lemmas.Result.{IfOk-weaker}
-use Rattle.std.specs.Str.Lossy.{utf8_lossy}
-use Rattle.serde_json.specs.Data.{string}
-use Rattle.serde_json.specs.Written.{compact_text, has_float}
+use Rattle.dv_desk.proofs.Vocabulary.{IfOk-weaker, ap, codes, compact_text, has_float, string, utf8_lossy, ◌∙◌}
 use Rattle.dv_desk.proofs.BodyTexts.{told, view_text, written_text}
 use Rattle.dv_desk.proofs.bodies.text_body.Goals as goal
 

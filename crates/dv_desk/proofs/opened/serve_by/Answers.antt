@@ -1,9 +1,5 @@
-use Rattle.std.specs.Prelude.{Err}
-use Rattle.std.proofs.Common.{ap, inl, inr, refl, ◌∙◌}
-use Rattle.dv_outside.specs.Seen.{seen}
-use Rattle.dv_desk.specs.Turns.{moment}
-use Rattle.dv_desk.proofs.DoorEnds.{fault_is, served_cause, served_undamaged, unstarted_cause, unstarted_sound}
-use Rattle.dv_desk.proofs.Led.{served_doors}
+use Rattle.dv_desk.proofs.Vocabulary.{Err, ap, inl, inr, moment, refl, seen, ◌∙◌}
+use Rattle.dv_desk.proofs.{DoorEnds.fault_is, DoorEnds.served_cause, DoorEnds.served_undamaged, DoorEnds.unstarted_cause, DoorEnds.unstarted_sound, Led.served_doors}
 use Rattle.dv_desk.proofs.opened.serve_by.Goals as goal
 
 pub returns-in-Err-clause-sound : goal.returns-in-Err-clause-sound

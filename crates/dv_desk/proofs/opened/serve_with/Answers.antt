@@ -1,8 +1,4 @@
-use Rattle.std.proofs.Common.{rules}
-use Rattle.dv_outside.specs.Seen.{seen}
-use Rattle.dv_desk.specs.Desks.{moment_of}
-use Rattle.dv_desk.specs.Doors.{ServesBy}
-use Rattle.dv_desk.specs.Turns.{Moment, moment}
+use Rattle.dv_desk.proofs.Vocabulary.{Moment, ServesBy, moment, moment_of, rules, seen}
 use Rattle.dv_desk.proofs.Turned.{at_moment}
 use Rattle.dv_desk.proofs.opened.serve_with.Goals as goal
 

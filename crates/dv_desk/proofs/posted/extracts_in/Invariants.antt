@@ -1,6 +1,4 @@
-use Rattle.std.specs.Prelude.{◌≡◌, ◌+◌, ◌++◌, Ok, drop}
-use Rattle.serde_json.specs.View.{items_view}
-use Rattle.dv_catalog.specs.Steps.{◌>>=◌}
+use Rattle.dv_desk.proofs.Vocabulary.{Ok, drop, items_view, ◌++◌, ◌+◌, ◌>>=◌, ◌≡◌}
 use Rattle.dv_desk.specs.Posted as spec
 use Rattle.dv_desk.proofs.posted.extracts_in.Given as goal
 

@@ -1,5 +1,4 @@
-use Rattle.std.proofs.Common.{ap, sym, ◌∙◌}
-use Rattle.serde_json.specs.Read.{read}
+use Rattle.dv_desk.proofs.Vocabulary.{ap, read, sym, ◌∙◌}
 use Rattle.dv_desk.proofs.JsonRead.{no_text, text_json}
 use Rattle.dv_desk.proofs.posted.json_in.Goals as goal
 

@@ -1,6 +1,4 @@
-use Rattle.std.proofs.Common.{option_map, ap, ◌∙◌}
-use Rattle.serde_json.specs.View.{view}
-use Rattle.serde_json.proofs.Views.{view_of_ref, view-lookup}
+use Rattle.dv_desk.proofs.Vocabulary.{ap, option_map, view, view-lookup, view_of_ref, ◌∙◌}
 use Rattle.dv_desk.proofs.posted.member.Goals as goal
 
 pub returns : goal.returns

@@ -1,6 +1,4 @@
-use Rattle.std.proofs.Common.{option_map, ap, ◌∙◌}
-use Rattle.serde_json.specs.View.{view}
-use Rattle.serde_json.proofs.Views.{view-lookup}
+use Rattle.dv_desk.proofs.Vocabulary.{ap, option_map, view, view-lookup, ◌∙◌}
 use Rattle.dv_desk.proofs.posted.take_member.Goals as goal
 
 pub returns : goal.returns

@@ -1,5 +1,4 @@
-use Rattle.std.proofs.Common.{ap, ◌∙◌}
-use Rattle.dv_desk.specs.Bodies.{heads_body}
+use Rattle.dv_desk.proofs.Vocabulary.{ap, heads_body, ◌∙◌}
 use Rattle.dv_desk.proofs.Read.{heads_looked}
 use Rattle.dv_desk.proofs.queries.heads.Goals as goal
 

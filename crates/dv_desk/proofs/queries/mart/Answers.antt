@@ -1,6 +1,4 @@
-use Rattle.std.proofs.Common.{ap, subst, sym, ◌∙◌}
-use Rattle.dv_mart.specs.OfferedMarts.{IsOffered}
-use Rattle.dv_mart.specs.Whats.{offered_mart}
+use Rattle.dv_desk.proofs.Vocabulary.{IsOffered, ap, offered_mart, subst, sym, ◌∙◌}
 use Rattle.dv_desk.proofs.Read.{dated_mart, none_of, undated_mart, unknown_mart}
 use Rattle.dv_desk.proofs.queries.mart.Goals as goal
 

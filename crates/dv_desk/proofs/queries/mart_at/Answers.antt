@@ -1,10 +1,4 @@
-use Rattle.std.specs.Prelude.{Ok, Err}
-use Rattle.std.proofs.Common.{ap, refl, subst, sym, ◌∙◌}
-use Rattle.dv_mart.specs.MartTexts.{path_name}
-use Rattle.dv_mart.specs.OfferedMarts.{IsOffered}
-use Rattle.dv_mart.specs.declared.query_rules.QueryRule.TheVariants.{TooLarge}
-use Rattle.dv_vault.specs.Vaults.{RawVault}
-use Rattle.dv_desk.specs.declared.answers.Answer.TheVariants.{BadQuery, Rows}
+use Rattle.dv_desk.proofs.Vocabulary.{BadQuery, Err, IsOffered, Ok, RawVault, Rows, TooLarge, ap, path_name, refl, subst, sym, ◌∙◌}
 use Rattle.dv_desk.proofs.Read.{mart_looked}
 use Rattle.dv_desk.proofs.queries.mart_at.Goals as goal
 

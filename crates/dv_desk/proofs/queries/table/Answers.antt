@@ -1,13 +1,4 @@
-use Rattle.std.specs.List.{Contains}
-use Rattle.std.specs.Prelude.{option_map}
-use Rattle.std.proofs.Common.{ap, subst, sym, ◌∙◌}
-use Rattle.dv_catalog.specs.Tables.{tables}
-use Rattle.dv_mart.specs.MartTexts.{HasKind, rows_behind}
-use Rattle.dv_mart.specs.Whats.{table_named}
-use Rattle.dv_records.specs.Stores.{rows_in}
-use Rattle.dv_print.specs.TableTexts.{table_text}
-use Rattle.dv_vault.specs.Vaults.{RawVault}
-use Rattle.dv_snapshots.proofs.TableReads.{has_there, same_behind}
+use Rattle.dv_desk.proofs.Vocabulary.{Contains, HasKind, RawVault, ap, has_there, option_map, rows_behind, rows_in, subst, sym, table_named, table_text, tables, ◌∙◌}
 use Rattle.dv_desk.proofs.Read.{none_of, table_looked, unknown_table}
 use Rattle.dv_desk.proofs.queries.table.Goals as goal
 
@@ -32,4 +23,4 @@ returns c =
     (has_there table office.vault office.begun c.rows_begun.ensures.among there) c.in_ok-text.text
     (c.in_ok-text.ensures (subst (λ (v : RawVault). HasKind v.tables table) (sym c.vault.ensures) c.rows_begun.ensures.held)
     ∙ ap (λ (v : RawVault). table_text v.mapping table (rows_behind (rows_in table v.tables) more)) c.vault.ensures
-    ∙ ap (table_text office.vault.mapping table) (same_behind (rows_in table office.vault.tables) more ∙ sym c.rows_begun.ensures.rows))
+    ∙ ap (table_text office.vault.mapping table) (sym c.rows_begun.ensures.rows))

@@ -1,6 +1,4 @@
-use Rattle.std.specs.Prelude.{◌≡◌, IfOk}
-use Rattle.std.proofs.Common.{subst}
-use Rattle.dv_mart.specs.Whats.{table_named}
+use Rattle.dv_desk.proofs.Vocabulary.{IfOk, subst, table_named, ◌≡◌}
 use Rattle.dv_desk.proofs.Read.{named_there}
 use Rattle.dv_desk.proofs.queries.table_named.Goals as goal
 

@@ -1,5 +1,4 @@
-use Rattle.dv_outside.proofs.Vocabulary.{take, drop, sym, ◌∙◌, ap, arith, length-drop, take-add, take-append-drop, err_from_is_err_and, after}
-use Rattle.dv_outside.proofs.Told.{after-after, tail_slice}
+use Rattle.dv_serving.proofs.Vocabulary.{after, after-after, ap, arith, drop, err_from_is_err_and, length-drop, sym, tail_slice, take, take-add, take-append-drop, ◌∙◌}
 use Rattle.dv_serving.proofs.writing.write_whole.Goals as goal
 
 pub returns-in_err-count-clause-err : goal.returns-in_err-count-clause-err

@@ -1,5 +1,4 @@
-use Rattle.std.specs.Prelude.{length, ◌-◌, ◌≡◌, ◌≤◌, take}
-use Rattle.dv_outside.specs.Bytes.{after}
+use Rattle.dv_serving.proofs.Vocabulary.{after, length, take, ◌-◌, ◌≡◌, ◌≤◌}
 use Rattle.dv_serving.proofs.writing.write_whole.Given as goal
 
 -- the bytes so far were written

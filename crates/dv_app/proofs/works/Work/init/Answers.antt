@@ -1,4 +1,4 @@
-use Rattle.dv_given.proofs.Vocabulary.{err_from_is_err_and, refl}
+use Rattle.dv_app.proofs.Vocabulary.{err_from_is_err_and, refl}
 use Rattle.dv_app.proofs.InitSteps.{fault_works, settled_works, unread_works}
 use Rattle.dv_app.proofs.works.Work.init.Goals as goal
 

@@ -1,4 +1,4 @@
-use Rattle.dv_given.proofs.Vocabulary.{err_from_is_err_and}
+use Rattle.dv_app.proofs.Vocabulary.{err_from_is_err_and}
 use Rattle.dv_app.proofs.LoadSteps.{load_works, unbrought_works}
 use Rattle.dv_app.proofs.works.Work.load.Goals as goal
 

@@ -1,4 +1,4 @@
-use Rattle.dv_app.specs.Works.{Does}
+use Rattle.dv_app.proofs.Vocabulary.{Does}
 use Rattle.dv_app.proofs.WorkSteps.{one_of}
 use Rattle.dv_app.proofs.works.Work.reply_to.Goals as goal
 

@@ -1,4 +1,4 @@
-use Rattle.dv_given.proofs.Vocabulary.{refl}
+use Rattle.dv_app.proofs.Vocabulary.{refl}
 use Rattle.dv_app.proofs.LoadSteps.{resume_works}
 use Rattle.dv_app.proofs.works.Work.resume.Goals as goal
 

@@ -1,6 +1,4 @@
-use Rattle.dv_given.proofs.Vocabulary.{Some, ap, arith, refl, sym, ◌∙◌}
-use Rattle.dv_outside.specs.Seen.{seen}
-use Rattle.dv_app.specs.Words.{command_in, command_of}
+use Rattle.dv_app.proofs.Vocabulary.{Some, ap, arith, command_in, command_of, refl, seen, sym, ◌∙◌}
 use Rattle.dv_app.proofs.RunSteps.{exercises_ran, keeper_ran, line_ends, memory_ran, tries_ran, usage_ran}
 use Rattle.dv_app.proofs.works.Work.run.Goals as goal
 

@@ -1,6 +1,4 @@
-use Rattle.dv_given.proofs.Vocabulary.{err_from_is_err_and, refl, subst, ◌∙◌}
-use Rattle.dv_app.specs.Kept.{snapshot_said}
-use Rattle.dv_app.specs.Works.{Tells}
+use Rattle.dv_app.proofs.Vocabulary.{Tells, err_from_is_err_and, refl, snapshot_said, subst, ◌∙◌}
 use Rattle.dv_app.proofs.SnapshotSteps.{snapshot_works, undated_works}
 use Rattle.dv_app.proofs.works.Work.snapshot.Goals as goal
 

@@ -1,10 +1,6 @@
-use Rattle.dv_given.proofs.Vocabulary.{ap, err_from_is_err_and, refl, subst, sym, ◌∙◌}
-use Rattle.dv_snapshots.specs.declared.stored.StoredFault.TheVariants as stored
-use Rattle.dv_app.specs.Kept.{stored_id}
-use Rattle.dv_app.specs.Queries.{StoredEnds}
-use Rattle.dv_app.specs.Words.{stored_of}
-use Rattle.dv_snapshots.proofs.TableReads.{no_fault}
+use Rattle.dv_app.proofs.Vocabulary.{StoredEnds, ap, err_from_is_err_and, no_fault, refl, stored_id, stored_of, subst, sym, ◌∙◌}
 use Rattle.dv_app.proofs.StoredSteps.{faulted_works, stored_works, undated_works, unknown_works}
+use Rattle.dv_window.specs.declared.stored.StoredFault.TheVariants as stored
 use Rattle.dv_app.proofs.works.Work.stored.Goals as goal
 
 pub returns-in_err-id-clause-works : goal.returns-in_err-id-clause-works

@@ -1,4 +1,4 @@
-use Rattle.dv_given.proofs.Vocabulary.{err_from_is_err_and, refl}
+use Rattle.dv_app.proofs.Vocabulary.{err_from_is_err_and, refl}
 use Rattle.dv_app.proofs.OpenSteps.{office_opens, open_then, shut_works}
 use Rattle.dv_app.proofs.works.Work.work_by_office.Goals as goal
 

@@ -1,4 +1,4 @@
-use Rattle.dv_given.proofs.Vocabulary.{refl}
+use Rattle.dv_app.proofs.Vocabulary.{refl}
 use Rattle.dv_app.proofs.QuerySteps.{text_works}
 use Rattle.dv_app.proofs.works.Work.work_on.Goals as goal
 

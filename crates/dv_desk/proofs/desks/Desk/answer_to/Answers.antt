@@ -1,5 +1,5 @@
 use Rattle.dv_desk.specs.declared.answers.Answer.TheVariants as answers
-use Rattle.dv_desk.specs.Routes.{Load, Read, NotAllowed, NotFound, query_as}
+use Rattle.dv_desk.proofs.Vocabulary.{Load, NotAllowed, NotFound, Read, query_as}
 use Rattle.dv_desk.proofs.Turned.{answered_behind, answered_for, not_allowed_answered, nowhere_answered, read_answered}
 use Rattle.dv_desk.proofs.desks.Desk.answer_to.Goals as goal
 

@@ -1,4 +1,4 @@
-use Rattle.std.proofs.Common.{sym, ◌∙◌}
+use Rattle.dv_desk.proofs.Vocabulary.{sym, ◌∙◌}
 use Rattle.dv_desk.proofs.Turned.{faulty_answered, load_answered, memory_answered, not_json_answered}
 use Rattle.dv_desk.proofs.desks.Desk.load.Goals as goal
 

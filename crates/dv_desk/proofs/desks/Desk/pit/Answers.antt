@@ -1,5 +1,4 @@
-use Rattle.std.proofs.Common.{ap, sym, ◌∙◌}
-use Rattle.dv_mart.specs.Whats.{hub_place}
+use Rattle.dv_desk.proofs.Vocabulary.{ap, hub_place, sym, ◌∙◌}
 use Rattle.dv_desk.proofs.Read.{dated_pit, none_of, undated_pit, unknown_pit, unnamed_pit}
 use Rattle.dv_desk.proofs.desks.Desk.pit.Goals as goal
 

@@ -1,4 +1,4 @@
-use Rattle.dv_desk.specs.Routes.{Heads, MartAt, TableOf}
+use Rattle.dv_desk.proofs.Vocabulary.{Heads, MartAt, TableOf}
 use Rattle.dv_desk.proofs.Read.{looked_read}
 use Rattle.dv_desk.proofs.desks.Desk.read.Goals as goal
 

@@ -1,5 +1,4 @@
-use Rattle.std.specs.Prelude.{Err}
-use Rattle.std.proofs.Common.{ap, refl}
+use Rattle.dv_desk.proofs.Vocabulary.{Err, ap, refl}
 use Rattle.dv_desk.proofs.Turned.{unrefreshed_answered, was_stale}
 use Rattle.dv_desk.proofs.desks.Desk.refresh.Goals as goal
 

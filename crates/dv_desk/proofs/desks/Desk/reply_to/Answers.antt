@@ -1,5 +1,4 @@
-use Rattle.std.proofs.Common.{sym, ◌∙◌}
-use Rattle.dv_serving.proofs.Stepped.{came_unbroken}
+use Rattle.dv_desk.proofs.Vocabulary.{came_unbroken, sym, ◌∙◌}
 use Rattle.dv_desk.proofs.Turned.{replied, unsaid}
 use Rattle.dv_desk.proofs.desks.Desk.reply_to.Goals as goal
 

@@ -1,6 +1,4 @@
-use Rattle.std.proofs.Common.{arith, refl, sym, ◌∙◌}
-use Rattle.dv_http.specs.Buffers.{held}
-use Rattle.dv_serving.proofs.Linked.{ends_with, enough, goes_on_with, never_begun}
+use Rattle.dv_desk.proofs.Vocabulary.{arith, ends_with, enough, goes_on_with, held, never_begun, refl, sym, ◌∙◌}
 use Rattle.dv_desk.proofs.desks.Desk.serve_connection.Goals as goal
 
 pub returns-in_default-clause-serves : goal.returns-in_default-clause-serves

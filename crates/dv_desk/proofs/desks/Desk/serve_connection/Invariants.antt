@@ -1,8 +1,4 @@
-use Rattle.std.specs.Prelude.{◌≡◌, ◌≤◌}
-use Rattle.dv_serving.proofs.Linked.{Going}
-use Rattle.dv_serving.specs.Steps.{unread}
-use Rattle.dv_desk.specs.Desks.{moment_of, places}
-use Rattle.dv_desk.specs.Turns.{CanReply, IsReplied}
+use Rattle.dv_desk.proofs.Vocabulary.{CanReply, Going, IsReplied, moment_of, places, unread, ◌≡◌, ◌≤◌}
 use Rattle.dv_desk.proofs.desks.Desk.serve_connection.Given as goal
 
 -- so many requests were taken, answered and replied to

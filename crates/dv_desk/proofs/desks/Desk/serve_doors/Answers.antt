@@ -1,7 +1,4 @@
-use Rattle.std.proofs.Common.{arith, inl, inr, refl, ◌∙◌}
-use Rattle.std.proofs.lemmas.Result.{err_from_is_err_and}
-use Rattle.dv_serving.proofs.Doored.{none_left, none_served, served_all, served_more}
-use Rattle.dv_desk.specs.Desks.{moment_of}
+use Rattle.dv_desk.proofs.Vocabulary.{arith, err_from_is_err_and, inl, inr, moment_of, none_left, none_served, refl, served_all, served_more, ◌∙◌}
 use Rattle.dv_desk.proofs.desks.Desk.serve_doors.Goals as goal
 
 pub loop-init : goal.loop-init

@@ -1,9 +1,4 @@
-use Rattle.std.specs.Prelude.{◌≡◌, ◌≤◌}
-use Rattle.dv_serving.proofs.Doored.{SoFar}
-use Rattle.dv_serving.specs.Serving.{tells}
-use Rattle.dv_desk.specs.Answers.{refusal}
-use Rattle.dv_desk.specs.Desks.{moment_of, places}
-use Rattle.dv_desk.specs.Turns.{CanReply, IsReplied}
+use Rattle.dv_desk.proofs.Vocabulary.{CanReply, IsReplied, SoFar, moment_of, places, refusal, tells, ◌≡◌, ◌≤◌}
 use Rattle.dv_desk.proofs.desks.Desk.serve_doors.Given as goal
 
 -- so many connections were served and given back

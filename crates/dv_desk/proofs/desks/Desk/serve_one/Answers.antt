@@ -1,6 +1,4 @@
-use Rattle.std.specs.Prelude.{Err}
-use Rattle.std.proofs.Common.{ap}
-use Rattle.dv_serving.proofs.Stepped.{refused_comes, replied_comes}
+use Rattle.dv_desk.proofs.Vocabulary.{Err, ap, refused_comes, replied_comes}
 use Rattle.dv_desk.proofs.desks.Desk.serve_one.Goals as goal
 
 pub returns-in-Ok-Some-clause-comes : goal.returns-in-Ok-Some-clause-comes
