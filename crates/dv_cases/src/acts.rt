@@ -1,20 +1,35 @@
 use crate::blocks::{Block, EMPTY};
-use crate::stands::{Digests, Ended};
+use crate::stands::{Digests, Ended, Holding};
 
 /// What a step does.
 #[derive(Clone, Copy)]
 pub(crate) enum Act {
     Run,
     /// A connection to an office that is started for it, or to that of the last one.
-    Connect { is_on: bool },
+    Connect {
+        is_on: bool,
+    },
     Digests(Digests),
-    Fail { change: u64, done: bool },
-    FailEach { first: u64, last: u64, done: bool },
+    Fail {
+        change: u64,
+        done: bool,
+    },
+    FailEach {
+        first: u64,
+        last: u64,
+        done: bool,
+    },
     FailRead,
     Give,
     /// A window is loaded by so many workers, of whom one is held for at most so many turns.
-    Hold { workers: u64, turns: u64 },
-    Compare { scene: usize },
+    Hold {
+        workers: u64,
+        turns: u64,
+        holding: Holding,
+    },
+    Compare {
+        scene: usize,
+    },
 }
 
 /// A step: the line that says what it does, what it is given, and what is expected of it. Numbers of calls that fail stand

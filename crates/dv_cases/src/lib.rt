@@ -19,4 +19,4 @@ mod stands;
 pub use faults::Fault;
 pub use mains::play_from;
 pub use outsides::Outside;
-pub use stands::{Digests, Ended, Held, Hold, Stand};
+pub use stands::{Digests, Ended, Held, Hold, Holding, Stand};

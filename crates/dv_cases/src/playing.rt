@@ -6,7 +6,7 @@ use crate::lines::Lines;
 use crate::outsides::{Outside, link, outside_of, words};
 use crate::reading::Refused;
 use crate::scenes::Scene;
-use crate::stands::{Digests, Hold, Stand};
+use crate::stands::{Digests, Hold, Holding, Stand};
 use dv_outside::{MemoryLink, Status};
 use dv_text::Memory;
 use std::alloc::Global;
@@ -115,7 +115,8 @@ fn hold<R: Threads + Sync, S: Stand>(
     scene: &Scene,
     number: usize,
     step: &Step,
-    (workers, turns, digests): (u64, u64, Digests),
+    (workers, turns, holding): (u64, u64, Holding),
+    digests: Digests,
     stand: &mut S,
 ) -> Result<(), Fault> {
     let words = words(play.alloc, play.lines.behind(step.at))?;
@@ -127,6 +128,7 @@ fn hold<R: Threads + Sync, S: Stand>(
         manifest,
         workers,
         turns,
+        holding,
         digests,
     };
     let held = stand.hold(play.rt, &mut outside, &hold)?;
@@ -157,16 +159,13 @@ fn take<R: Threads + Sync, S: Stand>(
             Some(connection) => { connect(play, told, connection, step, (digests, is_on), stand) }
             None => Ok(()),
         },
-        Act::Hold { workers, turns } => {
-            hold(
-                play,
-                told,
-                scene,
-                number,
-                step,
-                (workers, turns, digests),
-                stand,
-            )
+        Act::Hold {
+            workers,
+            turns,
+            holding,
+        } => {
+            let how = (workers, turns, holding);
+            hold(play, told, scene, number, step, how, digests, stand)
         }
         Act::Fail { change, done } => stand.fail(change, done),
         Act::FailRead => stand.fail_read(),

@@ -6,7 +6,7 @@ use crate::faults::Fault;
 use crate::lines::Lines;
 use crate::outsides::words;
 use crate::scenes::{FileFrom, Scene};
-use crate::stands::Digests;
+use crate::stands::{Digests, Holding};
 use std::alloc::Global;
 
 /// Which block the next line of one belongs to.
@@ -87,7 +87,27 @@ fn held(text: &str) -> Result<Act, Fault> {
     Ok(Act::Hold {
         workers: number(workers)?,
         turns: number(turns)?,
+        holding: Holding::Task,
     })
+}
+
+// What a line says of a window that is loaded by workers of whom one is held as it offers an item.
+fn offer_held(text: &str) -> Result<Act, Fault> {
+    const NO_OFFER: Fault = Fault::Wrong("hold_offer ITEM UNTIL WORKERS TURNS MANIFEST");
+    let (item, text) = text.split_once(' ').ok_or(NO_OFFER)?;
+    let (until, text) = text.split_once(' ').ok_or(NO_OFFER)?;
+    let holding = Holding::Offer {
+        item: number(item)?,
+        until: number(until)?,
+    };
+    match held(text)? {
+        Act::Hold { workers, turns, .. } => Ok(Act::Hold {
+            workers,
+            turns,
+            holding,
+        }),
+        _ => Err(NO_OFFER),
+    }
 }
 
 // The digests of a name.
@@ -261,6 +281,7 @@ impl Reader {
             "digest" => self.put_step(at, Act::Digests(digests_of(behind)?)),
             "fails" => self.put_step(at, failing(behind)?),
             "hold" => self.put_step(at, held(behind)?),
+            "hold_offer" => self.put_step(at, offer_held(behind)?),
             "same" => self.compare(lines, at),
             "given" => self.put_step(at, Act::Give),
             "connection" => self.connect(),

@@ -42,12 +42,21 @@ impl Ended {
     }
 }
 
+/// What is held while a window is loaded: the first task until the second one has ended, or the offer of an item until
+/// another one is offered.
+#[derive(Clone, Copy)]
+pub enum Holding {
+    Task,
+    Offer { item: u64, until: u64 },
+}
+
 /// How a window is loaded of which a worker is held: by so many workers, and for at most so many turns.
 #[derive(Clone, Copy)]
 pub struct Hold<'a> {
     pub manifest: &'a String,
     pub workers: u64,
     pub turns: u64,
+    pub holding: Holding,
     pub digests: Digests,
 }
 
@@ -88,8 +97,7 @@ pub trait Stand: Drop {
         Err(NO_STAND)
     }
 
-    /// Loads the window of a manifest by an office that is started for it. Who has its first task is held until the second
-    /// one has ended.
+    /// Loads the window of a manifest by an office that is started for it, and holds one of its workers.
     fn hold<R: Threads + Sync>(
         &mut self,
         _rt: &R,

@@ -1,5 +1,5 @@
 -- What a loop that looks for a name that stands earlier keeps.
-use Rattle.dv_catalog.proofs.Vocabulary.{◌≡◌, ℕ, ◌+◌, ◌<◌, Bool, true, false, cond, List, length, get_or, take, drop, map, Some, None, sym, ◌∙◌, ap, list_any, option_or, bytes_eq, drop_more, take_more, map-append, list_any-map, again_after, text_twice}
+use Rattle.dv_catalog.proofs.Vocabulary.{Bool, List, None, Some, again_after, ap, bytes_eq, cond, drop, drop_more, false, get_or, length, list_any, list_any-map, map, map-append, option_or, sym, take, take_more, text_twice, true, ℕ, ◌+◌, ◌<◌, ◌∙◌, ◌≡◌}
 
 -- the search after one entry more
 pub again_turn : {X : Type 0} (f : X → List ℕ) (xs : List X) (i : ℕ) (d : X) → i < length xs

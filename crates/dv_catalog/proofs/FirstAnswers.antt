@@ -1,5 +1,5 @@
 -- Where tests in order have no answer, none of them has one.
-use Rattle.dv_catalog.proofs.Vocabulary.{◌≡◌, List, [], ◌∷◌, Option, None, first_of, or_none}
+use Rattle.dv_catalog.proofs.Vocabulary.{List, None, Option, [], first_of, or_none, ◌∷◌, ◌≡◌}
 
 abbrev pub AllNone : {R : Type 0} → List (Option R) → Type 0
 AllNone [] = Unit {0}

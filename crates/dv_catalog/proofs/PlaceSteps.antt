@@ -1,5 +1,5 @@
 -- The place of the first item that passes a test, or else the number of items.
-use Rattle.dv_catalog.proofs.Vocabulary.{◌≡◌, ℕ, ◌+◌, ◌<◌, ◌≤◌, Bool, true, false, cond, not, List, [], ◌∷◌, ◌++◌, length, get_or, map, take, nat_lt, Some, None, refl, arith, unwrap_or, position, position_or_len, map_more, prefix_len-le-length, nat_tests}
+use Rattle.dv_catalog.proofs.Vocabulary.{Bool, List, None, Some, [], arith, cond, false, get_or, length, map, map_more, nat_lt, nat_tests, not, position, position_or_len, prefix_len-le-length, refl, take, true, unwrap_or, ℕ, ◌++◌, ◌+◌, ◌<◌, ◌∷◌, ◌≡◌, ◌≤◌}
 
 pub place_or_len : {X : Type 0} (p : X → Bool) (xs : List X) → unwrap_or (position p xs) (length xs) ≡ position_or_len p xs
 place_or_len {X} p xs = by (nat_lt (position_or_len p xs) (length xs)) refl

@@ -1,5 +1,5 @@
 -- Entries that compare as equal are equal.
-use Rattle.dv_catalog.proofs.Vocabulary.{◌≡◌, ℕ, Bool, ◌&&◌, ◌==◌, List, Decides, nat_eq, refl, ap, pointwise, Decides-and, Decides-eqb, Decides-like, bytes_eq-Decides, slice_eq-Decides, FeedDef, HubDef, LinkDef, PathDef, Parent}
+use Rattle.dv_catalog.proofs.Vocabulary.{Bool, Decides, Decides-and, Decides-eqb, Decides-like, FeedDef, HubDef, LinkDef, List, Parent, PathDef, ap, bytes_eq-Decides, nat_eq, pointwise, refl, slice_eq-Decides, ℕ, ◌&&◌, ◌==◌, ◌≡◌}
 
 numbers_decide : (a b : List ℕ) → Decides (pointwise nat_eq a b) (a ≡ b)
 numbers_decide a b = bytes_eq-Decides a b

@@ -1,5 +1,5 @@
 -- What the loops over the entries of a mapping keep, for its tables.
-use Rattle.dv_catalog.proofs.Vocabulary.{◌≡◌, ℕ, ◌+◌, ◌++◌, List, [], ◌∷◌, map, ◌∙◌, ap, append_assoc, zero-add, range_with_len, map-range_with_len_more}
+use Rattle.dv_catalog.proofs.Vocabulary.{List, [], ap, append_assoc, map, map-range_with_len_more, range_with_len, zero-add, ℕ, ◌++◌, ◌+◌, ◌∙◌, ◌∷◌, ◌≡◌}
 
 -- one table more, by its number
 pub numbered_more : {X : Type 0} (f : ℕ → X) (n : ℕ) (first tables pushed : List X) → tables ≡ first ++ map f (range_with_len 0 n) → pushed ≡ tables ++ f n ∷ []

@@ -1,6 +1,6 @@
 -- The tables of a mapping are of its hubs, links and feeds, and so is the table with a name.
-use Rattle.dv_catalog.proofs.Vocabulary.{◌≡◌, ℕ, ◌+◌, ◌<◌, ◌≤◌, true, List, [], ◌∷◌, ◌++◌, length, get_or, map, nat_lt, Some, refl, sym, ◌∙◌, ap, arith, Contains, list_all, range_with_len, bytes_eq, and_from, nat_tests, get_or-range_with_len, length-range_with_len, Contains-get_or, FeedDef}
-use Rattle.dv_catalog.proofs.Vocabulary.{TableId, Hub, Link, Status, Mapping, is_table_of, table_named, effect_tables, feed_tables, sat_tables, table_name, tables, map_member, all_pass, all_pass_both, found_member, passes_at}
+use Rattle.dv_catalog.proofs.Vocabulary.{Contains, Contains-get_or, FeedDef, Hub, Link, List, Mapping, Status, TableId, [], all_pass, all_pass_both, and_from, ap, arith, effect_tables, feed_tables, get_or, get_or-range_with_len, is_table_of, length, length-range_with_len, list_all, map}
+use Rattle.dv_catalog.proofs.Vocabulary.{map_member, nat_lt, nat_tests, passes_at, range_with_len, refl, sat_tables, sym, tables, true, ℕ, ◌++◌, ◌+◌, ◌<◌, ◌∙◌, ◌∷◌, ◌≡◌, ◌≤◌}
 
 below : (n k : ℕ) → Contains (range_with_len 0 n) k → nat_lt k n ≡ true
 below n k (i, under, there) =
@@ -45,8 +45,3 @@ tables_in m =
 pub table_at : (m : Mapping) (items : List TableId) (i : ℕ) (d : TableId) → items ≡ tables m → i < length items → is_table_of m (get_or items i d) ≡ true
 table_at m items i d e at =
     passes_at (is_table_of m) items (get_or items i d) (ap (list_all (is_table_of m)) e ∙ tables_in m) (Contains-get_or items i d at)
-
--- and the table with a name
-pub table_named_in : (m : Mapping) (name : List ℕ) (table : TableId) → table_named m name ≡ Some table → is_table_of m table ≡ true
-table_named_in m name table e =
-    passes_at (is_table_of m) (tables m) table (tables_in m) (found_member (λ t. bytes_eq (table_name m t) name) (tables m) table e).0

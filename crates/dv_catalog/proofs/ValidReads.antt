@@ -1,7 +1,7 @@
 -- What a valid mapping keeps to, part by part.
-use Rattle.dv_catalog.proofs.Vocabulary.{◌≡◌, ℕ, ◌+◌, ◌≤◌, true, not, ◌&&◌, ◌||◌, ◌==◌, length, map, nat_le, Some, None, arith, is_none, slice_get, list_all, zip, and_parts, eqb-true, nat_tests, none_from, passes_got, FeedDef, HubDef, LinkDef, PathDef, all_columns, mapped_count, Mapping}
-use Rattle.dv_catalog.proofs.Vocabulary.{parent_hubs, parts_of, has_column_form, has_name_form, is_within, most_columns, most_feeds, most_hubs, most_ignored, most_links, most_parts, most_paths, most_references, most_steps, number_twice, text_twice, are_joined_by, is_declared, is_hub}
-use Rattle.dv_catalog.proofs.Vocabulary.{is_link_feed, is_valid, is_valid_driver, is_valid_feed, is_valid_hub, is_valid_link, is_valid_path}
+use Rattle.dv_catalog.proofs.Vocabulary.{FeedDef, HubDef, LinkDef, Mapping, None, PathDef, Some, all_columns, and_parts, are_joined_by, arith, eqb-true, has_column_form, has_name_form, is_declared, is_hub, is_link_feed, is_none, is_valid, is_valid_driver, is_valid_feed, is_valid_hub}
+use Rattle.dv_catalog.proofs.Vocabulary.{is_valid_link, is_valid_path, is_within, length, list_all, map, mapped_count, most_columns, most_feeds, most_hubs, most_ignored, most_links, most_parts, most_paths, most_references, most_steps, nat_le, nat_tests, none_from, not, number_twice, parent_hubs}
+use Rattle.dv_catalog.proofs.Vocabulary.{parts_of, passes_got, slice_get, text_twice, true, zip, ℕ, ◌&&◌, ◌+◌, ◌==◌, ◌||◌, ◌≡◌, ◌≤◌}
 
 pub record ValidParts (mapping : Mapping) : Type 0 where
   pub few_hubs : length mapping.hubs ≤ most_hubs

@@ -174,12 +174,6 @@ impl Catalog {
         self.feeds.items()
     }
 
-    pub fn paths(&self) -> &[PathDef]
-        ensures { result.now ≡ self.now.paths }
-    {
-        self.paths.items()
-    }
-
     /// The hub at a place in declared order, from 0. Takes no memory.
     pub fn hub(&self, i: u32) -> &HubDef
         requires { i < length self.now.hubs }

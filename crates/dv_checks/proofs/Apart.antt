@@ -1,6 +1,6 @@
 -- Items that stand once stand once as places, too.
-use Rattle.dv_checks.proofs.Vocabulary.{◌≡◌, inl, inr, ℕ, ◌<◌, Bool, true, false, not, List, [], ◌∷◌, ◌++◌, length, get_or, map, nat_eq, Some, None, refl, sym, ◌∙◌, ap, subst, arith, Contains, list_any, position_or_len, bytes_eq, eqb-true, map-append, Contains-append_cases, prefix_len_stops}
-use Rattle.dv_checks.proofs.Vocabulary.{bytes_eq-Decides, Contains-cons_here, Contains-cons_there, Contains-cons_cases, Contains-nil, or_none, list_any-map, some_passes, some_passes_at, LinkOutline, again_after, number_twice, text_twice}
+use Rattle.dv_checks.proofs.Vocabulary.{Bool, Contains, Contains-append_cases, Contains-cons_cases, Contains-cons_here, Contains-cons_there, Contains-nil, LinkOutline, List, None, Some, [], again_after, ap, arith, bytes_eq, bytes_eq-Decides, eqb-true, false, get_or, inl, inr, length, list_any}
+use Rattle.dv_checks.proofs.Vocabulary.{list_any-map, map, map-append, nat_eq, not, number_twice, or_none, position_or_len, prefix_len_stops, refl, some_passes, some_passes_at, subst, sym, text_twice, true, ℕ, ◌++◌, ◌<◌, ◌∙◌, ◌∷◌, ◌≡◌}
 use Rattle.dv_catalog.specs.Checks as spec
 
 -- a test that some item passes stops at one of them

@@ -1,6 +1,6 @@
 -- What an outline without a fault keeps to, number by number.
-use Rattle.dv_checks.proofs.Vocabulary.{◌≡◌, ℕ, Bool, true, false, not, ◌&&◌, ◌==◌, find, List, length, map, nat_lt, Some, None, refl, list_any, Outline, first_of, has_name_form, most_hubs, most_links, most_feeds, most_paths, most_references, most_columns, most_ignored, most_steps}
-use Rattle.dv_checks.proofs.Vocabulary.{none_before_map, AllNone, all_none}
+use Rattle.dv_checks.proofs.Vocabulary.{AllNone, Bool, List, None, Outline, Some, all_none, false, find, first_of, has_name_form, length, list_any, map, most_columns, most_feeds, most_hubs, most_ignored, most_links, most_paths, most_references, most_steps, nat_lt, none_before_map, not, refl}
+use Rattle.dv_checks.proofs.Vocabulary.{true, ℕ, ◌&&◌, ◌==◌, ◌≡◌}
 use Rattle.dv_catalog.specs.Checks as spec
 
 -- no number holds

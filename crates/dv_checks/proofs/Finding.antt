@@ -1,5 +1,5 @@
 -- What loops that look for a first place keep.
-use Rattle.dv_checks.proofs.Vocabulary.{◌≡◌, ℕ, ◌+◌, ◌<◌, Bool, find, List, length, get_or, drop, Some, None, refl, sym, ◌∙◌, flat_map, option_or, drop_more, find-append}
+use Rattle.dv_checks.proofs.Vocabulary.{Bool, List, None, Some, drop, drop_more, find, find-append, flat_map, get_or, length, option_or, refl, sym, ℕ, ◌+◌, ◌<◌, ◌∙◌, ◌≡◌}
 
 -- the first among joined lists is in the first of them, or in those after
 pub find_joined : {X Y : Type 0} (p : Y → Bool) (f : X → List Y) (xs : List X) (i : ℕ) (d : X) → i < length xs

@@ -1,5 +1,5 @@
 -- What a loop over the hubs that a path's feeds share keeps.
-use Rattle.dv_checks.proofs.Vocabulary.{◌≡◌, ℕ, ◌≤◌, true, List, [], ◌∷◌, length, drop, refl, at_drop_all, Outline, are_joined}
+use Rattle.dv_checks.proofs.Vocabulary.{List, Outline, [], are_joined, at_drop_all, drop, length, refl, true, ℕ, ◌∷◌, ◌≡◌, ◌≤◌}
 
 joined_by_none : (outline : Outline) (feeds : List (List ℕ)) → are_joined outline feeds [] ≡ true
 joined_by_none outline [] = refl

@@ -1,7 +1,7 @@
 -- What the places of names lead to.
-use Rattle.dv_checks.proofs.Vocabulary.{◌≡◌, ℕ, Bool, true, false, ◌&&◌, ◌==◌, find, List, [], ◌∷◌, length, map, Option, Some, None, refl, sym, ◌∙◌, ap, option_map, is_some, slice_get, list_all, position_or_len, zip, option_map_or, option_and_then, bytes_eq, and_from, and_parts, eq-eqb, find_at}
-use Rattle.dv_checks.proofs.Vocabulary.{slice_get-map, bytes_eq-Decides, Contains-map, some_passes, some_passes_at, Outline, HubOutline, LinkOutline, FeedOutline, ParentName, Hub, Link, link_hubs, parent_hubs, parts_of, is_among, are_joined_by, feed_def, feed_place, has_number, hub_def}
-use Rattle.dv_checks.proofs.Vocabulary.{hub_place, is_link_feed, is_of_link, is_place_of_step, link_def, link_place, link_places, mapping_of, parent_def, step_places}
+use Rattle.dv_checks.proofs.Vocabulary.{Bool, Contains-map, FeedOutline, Hub, HubOutline, Link, LinkOutline, List, None, Option, Outline, ParentName, Some, [], and_from, and_parts, ap, are_joined_by, bytes_eq, bytes_eq-Decides, eq-eqb, false, feed_def, feed_place, find, find_at, has_number}
+use Rattle.dv_checks.proofs.Vocabulary.{hub_def, hub_place, is_among, is_link_feed, is_of_link, is_place_of_step, is_some, length, link_def, link_hubs, link_place, link_places, list_all, map, mapping_of, option_and_then, option_map, option_map_or, parent_def, parent_hubs, parts_of}
+use Rattle.dv_checks.proofs.Vocabulary.{position_or_len, refl, slice_get, slice_get-map, some_passes, some_passes_at, step_places, sym, true, zip, ℕ, ◌&&◌, ◌==◌, ◌∙◌, ◌∷◌, ◌≡◌}
 use Rattle.dv_catalog.specs.Checks as spec
 
 -- what stands at the place of the first item that passes, after a function of all items

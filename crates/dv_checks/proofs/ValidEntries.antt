@@ -1,13 +1,11 @@
 -- The mapping of an outline without a fault has valid entries.
-use Rattle.dv_checks.proofs.Vocabulary.{◌≡◌, inl, inr, ℕ, ◌+◌, Bool, true, false, not, ◌&&◌, ◌==◌, List, [], ◌∷◌, ◌++◌, length, map, nat_lt, nat_le, Option, Some, None, refl, sym, ◌∙◌, ap, arith, ◌||◌, Contains, is_none, is_some, slice_get, flat_map, list_all, range_with_len, bytes_eq, and_from}
-use Rattle.dv_checks.proofs.Vocabulary.{and_parts, eqb-true, lt-ltb, not-true, nat_tests, length-map, Contains-append_left, Contains-append_right, Contains-cons_cases, Contains-cons_here, Contains-cons_there, Contains-flat_map, Contains-map, Contains-nil, Contains-range, map_member}
-use Rattle.dv_checks.proofs.Vocabulary.{member_of_filter_map, none_before_map, none_from, or_none, all_pass, none_found_at, none_passes, passes_at, passes_where_none_fails, some_passes, some_passes_at, bytes_eq-Decides, Outline, HubOutline, LinkOutline, FeedOutline, PathOutline, ParentName, Hub}
-use Rattle.dv_checks.proofs.Vocabulary.{Link, parent_hubs, first_of, has_column_form, has_name_form, is_within, most_columns, most_ignored, most_parts, most_references, most_steps, is_among, text_twice, are_some_places, feed_def, feed_place, has_number, has_shape, hub_def, hub_place, is_declared}
-use Rattle.dv_checks.proofs.Vocabulary.{is_hub, is_link, is_link_feed, is_of_link, is_valid_driver, is_valid_feed, is_valid_hub, is_valid_link, is_valid_path, keys_fit_hubs, link_def, link_place, mapping_of, parent_def, path_def, reference_place, list_all-map}
+use Rattle.dv_checks.proofs.Vocabulary.{Bool, Contains, Contains-append_left, Contains-append_right, Contains-cons_cases, Contains-cons_here, Contains-cons_there, Contains-flat_map, Contains-map, Contains-nil, Contains-range, FeedOutline, Hub, HubOutline, Link, LinkOutline, List, None, Option}
+use Rattle.dv_checks.proofs.Vocabulary.{Outline, ParentName, PathOutline, Some, [], all_pass, and_from, and_parts, ap, are_some_places, arith, bytes_eq, bytes_eq-Decides, eqb-true, false, feed_def, feed_place, first_of, flat_map, has_column_form, has_name_form, has_number, has_shape, hub_def}
+use Rattle.dv_checks.proofs.Vocabulary.{hub_place, inl, inr, is_among, is_declared, is_hub, is_link, is_link_feed, is_none, is_of_link, is_some, is_valid_driver, is_valid_feed, is_valid_hub, is_valid_link, is_valid_path, is_within, keys_fit_hubs, length, length-map, link_def, link_place}
+use Rattle.dv_checks.proofs.Vocabulary.{list_all, list_all-map, lt-ltb, map, map_member, mapping_of, member_of_filter_map, most_columns, most_ignored, most_parts, most_references, most_steps, nat_le, nat_lt, nat_tests, none_before_map, none_found_at, none_from, none_passes, not, not-true}
+use Rattle.dv_checks.proofs.Vocabulary.{or_none, parent_def, parent_hubs, passes_at, passes_where_none_fails, path_def, range_with_len, reference_place, refl, slice_get, some_passes, some_passes_at, sym, text_twice, true, ℕ, ◌&&◌, ◌++◌, ◌+◌, ◌==◌, ◌||◌, ◌∙◌, ◌∷◌, ◌≡◌}
+use Rattle.dv_checks.proofs.{Apart.place_under, Apart.places_apart, Apart.references_once, Apart.same_place, Faultless.Faultless, Faultless.KeepsLimits, Faultless.keeps_limits, Resolved.columns_fit, Resolved.hubs_of_parent, Resolved.is_step, Resolved.joined_by_place}
 use Rattle.dv_catalog.specs.Checks as spec
-use Rattle.dv_checks.proofs.Apart.{place_under, places_apart, references_once, same_place}
-use Rattle.dv_checks.proofs.Faultless.{Faultless, KeepsLimits, keeps_limits}
-use Rattle.dv_checks.proofs.Resolved.{columns_fit, hubs_of_parent, is_step, joined_by_place}
 
 pub all_mapped : {X Y : Type 0} (p : Y → Bool) (f : X → Y) (xs : List X) → ((x : X) → Contains xs x → p (f x) ≡ true) → list_all p (map f xs) ≡ true
 all_mapped p f xs each = list_all-map p f xs ∙ all_pass (λ x. p (f x)) xs each

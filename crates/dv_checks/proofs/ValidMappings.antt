@@ -1,10 +1,8 @@
 -- The mapping of an outline without a fault is valid.
-use Rattle.dv_checks.proofs.Vocabulary.{◌≡◌, ℕ, ◌<◌, ◌^◌, true, List, [], find, length, map, nat_le, nat_lt, Option, Some, None, refl, ◌∙◌, ap, arith, lit<, is_none, option_map_or, bytes_eq, nat_tests, length-map, map-map, found_member, none_passes, Outline, FeedDef, HubDef, LinkDef, PathDef}
-use Rattle.dv_checks.proofs.Vocabulary.{LinkOutline, ParentName, Hub, Link, most_feeds, most_hubs, most_links, most_paths, most_references, text_twice, feed_def, has_shape, hub_def, is_valid, link_def, mapping_of, path_def}
+use Rattle.dv_checks.proofs.Vocabulary.{FeedDef, Hub, HubDef, Link, LinkDef, LinkOutline, List, None, Option, Outline, ParentName, PathDef, Some, [], ap, arith, bytes_eq, feed_def, find, found_member, has_shape, hub_def, is_none, is_valid, length, length-map, link_def, lit<, map, map-map}
+use Rattle.dv_checks.proofs.Vocabulary.{mapping_of, most_feeds, most_hubs, most_links, most_paths, most_references, nat_le, nat_lt, nat_tests, none_passes, option_map_or, path_def, refl, text_twice, true, ℕ, ◌<◌, ◌^◌, ◌∙◌, ◌≡◌}
+use Rattle.dv_checks.proofs.{Apart.link_names_once, Faultless.faultless, Faultless.keeps_limits, ValidEntries.at_most, ValidEntries.feeds_valid, ValidEntries.hubs_valid, ValidEntries.links_valid, ValidEntries.none_is_none, ValidEntries.paths_valid}
 use Rattle.dv_catalog.specs.Checks as spec
-use Rattle.dv_checks.proofs.Apart.{link_names_once}
-use Rattle.dv_checks.proofs.Faultless.{faultless, keeps_limits}
-use Rattle.dv_checks.proofs.ValidEntries.{at_most, feeds_valid, hubs_valid, links_valid, none_is_none, paths_valid}
 
 -- names keep standing once
 once : {X Y : Type 0} (name_of : Y → List ℕ) (f : X → Y) (xs : List X) → text_twice (map (λ x. name_of (f x)) xs) ≡ None → is_none (text_twice (map name_of (map f xs))) ≡ true

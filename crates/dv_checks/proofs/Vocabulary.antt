@@ -1,32 +1,15 @@
 -- What the proofs of this crate, and of those above it, take from elsewhere.
-pub use Rattle.dv_text.proofs.Vocabulary.{Bool, Contains, Contains-append_cases, Contains-append_left, Contains-append_right, List, None, Option, Some, [], and_from, and_parts, ap, arith, bytes_eq-Decides, drop_more, eqb-true, false, filter_map, find, flat_map, get_or, inl, inr, is_some, length}
-pub use Rattle.dv_text.proofs.Vocabulary.{length-map, list_all, list_any, lt-ltb, map, nat_le, nat_tests, not, option_or, position_or_len, range_with_len, refl, slice_get, slice_get-map, subst, sym, take, true, ℕ, ◌&&◌, ◌++◌, ◌+◌, ◌<◌, ◌==◌, ◌^◌, ◌||◌, ◌∙◌, ◌∷◌, ◌≡◌, ◌≤◌}
-pub use Rattle.dv_catalog.proofs.Vocabulary.{again_after, all_pass, are_joined_by, bytes_eq, drop, first_of, found_member, has_column_form, has_name_form, is_declared, is_hub, is_link_feed, is_none, is_valid, is_valid_driver, is_valid_feed, is_valid_hub, is_valid_link, is_valid_path, is_within}
-pub use Rattle.dv_catalog.proofs.Vocabulary.{list_any-map, map-append, map_member, most_columns, most_feeds, most_hubs, most_ignored, most_links, most_parts, most_paths, most_references, most_steps, nat_eq, nat_lt, none_before_map, none_from, number_twice, or_none, parent_hubs, parts_of}
-pub use Rattle.dv_catalog.proofs.Vocabulary.{passes_at, text_twice, zip}
-pub use Rattle.dv_catalog.proofs.FirstAnswers.{AllNone, all_none}
-pub use Rattle.dv_catalog.proofs.PlaceSteps.{mapped_more}
-pub use Rattle.dv_catalog.specs.Checks.{are_joined}
-pub use Rattle.dv_catalog.specs.Feeds.{link_hubs}
-pub use Rattle.dv_catalog.specs.Lookups.{is_among}
-pub use Rattle.dv_catalog.specs.Mappings.{are_some_places, feed_def, feed_place, has_number, has_shape, hub_def, hub_place, is_link, is_of_link, is_place_of_step, keys_fit_hubs, link_def, link_place, link_places, mapping_of, parent_def, path_def, reference_place, step_places}
-pub use Rattle.dv_catalog.specs.declared.entries.FeedDef.{FeedDef}
-pub use Rattle.dv_catalog.specs.declared.entries.HubDef.{HubDef}
-pub use Rattle.dv_catalog.specs.declared.entries.LinkDef.{LinkDef}
-pub use Rattle.dv_catalog.specs.declared.entries.PathDef.{PathDef}
-pub use Rattle.dv_catalog.specs.declared.outlines.FeedOutline.{FeedOutline}
-pub use Rattle.dv_catalog.specs.declared.outlines.HubOutline.{HubOutline}
-pub use Rattle.dv_catalog.specs.declared.outlines.LinkOutline.{LinkOutline}
-pub use Rattle.dv_catalog.specs.declared.outlines.Outline.{Outline}
-pub use Rattle.dv_catalog.specs.declared.outlines.ParentName.{ParentName}
-pub use Rattle.dv_catalog.specs.declared.outlines.ParentName.TheVariants.{Hub, Link}
-pub use Rattle.dv_catalog.specs.declared.outlines.PathOutline.{PathOutline}
-pub use Rattle.dv_text.proofs.Members.{Contains-cons_cases, Contains-cons_here, Contains-cons_there, Contains-flat_map, Contains-map, Contains-nil, Contains-range, member_of_filter_map}
-pub use Rattle.dv_text.proofs.Passing.{none_found_at, none_passes, passes_where_none_fails, some_passes, some_passes_at}
-pub use Rattle.std.proofs.Common.{lit<, option_map, sum_by}
-pub use Rattle.std.proofs.lemmas.Bool.{eq-eqb, not-true}
-pub use Rattle.std.proofs.lemmas.List.{at_drop_all}
-pub use Rattle.std.proofs.lemmas.List.Folds.{find-append, find_at, list_all-map}
-pub use Rattle.std.proofs.lemmas.List.Sums.{prefix_len_stops}
-pub use Rattle.std.proofs.lemmas.Simd.{map-map}
+pub use Rattle.dv_catalog.proofs.Vocabulary.{Bool, Contains, List, None, Option, Some, [], again_after, all_pass, and_from, and_parts, ap, are_joined_by, arith, bytes_eq, bytes_eq-Decides, drop, drop_more, eqb-true, false, find, first_of, flat_map, get_or, has_column_form, has_name_form}
+pub use Rattle.dv_catalog.proofs.Vocabulary.{is_declared, is_hub, is_link_feed, is_none, is_valid, is_valid_driver, is_valid_feed, is_valid_hub, is_valid_link, is_valid_path, is_within, length, list_all, list_any, list_any-map, map, map-append, map_member, most_columns, most_feeds, most_hubs}
+pub use Rattle.dv_catalog.proofs.Vocabulary.{most_ignored, most_links, most_parts, most_paths, most_references, most_steps, nat_eq, nat_le, nat_lt, nat_tests, none_from, not, number_twice, option_or, or_none, parent_hubs, parts_of, passes_at, position_or_len, range_with_len, refl, slice_get, sym}
+pub use Rattle.dv_catalog.proofs.Vocabulary.{take, text_twice, true, zip, ℕ, ◌&&◌, ◌++◌, ◌+◌, ◌<◌, ◌==◌, ◌||◌, ◌∙◌, ◌∷◌, ◌≡◌, ◌≤◌}
+pub use Rattle.dv_text.proofs.Vocabulary.{Contains-append_cases, Contains-append_left, Contains-append_right, filter_map, inl, inr, is_some, length-map, lt-ltb, slice_get-map, subst, ◌^◌}
+pub use Rattle.dv_catalog.proofs.{FirstAnswers.AllNone, FirstAnswers.all_none, PlaceSteps.mapped_more}
+pub use Rattle.dv_catalog.specs.{Checks.are_joined, Feeds.link_hubs, Lookups.is_among, Mappings.are_some_places, Mappings.feed_def, Mappings.feed_place, Mappings.has_number, Mappings.has_shape, Mappings.hub_def, Mappings.hub_place, Mappings.is_link, Mappings.is_of_link, Mappings.is_place_of_step}
+pub use Rattle.dv_catalog.specs.{Mappings.keys_fit_hubs, Mappings.link_def, Mappings.link_place, Mappings.link_places, Mappings.mapping_of, Mappings.parent_def, Mappings.path_def, Mappings.reference_place, Mappings.step_places}
+pub use Rattle.dv_catalog.specs.declared.{entries.FeedDef.FeedDef, entries.HubDef.HubDef, entries.LinkDef.LinkDef, entries.PathDef.PathDef, outlines.FeedOutline.FeedOutline, outlines.HubOutline.HubOutline, outlines.LinkOutline.LinkOutline, outlines.Outline.Outline, outlines.ParentName.ParentName}
+pub use Rattle.dv_catalog.specs.declared.{outlines.ParentName.TheVariants.Hub, outlines.ParentName.TheVariants.Link, outlines.PathOutline.PathOutline}
+pub use Rattle.dv_text.proofs.{Members.Contains-cons_cases, Members.Contains-cons_here, Members.Contains-cons_there, Members.Contains-flat_map, Members.Contains-map, Members.Contains-nil, Members.Contains-range, Members.member_of_filter_map, Options.none_before_map, Passing.found_member}
+pub use Rattle.dv_text.proofs.{Passing.none_found_at, Passing.none_passes, Passing.passes_where_none_fails, Passing.some_passes, Passing.some_passes_at}
+pub use Rattle.std.proofs.{Common.lit<, Common.option_map, Common.sum_by, lemmas.Bool.eq-eqb, lemmas.Bool.not-true, lemmas.List.at_drop_all, lemmas.List.Folds.find-append, lemmas.List.Folds.find_at, lemmas.List.Folds.list_all-map, lemmas.List.Sums.prefix_len_stops, lemmas.Simd.map-map}
 pub use Rattle.std.specs.Option.{option_and_then, option_map_or}

@@ -1,20 +1,10 @@
 -- What is read back from the vault, by what its tables answer.
-use Rattle.dv_contents.proofs.Vocabulary.{ltb-true, filter_map_more, ◌≡◌, ◌⊎◌, inl, inr, ℕ, ◌+◌, ◌<◌, ◌==◌, Bool, true, false, List, [], ◌∷◌, ◌++◌, Option, Some, None, Bor, refl, sym, ◌∙◌, ap, arith, get_or, length, take}
-use Rattle.dv_contents.proofs.Vocabulary.{if◌then◌else◌, slice_get, filter_map, option_map, option_map_or, option_to_list, Key, NRow, Window, Hashes, sorted_by, FeedDef, Parent, Hub, Link, Mapping, parent_hubs, is_declared}
-use Rattle.dv_contents.proofs.Vocabulary.{HubRow, LinkRow, SatRow, StatusRow, TableRows, feed_mart, attrs_read, content_read, content_read_by, hub_row_by, hub_rows_in, keys_read, link_row_by, link_rows_in, present_parents}
-use Rattle.dv_contents.proofs.Vocabulary.{refs_read, row_read, sat_rows, sat_rows_in, status_rows_in, valid_at, HasSealed, RawVault, has_table, is_parent}
-use Rattle.dv_contents.proofs.Vocabulary.{flat_map, flat_map_more, is_valid, map, take_more}
-use Rattle.dv_text.specs.Orders.{row_cmp}
-use Rattle.dv_contents.proofs.Vocabulary.{replicate}
-use Rattle.std.proofs.lemmas.Simd.{map-map}
-use Rattle.std.specs.List.{cons_option, zip}
-use Rattle.dv_contents.proofs.Vocabulary.{get_or-map-range_with_len, length-map-range_with_len, map-range_with_len_more, range_with_len}
-use Rattle.dv_records.specs.ReadBack.{any_content_read, any_content_read_by, missing_key, multi_content_read, multi_content_read_by, rows_read}
-use Rattle.dv_records.specs.Reconstruction.{described_row}
-use Rattle.dv_records.proofs.MultiReadBack.{vault_tells}
-use Rattle.dv_contents.specs.Contents.{key_refs, key_row, list_refs, list_row, missing_keys, parents_read, plain_row, valid_attrs}
+use Rattle.dv_contents.proofs.Vocabulary.{Bool, Bor, FeedDef, HasSealed, Hashes, Hub, HubRow, Key, Link, LinkRow, List, Mapping, NRow, None, Option, Parent, RawVault, SatRow, Some, StatusRow, TableRows, Window, [], absent_rows, any_content_read, any_content_read_by, ap, arith, attrs_read}
+use Rattle.dv_contents.proofs.Vocabulary.{cons_option, content_read, content_read_by, described_row, false, feed_mart, filter_map, filter_map_more, flat_map, flat_map_more, get_or, get_or-map-range_with_len, has_table, hub_row_by, hub_rows_in, if◌then◌else◌, inl, inr, is_declared, is_parent}
+use Rattle.dv_contents.proofs.Vocabulary.{is_valid, key_refs, key_row, keys_read, length, length-map-range_with_len, link_row_by, link_rows_in, list_refs, list_row, ltb-true, map, map-map, map-range_with_len_more, missing_key, missing_keys, multi_content_read, multi_content_read_by, option_map}
+use Rattle.dv_contents.proofs.Vocabulary.{option_map_or, option_to_list, parent_hubs, parents_read, plain_row, present_parents, range_with_len, refl, refs_read, replicate, row_cmp, row_read, rows_read, sat_rows, sat_rows_in, seen-twice, slice_get, sorted_by, status_rows_in, sym, take, take_more}
+use Rattle.dv_contents.proofs.Vocabulary.{true, valid_at, valid_attrs, vault_tells, zip, ℕ, ◌++◌, ◌+◌, ◌<◌, ◌==◌, ◌∙◌, ◌∷◌, ◌≡◌, ◌⊎◌}
 use Rattle.dv_catalog.specs.declared.tables.TableId.TheVariants as ids
-use Rattle.dv_vault.proofs.VaultFacts.{absent_rows, seen-twice}
 
 -- what is made of a thing that two looks found
 pub made_through : {X Y Z A : Type 0} (f : Y → Z) (g : X → Y) (h : A → Y) (o : Option X) (found : Option A) → option_map h found ≡ option_map g o

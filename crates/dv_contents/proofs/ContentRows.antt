@@ -1,5 +1,5 @@
 -- Two orders in turn, by what the first answers.
-use Rattle.dv_contents.proofs.Vocabulary.{◌≡◌, refl, sym, ap, ◌∙◌, Ordering, Equal, Greater, Less, ordering_then}
+use Rattle.dv_contents.proofs.Vocabulary.{Equal, Greater, Less, Ordering, ap, ordering_then, refl, sym, ◌∙◌, ◌≡◌}
 
 pub tied : (first second r result : Ordering) → r ≡ first → r ≡ Equal → result ≡ second → result ≡ ordering_then first second
 tied first second r result is equal second_is = second_is ∙ ap (λ o. ordering_then o second) (sym equal ∙ is)

@@ -1,12 +1,5 @@
 -- Rows that are told apart by the numbers of their first keys.
-use Rattle.std.proofs.Common.{arith}
-use Rattle.std.proofs.lemmas.Bool.Decides.{nat_tests}
-use Rattle.std.specs.Ordering.{nat_cmp, ordering_reverse}
-use Rattle.dv_contents.proofs.Vocabulary.{◌≡◌, ◌<◌, ◌∙◌, ℕ, NRow, Less, Greater, ap}
-use Rattle.dv_text.specs.Orders.{row_cmp}
-use Rattle.dv_text.proofs.Deciding.{row_total}
-use Rattle.dv_text.specs.PrefixLaws.{row_agrees}
-use Rattle.dv_text.specs.Prefixes.{row_prefix}
+use Rattle.dv_contents.proofs.Vocabulary.{Greater, Less, NRow, ap, arith, nat_cmp, nat_tests, ordering_reverse, row_agrees, row_cmp, row_prefix, row_total, ℕ, ◌<◌, ◌∙◌, ◌≡◌}
 
 less_under : (m n : ℕ) → nat_cmp m n ≡ Less → m < n
 less_under m n e = grind (arith, nat_tests)

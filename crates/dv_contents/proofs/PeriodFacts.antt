@@ -1,13 +1,7 @@
 -- The periods that are read back from the vault, by what its tables answer.
-use Rattle.dv_contents.proofs.Vocabulary.{◌≡◌, ℕ, ◌<◌, true, List, Option, Some, ◌∙◌, ap, sym, arith, length, nat_lt, nat_tests, slice_get, filter_map, sorted_by, Contains, Window, Hashes, FeedDef, Mapping, TableRows, is_table_of, is_valid, passes_at, tables, tables_in, HasSealed, RawVault}
+use Rattle.dv_contents.proofs.Vocabulary.{Contains, EffectRow, FeedDef, HasSealed, Hashes, List, Mapping, Option, Period, PeriodRow, RawVault, Some, TableRows, Window, ap, arith, effect_periods, effect_rows_in, filter_map, is_table_of, is_valid, length, nat_lt, nat_tests, passes_at, period_cmp}
+use Rattle.dv_contents.proofs.Vocabulary.{period_mart, period_read, periods_read, periods_read_by, periods_tell, slice_get, sorted_by, sym, tables, tables_in, true, ℕ, ◌<◌, ◌∙◌, ◌≡◌}
 use Rattle.dv_catalog.specs.declared.tables.TableId.TheVariants as ids
-use Rattle.dv_records.specs.declared.mart_rows.Period.{Period}
-use Rattle.dv_records.specs.declared.mart_rows.PeriodRow.{PeriodRow}
-use Rattle.dv_records.specs.declared.raw_rows.EffectRow.{EffectRow}
-use Rattle.dv_records.specs.EffectPeriods.{effect_periods}
-use Rattle.dv_records.specs.Marts.{period_cmp, period_mart}
-use Rattle.dv_records.specs.ReadBack.{effect_rows_in, period_read, periods_read, periods_read_by}
-use Rattle.dv_records.proofs.PeriodReadBack.{periods_tell}
 
 -- a feed with an effectivity table is one of the mapping
 pub effect_within : (mapping : Mapping) (feed : ℕ) → Contains (tables mapping) (ids.Effect feed) → feed < length mapping.feeds

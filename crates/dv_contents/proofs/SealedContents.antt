@@ -1,11 +1,7 @@
 -- What is read back from the tables of a vault for a feed of a sealed window, at the window's load date.
-use Rattle.dv_contents.proofs.Vocabulary.{eq-eqb, refl, Contains, find, List, Some, [], ap, arith, false, inl, inr, map, nat_le, reverse, sym, true, ℕ, ◌<◌, ◌==◌, ◌∙◌, ◌∷◌, ◌≡◌, le-leb, nat_lt, and_parts, list_all, nat_tests, option_map}
-use Rattle.dv_contents.proofs.Vocabulary.{Contains-cons_cases, Contains-map, Contains-nil, member_of_filter_map, reverse_member, Hashes, ascends, is_window, extract_of, Extract, content, history, newest_rows, up_to}
-use Rattle.dv_contents.proofs.Vocabulary.{TableRows, Staged, Window, HasSealed, RawVault, passes_at, IsNewestFirst, history-newest_first, load_order, WindowParts, window_parts}
-use Rattle.dv_contents.proofs.Vocabulary.{is_valid}
-use Rattle.dv_records.specs.ReadBack.{any_content_read}
-use Rattle.dv_records.proofs.MultiReadBack.{vault_tells}
-use Rattle.dv_vault.proofs.VaultCollisions.{sealed_parts}
+use Rattle.dv_contents.proofs.Vocabulary.{Contains, Contains-cons_cases, Contains-map, Contains-nil, Extract, HasSealed, Hashes, IsNewestFirst, List, RawVault, Some, Staged, TableRows, Window, WindowParts, [], and_parts, any_content_read, ap, arith, ascends, content, eq-eqb, extract_of, false}
+use Rattle.dv_contents.proofs.Vocabulary.{find, history, history-newest_first, inl, inr, is_valid, is_window, le-leb, list_all, load_order, map, member_of_filter_map, nat_le, nat_lt, nat_tests, newest_rows, option_map, passes_at, refl, reverse, reverse_member, sealed_parts, sym, true, up_to}
+use Rattle.dv_contents.proofs.Vocabulary.{vault_tells, window_parts, ℕ, ◌<◌, ◌==◌, ◌∙◌, ◌∷◌, ◌≡◌}
 
 not_reached : (a b : ℕ) → a < b → nat_le b a ≡ false
 not_reached a b h = grind (arith, nat_tests, h)

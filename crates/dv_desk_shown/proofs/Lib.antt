@@ -1,1 +1,2 @@
 -- none
+pub mod Vocabulary

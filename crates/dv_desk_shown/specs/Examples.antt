@@ -3,7 +3,7 @@ use Rattle.std.specs.Prelude.{◌≡◌, ℕ, List, [], ◌∷◌, ◌++◌, Boo
 use Rattle.dv_catalog.specs.declared.rules.Rule.TheVariants.{Differs, NoExtracts, TooLong}
 use Rattle.dv_http.specs.Replies.{reply_text}
 use Rattle.dv_http.specs.declared.requests.Request.{Request}
-use Rattle.dv_mart.specs.declared.query_rules.QueryRule.TheVariants.{BadDate}
+use Rattle.dv_print.specs.declared.query_rules.QueryRule.TheVariants.{BadDate}
 use Rattle.dv_desk.specs.declared.answers.Answer.{Answer}
 use Rattle.dv_desk.specs.declared.answers.Answer.TheVariants as answers
 use Rattle.dv_desk.specs.declared.posted.Posted.TheVariants as posting

@@ -1,5 +1,5 @@
 -- Joined texts as the first one and the others, each behind the byte between them.
-use Rattle.dv_digest.proofs.Vocabulary.{◌≡◌, ◌≤◌, ◌<◌, ◌+◌, ◌∷◌, ◌++◌, [], ℕ, List, length, map, take, get_or, flat_map, append-nil, append_assoc, length-append, ap, sym, ◌∙◌, refl, arith, take_all, flat_map-map, length-flat_map-take, join_with_byte, Key, joined, key_text, refs_text}
+use Rattle.dv_digest.proofs.Vocabulary.{Key, List, [], ap, append-nil, append_assoc, arith, flat_map, flat_map-map, get_or, join_with_byte, joined, key_text, length, length-append, length-flat_map-take, map, refl, refs_text, sym, take, take_all, ℕ, ◌++◌, ◌+◌, ◌<◌, ◌∙◌, ◌∷◌, ◌≡◌, ◌≤◌}
 
 join-cons : (c : ℕ) (x : List ℕ) (xs : List (List ℕ)) → join_with_byte c (x ∷ xs) ≡ x ++ flat_map (λ y. c ∷ y) xs
 join-cons c x [] = sym (append-nil x)

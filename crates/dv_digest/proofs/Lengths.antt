@@ -1,6 +1,6 @@
 -- How long joined texts are, and that those of a staged row fit.
-use Rattle.dv_digest.proofs.Vocabulary.{◌≡◌, ◌≤◌, ◌+◌, ◌-◌, ◌*◌, ◌∷◌, [], ℕ, List, Bool, true, length, map, nat_le, arith, length-append, leb-true, le-leb, refl, suc-mul, mul-le-mul_right, join_with_byte, list_all, and_parts, length-map, Key, joined, key_text, refs_text, ROOM_SIZE, attrs_fit}
-use Rattle.dv_digest.proofs.Vocabulary.{longest_text, refs_fit, texts_fit}
+use Rattle.dv_digest.proofs.Vocabulary.{Bool, Key, List, ROOM_SIZE, [], and_parts, arith, attrs_fit, join_with_byte, joined, key_text, le-leb, leb-true, length, length-append, length-map, list_all, longest_text, map, mul-le-mul_right, nat_le, refl, refs_fit, refs_text, suc-mul, texts_fit, true}
+use Rattle.dv_digest.proofs.Vocabulary.{ℕ, ◌*◌, ◌+◌, ◌-◌, ◌∷◌, ◌≡◌, ◌≤◌}
 
 -- texts of at most so many bytes
 abbrev are_short : ℕ → List (List ℕ) → Bool

@@ -1,5 +1,5 @@
 -- How what is read of a body stands in all that is read.
-use Rattle.dv_http.proofs.Vocabulary.{◌≡◌, ℕ, List, [], ◌++◌, Option, Some, None, refl, sym, ◌∙◌, ap, append_assoc, append-nil, in_front, Came}
+use Rattle.dv_http.proofs.Vocabulary.{Came, List, None, Option, Some, [], ap, append-nil, append_assoc, in_front, refl, sym, ℕ, ◌++◌, ◌∙◌, ◌≡◌}
 
 pub front_twice : (a b : List ℕ) (left : Option (List ℕ)) → in_front (a ++ b) left ≡ in_front a (in_front b left)
 front_twice a b None = refl

@@ -1,9 +1,7 @@
 -- A head ends with an empty line, so what came without the end of one made no head.
-use Rattle.dv_http.proofs.Vocabulary.{◌≡◌, ℕ, ◌+◌, ◌<◌, ◌≤◌, List, [], ◌∷◌, ◌++◌, length, take, drop, inl, inr, refl, sym, ◌∙◌, ap, subst, arith, append_assoc, append-nil, length-append, take-append_seam, flat_map, cases_lt, ⊎_elim}
-use Rattle.dv_http.proofs.Vocabulary.{EndsEmpty, EndsLine, HasNoEnd, HasNoRequest, RequestHead, print_request, print_request-append, Field, LineEnd, crlf, lf, print_blank, print_end, print_field, print_section, print_version}
-use Rattle.dv_http.proofs.Vocabulary.{get_or, length-take, take_more, take-take}
-use Rattle.dv_http.proofs.Fronts.{within_front}
-use Rattle.dv_http.proofs.Slices.{same_parts}
+use Rattle.dv_http.proofs.Vocabulary.{EndsEmpty, EndsLine, Field, HasNoEnd, HasNoRequest, LineEnd, List, RequestHead, [], ap, append-nil, append_assoc, arith, cases_lt, crlf, drop, flat_map, get_or, inl, inr, length, length-append, length-take, lf, print_blank, print_end, print_field}
+use Rattle.dv_http.proofs.Vocabulary.{print_request, print_request-append, print_section, print_version, refl, subst, sym, take, take-append_seam, take-take, take_more, ℕ, ⊎_elim, ◌++◌, ◌+◌, ◌<◌, ◌∙◌, ◌∷◌, ◌≡◌, ◌≤◌}
+use Rattle.dv_http.proofs.{Fronts.within_front, Slices.same_parts}
 
 -- a line feed is the last byte
 EndsFeed : List ℕ → Type 0

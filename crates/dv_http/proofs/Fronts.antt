@@ -1,8 +1,7 @@
 -- What is known of the bytes of a connection by what is found at their front.
-use Rattle.dv_http.proofs.Vocabulary.{◌≡◌, ℕ, ◌<◌, ◌≤◌, List, [], ◌++◌, length, take, drop, Option, Some, None, IfSome, inl, inr, sym, ◌∙◌, ap, subst, arith, append_assoc, append-nil, length-append, length-take}
-use Rattle.dv_http.proofs.Vocabulary.{take-append-drop, take-append-le, take-append_seam, take_all, drop-append-le, length-map}
-use Rattle.dv_http.proofs.Vocabulary.{ReadsRequest-append, HasNoRequest, MayBecomeRequest, ReadsRequest, RequestHead, print_request, IsRequestAt, RequestOverflows, HeaderSpan, RequestSpans}
-use Rattle.dv_http.proofs.Vocabulary.{in_front, HasEnded, EndsInHead, HasHead, HasNoHead, IsHeadAt, fields_most, head_most, header_bytes, name_and_value, ◌∷◌}
+use Rattle.dv_http.proofs.Vocabulary.{EndsInHead, HasEnded, HasHead, HasNoHead, HasNoRequest, HeaderSpan, IfSome, IsHeadAt, IsRequestAt, List, MayBecomeRequest, None, Option, ReadsRequest, ReadsRequest-append, RequestHead, RequestOverflows, RequestSpans, Some, [], ap, append-nil, append_assoc}
+use Rattle.dv_http.proofs.Vocabulary.{arith, drop, drop-append-le, fields_most, head_most, header_bytes, in_front, inl, inr, length, length-append, length-map, length-take, name_and_value, print_request, subst, sym, take, take-append-drop, take-append-le, take-append_seam, take_all, ℕ, ◌++◌, ◌<◌}
+use Rattle.dv_http.proofs.Vocabulary.{◌∙◌, ◌∷◌, ◌≡◌, ◌≤◌}
 
 -- the first of two parts is within the first of two others, where it is no longer
 pub within_front : (a b c d : List ℕ) → a ++ b ≡ c ++ d → length a ≤ length c → c ≡ a ++ drop (length a) c

@@ -1,7 +1,6 @@
 -- Digits, as they are read.
-use Rattle.dv_http.proofs.Vocabulary.{◌≡◌, ℕ, ◌<◌, ◌≤◌, ◌==◌, List, [], ◌∷◌, length, true, false, arith, and_parts}
-use Rattle.dv_http.proofs.Vocabulary.{list_all, is_ascii_digit, refl, ◌^◌, ◌∙◌, ap, nat_lt, nat_le, Err, BodyTooLong, length_told, is_length, digits_value, IsNumeral}
-use Rattle.dv_http.proofs.Vocabulary.{AllDigits, IsUtf8, IsUtf8-from_ascii, IsAscii-from_digits, digit_value_digit, without_leading_plus, IsInRange}
+use Rattle.dv_http.proofs.Vocabulary.{AllDigits, BodyTooLong, Err, IsAscii-from_digits, IsInRange, IsNumeral, IsUtf8, IsUtf8-from_ascii, List, [], and_parts, ap, arith, digit_value_digit, digits_value, false, is_ascii_digit, is_length, length, length_told, list_all, nat_le, nat_lt, refl, true}
+use Rattle.dv_http.proofs.Vocabulary.{without_leading_plus, ℕ, ◌<◌, ◌==◌, ◌^◌, ◌∙◌, ◌∷◌, ◌≡◌, ◌≤◌}
 
 digit_within : (b : ℕ) → is_ascii_digit b ≡ true → IsInRange 48 57 b
 digit_within b is = grind (arith, is)

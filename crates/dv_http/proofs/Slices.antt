@@ -1,6 +1,6 @@
 -- Parts of a list between two places.
-use Rattle.dv_http.proofs.Vocabulary.{◌≡◌, ℕ, ◌+◌, ◌-◌, ◌≤◌, List, ◌++◌, length, take, drop, sym, ◌∙◌, ap, arith, drop-drop, drop-take, slice_range, length-take-le, drop-append-le}
-use Rattle.dv_http.proofs.Vocabulary.{append_assoc, drop-append_seam, take-append_seam, take-take, take-append-le, take-append-add, length-append, length-drop, length-take}
+use Rattle.dv_http.proofs.Vocabulary.{List, ap, append_assoc, arith, drop, drop-append-le, drop-append_seam, drop-drop, drop-take, length, length-append, length-drop, length-take, length-take-le, slice_range, sym, take, take-append-add, take-append-le, take-append_seam, take-take, ℕ, ◌++◌, ◌+◌}
+use Rattle.dv_http.proofs.Vocabulary.{◌-◌, ◌∙◌, ◌≡◌, ◌≤◌}
 
 -- without the first few
 pub later_part : (xs : List ℕ) (start count end : ℕ) → start + count ≤ end → slice_range xs (start + count) end ≡ drop count (slice_range xs start end)

@@ -1,10 +1,8 @@
 -- What is taken, by what is found at the front of a connection's bytes.
-use Rattle.dv_http.proofs.Vocabulary.{◌≡◌, ℕ, ◌<◌, ◌≤◌, List, [], ◌++◌, length, take, drop, Option, Some, None, IfSome, IsSomeAnd, Ok, Err, Result, inl, inr, refl, sym, ◌∙◌, ap, subst, arith, unwrap_or, length-take}
-use Rattle.dv_http.proofs.Vocabulary.{WireError, BodyTooLong, Cut, Head, Memory, NoLength, ReadFault, Spent, RequestHead, RequestSpans, HeaderSpan, IsRequestAt, print_request}
-use Rattle.dv_http.proofs.Vocabulary.{BeginsWith, HasHead, Refuses, Takes, fields_most, head_most, length_of, request_of, FindsHead, GivesBody, IsHeadAt, IsHeadOf, Says, Said, in_front}
-use Rattle.dv_http.proofs.Vocabulary.{BodyWaits, HasNoRequest, HasNoWhole, ReadsRequest, Waited, length-append, request_unique, take-append-drop, take-append_seam, take-take}
-use Rattle.dv_http.proofs.Bodies.{front_twice}
-use Rattle.dv_http.proofs.Fronts.{head_held}
+use Rattle.dv_http.proofs.Vocabulary.{BeginsWith, BodyTooLong, BodyWaits, Cut, Err, FindsHead, GivesBody, HasHead, HasNoRequest, HasNoWhole, Head, HeaderSpan, IfSome, IsHeadAt, IsHeadOf, IsRequestAt, IsSomeAnd, List, Memory, NoLength, None, Ok, Option, ReadFault, ReadsRequest, Refuses}
+use Rattle.dv_http.proofs.Vocabulary.{RequestHead, RequestSpans, Result, Said, Says, Some, Spent, Takes, Waited, WireError, [], ap, arith, drop, fields_most, head_most, in_front, inl, inr, length, length-append, length-take, length_of, print_request, refl, request_of, request_unique, subst, sym}
+use Rattle.dv_http.proofs.Vocabulary.{take, take-append-drop, take-append_seam, take-take, unwrap_or, ℕ, ◌++◌, ◌<◌, ◌∙◌, ◌≡◌, ◌≤◌}
+use Rattle.dv_http.proofs.{Bodies.front_twice, Fronts.head_held}
 
 -- a head has no proper length
 refuses_head : (bytes : List ℕ) (head : RequestHead) (rest : List ℕ) (error : WireError) → HasHead bytes head rest → IsHeadOf head (Err error) → Refuses bytes error

@@ -1,9 +1,7 @@
 -- What connections give is one thing alone.
-use Rattle.dv_http_shown.proofs.Vocabulary.{◌≡◌, ℕ, ◌<◌, List, [], ◌++◌, length, Option, Some, None, Ok, Err, Result, inl, inr, refl, sym, ◌∙◌, ap, subst, arith, length-append, same_parts, append-nil}
-use Rattle.dv_http_shown.proofs.Vocabulary.{request_unique, ReadsRequest, RequestHead, print_request, old, BeginsWith, EndsInBody, Gives, HasFault, HasHead, HasNoHead, Refuses, length_of, request_of, IsInBytes}
+use Rattle.dv_http_shown.proofs.Vocabulary.{BeginsWith, BodyTooLong, Cut, EndsInBody, Err, Gives, HasFault, HasHead, HasNoHead, Head, IsInBytes, List, Memory, NoLength, None, Ok, Option, ReadFault, ReadsRequest, Refuses, Request, RequestHead, RequestOverflows, Result, Some, Spent, WireError, []}
+use Rattle.dv_http_shown.proofs.Vocabulary.{ap, append-nil, arith, fields_most, head_most, inl, inr, length, length-append, length_of, old, print_request, refl, request_of, request_unique, same_parts, subst, sym, ℕ, ◌++◌, ◌<◌, ◌∙◌, ◌≡◌, ◌≤◌, ◌⊎◌}
 use Rattle.dv_http_shown.proofs.SampleHeads.{head_old}
-use Rattle.dv_http_shown.proofs.Vocabulary.{◌≤◌, ◌⊎◌, RequestOverflows, fields_most, head_most}
-use Rattle.dv_http_shown.proofs.Vocabulary.{WireError, BodyTooLong, Cut, Head, Memory, NoLength, ReadFault, Spent, Request}
 
 -- a head has some bytes
 some_bytes : (head : RequestHead) → 0 < length (print_request head)

@@ -1,6 +1,5 @@
 -- The heads of the examples are heads.
-use Rattle.dv_http_shown.proofs.Vocabulary.{refl, arith, codes, [], ◌<◌, All-from_recursion, AllPass-from_test, IsAscii-from_all, IsUtf8}
-use Rattle.dv_http_shown.proofs.Vocabulary.{IsUtf8-from_ascii, IsField, IsRequestHead, is_token_byte, is_uri_byte, is_value_byte, old, posted, host}
+use Rattle.dv_http_shown.proofs.Vocabulary.{All-from_recursion, AllPass-from_test, IsAscii-from_all, IsField, IsRequestHead, IsUtf8, IsUtf8-from_ascii, [], arith, codes, host, is_token_byte, is_uri_byte, is_value_byte, old, posted, refl, ◌<◌}
 
 root_text : IsUtf8 (codes "/")
 root_text = IsUtf8-from_ascii (codes "/") (IsAscii-from_all (codes "/") (All-from_recursion (λ b. b < 128) (codes "/") (omega arith, tt)))

@@ -1,5 +1,5 @@
 -- Of some of which none is like a later one, those that are alike are one.
-use Rattle.dv_hub_link.proofs.Vocabulary.{◌≡◌, inl, inr, Bool, true, List, [], ◌∷◌, sym, ◌∙◌, subst, Contains, Contains-cons_cases, Contains-nil}
+use Rattle.dv_hub_link.proofs.Vocabulary.{Bool, Contains, Contains-cons_cases, Contains-nil, List, [], inl, inr, subst, sym, true, ◌∙◌, ◌∷◌, ◌≡◌}
 
 pub one_alike : {X : Type 0} (apart : List X → Bool) (Alike : X → X → Type 0) → ((a b : X) → Alike a b → Alike b a)
     → ((x : X) (xs : List X) → apart (x ∷ xs) ≡ true → ((other : X) → Contains xs other → Alike other x → ⊥) × (apart xs ≡ true))

@@ -1,10 +1,8 @@
 -- The rows of new lists are a batch, and may stand behind the rows of which the lists are new.
-use Rattle.dv_hub_link.proofs.Vocabulary.{◌≡◌, ℕ, inl, inr, Bool, true, false, List, [], ◌∷◌, ◌++◌, Option, Some, None, refl, sym, ◌∙◌, ap, subst, Contains, Contains-append_left, ◌||◌, if◌then◌else◌, AllByRecursion, filter_map, list_all, IsStrictlySortedBy, Ordering, Less, option_to_list, then_less}
-use Rattle.dv_hub_link.proofs.Vocabulary.{irreflexive}
-use Rattle.dv_hub_link.proofs.Vocabulary.{filter_map-append, Hashes, is_missing, Contains-cons_here, Contains-cons_there, filter_map_member, member_of_filter_map, ascending-sorted_by, member_after_sort, Mapping, Delivery, batch_made, batch_of, digest_cmp, tied_by_digest, Hashed, HasNoClash}
-use Rattle.dv_hub_link.proofs.Vocabulary.{or_parts, HashedList, hashed_cmp, hashed_cmp-IsAntisymmetric, hashed_item, is_held, all_hashed, brought, new_item, new_lists}
-use Rattle.dv_hub_link.proofs.Brought.{item_in, one_list}
-use Rattle.dv_hub_link.proofs.Clashes.{hashed_total, same_digest}
+use Rattle.dv_hub_link.proofs.Vocabulary.{AllByRecursion, Bool, Contains, Contains-append_left, Contains-cons_here, Contains-cons_there, Delivery, HasNoClash, Hashed, HashedList, Hashes, IsStrictlySortedBy, Less, List, Mapping, None, Option, Ordering, Some, [], all_hashed, ap}
+use Rattle.dv_hub_link.proofs.Vocabulary.{ascending-sorted_by, batch_made, batch_of, brought, digest_cmp, false, filter_map, filter_map_member, hashed_cmp, hashed_cmp-IsAntisymmetric, hashed_item, if◌then◌else◌, inl, inr, irreflexive, is_held, is_missing, list_all, member_after_sort}
+use Rattle.dv_hub_link.proofs.Vocabulary.{member_of_filter_map, new_item, new_lists, or_parts, refl, subst, sym, then_less, tied_by_digest, true, ℕ, ◌||◌, ◌∙◌, ◌∷◌, ◌≡◌}
+use Rattle.dv_hub_link.proofs.{Brought.item_in, Brought.one_list, Clashes.hashed_total, Clashes.same_digest}
 
 -- ---- a filter that keeps the order of some of a list
 
@@ -37,14 +35,6 @@ filter_map_none f (x ∷ xs) none =
     let here = none x (Contains-cons_here x xs) in
     let rest = filter_map_none f xs (λ y has. none y (Contains-cons_there x xs y has)) in
     rw (here, rest) refl
-
--- a loop's step over items that it takes
-pub filter_map_push : {X Y : Type 0} (h : X → Option Y) (xs : List X) (x : X) → filter_map h (xs ++ x ∷ []) ≡ filter_map h xs ++ option_to_list (h x)
-filter_map_push h xs x = filter_map-append h xs (x ∷ []) ∙ by (h x) refl
-  where
-    by : (o : Option _) → h x ≡ o → filter_map h xs ++ filter_map h (x ∷ []) ≡ filter_map h xs ++ option_to_list (h x)
-    by None e = rw e refl
-    by (Some y) e = rw e refl
 
 -- ---- new lists
 

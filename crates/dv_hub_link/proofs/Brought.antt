@@ -1,9 +1,9 @@
 -- The hashed lists of deliveries are what they bring, and those that are new.
-use Rattle.dv_hub_link.proofs.Vocabulary.{◌≡◌, ℕ, inl, inr, Bool, true, false, List, [], ◌∷◌, ◌++◌, Some, None, refl, ◌∙◌, ap, subst, map, Contains, ◌||◌, filter, filter_map, list_all, IsStrictlySortedBy-filter, IsTotalOrder, Ordering, Less, Equal, Greater, turned, sorted_by, sorted_by-members}
-use Rattle.dv_hub_link.proofs.Vocabulary.{AllByRecursion, AreHashed, HashedDelivery, delivered, list_beside, recursion_from_All, Delivery, Key, Hashes, is_missing, refs_cmp, ◌⊎◌, map_member, Contains-cons_cases, Contains-nil, Contains-cons_here, Contains-cons_there, Contains-map, filtered_members}
-use Rattle.dv_hub_link.proofs.Vocabulary.{ascending-sorted_by, member_after_sort, member_before_sort, Mapping}
-use Rattle.dv_hub_link.proofs.Vocabulary.{Hashed, HasNoClash, IsLeastClash, Rivals, are_held_apart, least_rivals, brought, hashed_by, missing_in, hashed_cmp, hashed_item, hashed_cmp-IsAntisymmetric, is_held, all_hashed, is_new, new_item, new_lists, refs_exact, refs_total, brought_lists, with_missing}
-use Rattle.dv_hub_link.proofs.Vocabulary.{sym, not, is_some, same_Some, slice_get, refs_eq, if◌then◌else◌, Option, Held, Other, LentList, Standing, hashed_list, hashed_lists, is_new_beside, kept, lent_cmp, list_under, missing_of, sorted_by-map, standing, told}
+use Rattle.dv_hub_link.proofs.Vocabulary.{AllByRecursion, AreHashed, Bool, Contains, Contains-cons_cases, Contains-cons_here, Contains-cons_there, Contains-map, Contains-nil, Delivery, Equal, Greater, HasNoClash, Hashed, HashedDelivery, Hashes, Held, IsLeastClash, IsStrictlySortedBy-filter}
+use Rattle.dv_hub_link.proofs.Vocabulary.{IsTotalOrder, Key, LentList, Less, List, Mapping, None, Option, Ordering, Other, Rivals, Some, Standing, [], all_hashed, ap, are_held_apart, ascending-sorted_by, brought, brought_lists, delivered, false, filter, filter_map, filtered_members, hashed_by}
+use Rattle.dv_hub_link.proofs.Vocabulary.{hashed_cmp, hashed_cmp-IsAntisymmetric, hashed_item, hashed_list, hashed_lists, if◌then◌else◌, inl, inr, is_held, is_missing, is_new, is_new_beside, is_some, kept, least_rivals, lent_cmp, list_all, list_beside, list_under, map, map_member}
+use Rattle.dv_hub_link.proofs.Vocabulary.{member_after_sort, member_before_sort, missing_in, missing_of, new_item, new_lists, not, recursion_from_All, refl, refs_cmp, refs_eq, refs_exact, refs_total, same_Some, slice_get, sorted_by, sorted_by-map, sorted_by-members, standing, subst, sym, told}
+use Rattle.dv_hub_link.proofs.Vocabulary.{true, turned, with_missing, ℕ, ◌++◌, ◌||◌, ◌∙◌, ◌∷◌, ◌≡◌, ◌⊎◌}
 use Rattle.dv_hub_link.proofs.Clashes.{as_hashed, hashed_total, has_under, least_clash, no_clash}
 
 -- lists beside their hash keys have them

@@ -1,13 +1,10 @@
 -- The least pair of rivals among hashed lists and held ones is the least clash, and there is no clash where there is none.
-use Rattle.dv_hub_link.proofs.Vocabulary.{◌≡◌, ◌⊎◌, ℕ, inl, inr, Bool, true, false, List, [], ◌∷◌, ◌++◌, Option, Some, None, refl, sym, ◌∙◌, ap, subst, map, option_map, Contains, find, slice_get, IsTotalOrder, on_total, then_total, tied_itself, nat_list_cmp_total, nat_cmp-IsAntisymmetric}
-use Rattle.dv_hub_link.proofs.Vocabulary.{slice_cmp-IsAntisymmetric, cons_option, filter_map, IsStrictlySortedBy, bytes_eq, Ordering, Less, Equal, Greater, nat_cmp_total, Contains-append_cases, Contains-append_left, Contains-append_right, Contains-map, map_member, bytes_eq-Decides, Key}
-use Rattle.dv_hub_link.proofs.Vocabulary.{refs_eq, refs_cmp, sorted_by, Contains-cons_cases, Contains-cons_here, Contains-cons_there, Contains-nil, filter_map_member, member_of_all, member_of_filter_map, ascending-sorted_by, member_after_sort, member_before_sort, digest_cmp, Pair, Hashed}
-use Rattle.dv_hub_link.proofs.Vocabulary.{HasNoClash, IsClash, IsLeastClash, HashedList, Rivals, hashed_cmp, hashed_cmp-IsAntisymmetric, rivals_cmp-IsAntisymmetric, are_held_apart, list_under, all_neighbours, all_rivals, least_rivals, neighbours, rivals_cmp, rivals_of, held_rival}
-use Rattle.dv_hub_link.proofs.Vocabulary.{refs_eq-Decides, refs_exact}
-use Rattle.dv_hub_link.proofs.Vocabulary.{refs_total, finds, found_member, made_of, asymmetric, irreflexive, turned, then_less}
-use Rattle.dv_hub_link.proofs.Vocabulary.{is_some, list_any, map-map, or_parts, LentList, Standing, clash, has_clash, is_held, is_other, standing, told}
-use Rattle.dv_hub_link.proofs.Held.{one_held}
-use Rattle.dv_hub_link.proofs.Placed.{some_found}
+use Rattle.dv_hub_link.proofs.Vocabulary.{Bool, Contains, Contains-append_cases, Contains-append_left, Contains-append_right, Contains-cons_cases, Contains-cons_here, Contains-cons_there, Contains-map, Contains-nil, Equal, Greater, HasNoClash, Hashed, HashedList, IsClash, IsLeastClash}
+use Rattle.dv_hub_link.proofs.Vocabulary.{IsStrictlySortedBy, IsTotalOrder, Key, LentList, Less, List, None, Option, Ordering, Pair, Rivals, Some, Standing, [], all_neighbours, all_rivals, ap, are_held_apart, ascending-sorted_by, asymmetric, bytes_eq, bytes_eq-Decides, clash, cons_option}
+use Rattle.dv_hub_link.proofs.Vocabulary.{digest_cmp, false, filter_map, filter_map_member, find, finds, found_member, has_clash, hashed_cmp, hashed_cmp-IsAntisymmetric, held_rival, inl, inr, irreflexive, is_held, is_other, is_some, least_rivals, list_any, list_under, made_of, map, map-map}
+use Rattle.dv_hub_link.proofs.Vocabulary.{map_member, member_after_sort, member_before_sort, member_of_all, member_of_filter_map, nat_cmp-IsAntisymmetric, nat_cmp_total, nat_list_cmp_total, neighbours, on_total, option_map, or_parts, refl, refs_cmp, refs_eq, refs_eq-Decides, refs_exact}
+use Rattle.dv_hub_link.proofs.Vocabulary.{refs_total, rivals_cmp, rivals_cmp-IsAntisymmetric, rivals_of, slice_cmp-IsAntisymmetric, slice_get, sorted_by, standing, subst, sym, then_less, then_total, tied_itself, told, true, turned, ℕ, ◌++◌, ◌∙◌, ◌∷◌, ◌≡◌, ◌⊎◌}
+use Rattle.dv_hub_link.proofs.{Held.one_held, Placed.some_found}
 
 -- ---- orders
 

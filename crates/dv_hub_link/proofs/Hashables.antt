@@ -1,7 +1,7 @@
 -- The lists of deliveries can be hashed, and their tables, hubs and feeds are in the mapping.
-use Rattle.dv_hub_link.proofs.Vocabulary.{◌≡◌, ◌≤◌, ◌==◌, ℕ, Bool, Option, true, List, [], ◌∷◌, Some, None, refl, ◌∙◌, ap, subst, length, map, nat_le, nat_lt, arith, le-leb, leb-true, lt-ltb, eqb-true, eq-eqb, length-replicate, length-map, Contains, slice_get, list_all, zip, Key, Hashes}
-use Rattle.dv_hub_link.proofs.Vocabulary.{is_missing, refs_fit, texts_fit, HubDef, LinkDef, Parent, Hub, Link, Mapping, parent_hubs, parts_of, has_name_form, is_within, is_declared, is_valid, is_valid_hub, valid_link, valid_parts, Delivery, batch_made, passes_got, all_pass_replicate}
-use Rattle.dv_hub_link.proofs.Vocabulary.{table_of, Hashed, missing_in, missing_refs, HashedList, hashed_cmp, hashed_item, AreItems, IsItem, is_key_of, is_parent_table, missing_key, new_item, new_lists, and_from, and_parts, all_pass}
+use Rattle.dv_hub_link.proofs.Vocabulary.{AreItems, Bool, Contains, Delivery, Hashed, HashedList, Hashes, Hub, HubDef, IsItem, Key, Link, LinkDef, List, Mapping, None, Option, Parent, Some, [], all_pass, all_pass_replicate, and_from, and_parts, ap, arith, batch_made, eq-eqb, eqb-true}
+use Rattle.dv_hub_link.proofs.Vocabulary.{has_name_form, hashed_cmp, hashed_item, is_declared, is_key_of, is_missing, is_parent_table, is_valid, is_valid_hub, is_within, le-leb, leb-true, length, length-map, length-replicate, list_all, lt-ltb, map, missing_in, missing_key, missing_refs, nat_le}
+use Rattle.dv_hub_link.proofs.Vocabulary.{nat_lt, new_item, new_lists, parent_hubs, parts_of, passes_got, refl, refs_fit, slice_get, subst, table_of, texts_fit, true, valid_link, valid_parts, zip, ℕ, ◌==◌, ◌∙◌, ◌∷◌, ◌≡◌, ◌≤◌}
 use Rattle.dv_hub_link.proofs.Batches.{new_of}
 
 -- what is missing in the table of a parent

@@ -1,7 +1,7 @@
 -- Held lists: those under one hash key are one, and those of rows are found with the rows.
-use Rattle.dv_hub_link.proofs.Vocabulary.{◌≡◌, ℕ, Bool, true, false, List, [], ◌∷◌, refl, sym, ◌∙◌, map, option_map, Contains, not, bytes_eq, and_parts, false≢true, not-true, bytes_eq-Decides, Key, Place}
+use Rattle.dv_hub_link.proofs.Vocabulary.{Bool, Contains, Hashed, Key, List, Place, [], and_parts, are_held_apart, are_in_load_order, are_parents_apart, are_placed_rows, bytes_eq, bytes_eq-Decides, false, false≢true, has_row_under, is_held, list_any-map, list_under, map, not, not-true}
+use Rattle.dv_hub_link.proofs.Vocabulary.{option_map, refl, row_under, some_passes_at, sym, true, ℕ, ◌∙◌, ◌∷◌, ◌≡◌}
 use Rattle.dv_hub_link.proofs.Alike.{one_alike}
-use Rattle.dv_hub_link.proofs.Vocabulary.{list_any-map, Hashed, are_held_apart, is_held, list_under, are_parents_apart, are_placed_rows, are_in_load_order, has_row_under, row_under, some_passes_at}
 
 -- of lists whose hash keys are apart, those with one hash key are one
 pub one_held : (held : List Hashed) → are_held_apart held ≡ true → (a b : Hashed) → Contains held a → Contains held b → a.digest ≡ b.digest → a ≡ b

@@ -1,6 +1,6 @@
 -- Deliveries to a hub.
-use Rattle.dv_hub_link.proofs.Vocabulary.{◌≡◌, ◌==◌, ℕ, true, List, [], ◌∷◌, refl, sym, subst, length, nat_le, lt-ltb, ltb-true, eqb-true, arith, slice_get, list_all, zip, eq-eqb, and_from, and_parts, Key, Hub, Mapping, parts_of, Delivery}
-use Rattle.dv_hub_link.proofs.Vocabulary.{AreItems, IsItem, are_keys_of, is_key_of, are_items as is_items, AreHubItems, IsHubItem}
+use Rattle.dv_hub_link.proofs.Vocabulary.{AreHubItems, AreItems, Delivery, Hub, IsHubItem, IsItem, Key, List, Mapping, [], and_from, and_parts, are_keys_of, arith, eq-eqb, eqb-true, is_items, is_key_of, length, list_all, lt-ltb, ltb-true, nat_le, parts_of, refl, slice_get, subst, sym, true, zip}
+use Rattle.dv_hub_link.proofs.Vocabulary.{ℕ, ◌==◌, ◌∷◌, ◌≡◌}
 use Rattle.dv_hub_link.proofs.ItemTests.{passed}
 
 item_is : (mapping : Mapping) (hub : ℕ) (item : Delivery) → IsHubItem mapping hub item → IsItem mapping (Hub hub) item

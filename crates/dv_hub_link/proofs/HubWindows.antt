@@ -1,9 +1,7 @@
 -- Over the table of a hub after windows, what clashes is what collides, and the rows that are added are the batch.
-use Rattle.dv_hub_link.proofs.Vocabulary.{Option, ◌≡◌, ℕ, true, List, [], ◌∷◌, Some, None, refl, sym, ◌∙◌, ap, subst, reverse, Contains, IfOk, Result, Key, Window, Hashes, Hub, Mapping, DeltaFault, Delivery, HubRow, appended, Pair}
-use Rattle.dv_hub_link.proofs.Vocabulary.{collision_in, deliveries, is_known, Answers, Hashed, HasNoClash, IfCollides, IsLeastClash, hashed_by, hub_place, hub_batch, only_key, source, HashedList, offered_key, table_has, table_row, IsHeld, IsNext, hub_delta, hub_hashed, hub_row_of}
-use Rattle.dv_hub_link.proofs.Vocabulary.{Contains-map, map_member, is_offered, offered_member, some_passes}
-use Rattle.dv_hub_link.proofs.KeyDeltas.{answers, held_nothing, next_rows}
-use Rattle.dv_hub_link.proofs.WindowLists.{HoldsOffered, held_none as lists_none, next_least as lists_least, next_none as lists_free, offered_apart}
+use Rattle.dv_hub_link.proofs.Vocabulary.{Answers, Contains, Contains-map, Delivery, DeltaFault, HasNoClash, Hashed, HashedList, Hashes, Hub, HubRow, IfCollides, IfOk, IsHeld, IsLeastClash, IsNext, Key, List, Mapping, None, Option, Pair, Result, Some, Window, [], ap, appended, collision_in}
+use Rattle.dv_hub_link.proofs.Vocabulary.{deliveries, hashed_by, hub_batch, hub_delta, hub_hashed, hub_place, hub_row_of, is_known, is_offered, map_member, offered_key, offered_member, only_key, refl, reverse, some_passes, source, subst, sym, table_has, table_row, true, ℕ, ◌∙◌, ◌∷◌, ◌≡◌}
+use Rattle.dv_hub_link.proofs.{KeyDeltas.answers, KeyDeltas.held_nothing, KeyDeltas.next_rows, WindowLists.HoldsOffered, WindowLists.held_none as lists_none, WindowLists.next_least as lists_least, WindowLists.next_none as lists_free, WindowLists.offered_apart}
 use Rattle.dv_hub_link.specs.HubDeltas.{stored}
 
 -- a row stands under the hash key of its list, and has the load date

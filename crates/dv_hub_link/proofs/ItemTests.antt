@@ -1,8 +1,7 @@
 -- Deliveries that pass the tests are such as new lists are told from.
-use Rattle.dv_hub_link.proofs.Vocabulary.{◌≡◌, ◌&&◌, true, List, sym, ◌∙◌, ap, length, nat_lt, eqb-true, ltb-true, Contains, not, list_all, and_parts, false≢true, not-true, refs_eq, Parent, Hub, Link, TableId, Sat, Multi, Status}
-use Rattle.dv_hub_link.proofs.Vocabulary.{Effect, Mapping, parent_hubs, is_declared, Delivery, table_of, AreItems, IsItem, are_keys_of, are_apart, are_items, is_alone, is_item, is_table_of, refs_eq-Decides, passes_at}
+use Rattle.dv_hub_link.proofs.Vocabulary.{AreItems, Contains, Delivery, Effect, Hub, HubTable, IsItem, Link, LinkTable, List, Mapping, Multi, Parent, Sat, Status, TableId, and_parts, ap, are_apart, are_items, are_keys_of, eqb-true, false≢true, is_alone, is_declared, is_item, is_table_of, length}
+use Rattle.dv_hub_link.proofs.Vocabulary.{list_all, ltb-true, nat_lt, not, not-true, parent_hubs, passes_at, refs_eq, refs_eq-Decides, sym, table_of, true, ◌&&◌, ◌∙◌, ◌≡◌}
 use Rattle.dv_hub_link.proofs.Alike.{one_alike}
-use Rattle.dv_catalog.specs.declared.tables.TableId.TheVariants.{Hub as HubTable, Link as LinkTable}
 
 table_is : (parent : Parent) (table : TableId) → is_table_of parent table ≡ true → table ≡ table_of parent
 table_is (Hub hub) (HubTable other) e = ap HubTable (sym (eqb-true hub other e))

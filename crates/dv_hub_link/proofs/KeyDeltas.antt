@@ -1,13 +1,8 @@
 -- The rows that are made of new lists are the delta, stand behind those of the table, and over windows are the batch.
-use Rattle.dv_hub_link.proofs.Vocabulary.{◌≡◌, ℕ, Bool, true, false, List, [], ◌∷◌, ◌++◌, ◌||◌, Option, Some, None, refl, sym, ◌∙◌, ap, subst, reverse, nat_le, option_map, map, Bor, Ok, Err, Contains, Result, IfOk, if◌then◌else◌, filter_map, list_all, Key, Window, Hashes, is_missing, sorted_by}
-use Rattle.dv_hub_link.proofs.Vocabulary.{filter_map_member, Place, Parent, Mapping, DeltaFault, Collision, Memory, Delivery, batch_of, Pair, collision_in, deliveries, is_known, Answers, Hashed, HasNoClash, IfCollides, IsLeastClash, HashedList, hashed_item, is_held, list_under, AreItems, delta}
-use Rattle.dv_hub_link.proofs.Vocabulary.{lists_of, new_row, row_cmp, all_hashed, new_lists, are_placed_rows, has_row_under, row_under}
-use Rattle.dv_hub_link.proofs.Vocabulary.{LentList, beside, standing, told, zip}
-use Rattle.dv_text.proofs.Members.{filter_map_same}
-use Rattle.dv_hub_link.proofs.Batches.{filter_map_none, rows_are, rows_ascend, rows_new}
-use Rattle.dv_hub_link.proofs.Held.{is_held_rows, list_under_rows}
-use Rattle.dv_hub_link.proofs.Placed.{whole}
-use Rattle.dv_hub_link.proofs.WindowLists.{HoldsOffered, delivery_kept, held_is_known, held_item}
+use Rattle.dv_hub_link.proofs.Vocabulary.{Answers, AreItems, Bool, Bor, Collision, Contains, Delivery, DeltaFault, Err, HasNoClash, Hashed, HashedList, Hashes, IfCollides, IfOk, IsLeastClash, Key, LentList, List, Mapping, Memory, None, Ok, Option, Pair, Parent, Place, Result, Some, Window, []}
+use Rattle.dv_hub_link.proofs.Vocabulary.{all_hashed, ap, are_placed_rows, batch_of, beside, collision_in, deliveries, delta, false, filter_map, filter_map_member, filter_map_same, has_row_under, hashed_item, if◌then◌else◌, is_held, is_known, is_missing, list_all, list_under, lists_of, map}
+use Rattle.dv_hub_link.proofs.Vocabulary.{nat_le, new_lists, new_row, option_map, refl, reverse, row_cmp, row_under, sorted_by, standing, subst, sym, told, true, zip, ℕ, ◌++◌, ◌||◌, ◌∙◌, ◌∷◌, ◌≡◌}
+use Rattle.dv_hub_link.proofs.{Batches.filter_map_none, Batches.rows_are, Batches.rows_ascend, Batches.rows_new, Held.is_held_rows, Held.list_under_rows, Placed.whole, WindowLists.HoldsOffered, WindowLists.delivery_kept, WindowLists.held_is_known, WindowLists.held_item}
 
 module _ {R : Type 0} (place : R → Place) (list : R → List Key) where
   -- the list of the row that is found

@@ -1,5 +1,5 @@
 -- Keys that are missing or fit, and keys beside hubs and digests.
-use Rattle.dv_hub_link.proofs.Vocabulary.{◌≡◌, ◌⊎◌, ◌==◌, ℕ, inl, inr, Bool, true, false, List, [], ◌∷◌, refl, ◌∙◌, ap, suc, length, map, nat_le, replicate, arith, eqb-true, list_all, zip, Key, key_eq, refs_eq, texts_eq, refs_fit, texts_fit, and_from, and_parts}
+use Rattle.dv_hub_link.proofs.Vocabulary.{Bool, Key, List, [], and_from, and_parts, ap, arith, eqb-true, false, inl, inr, key_eq, length, list_all, map, nat_le, refl, refs_eq, refs_fit, replicate, suc, texts_eq, texts_fit, true, zip, ℕ, ◌==◌, ◌∙◌, ◌∷◌, ◌≡◌, ◌⊎◌}
 
 -- parts are all empty exactly where they equal so many empty ones
 pub missing_same : (parts : List (List ℕ)) (n : ℕ) → length parts ≡ n → list_all (λ (part : List ℕ). length part == 0) parts ≡ texts_eq (replicate n []) parts

@@ -1,6 +1,5 @@
 -- Deliveries to a link.
-use Rattle.dv_hub_link.proofs.Vocabulary.{◌≡◌, ℕ, true, List, ◌∙◌, ap, length, lt-ltb, ltb-true, Link, Mapping, Delivery, AreItems}
-use Rattle.dv_hub_link.proofs.Vocabulary.{are_items as is_items, AreLinkItems, are_of_links, is_of_link, all_pass}
+use Rattle.dv_hub_link.proofs.Vocabulary.{AreItems, AreLinkItems, Delivery, Link, List, Mapping, all_pass, ap, are_of_links, is_items, is_of_link, length, lt-ltb, ltb-true, true, ℕ, ◌∙◌, ◌≡◌}
 use Rattle.dv_hub_link.proofs.ItemTests.{passed}
 
 pub are_items : (mapping : Mapping) (items : List Delivery) → AreLinkItems mapping items → AreItems mapping items

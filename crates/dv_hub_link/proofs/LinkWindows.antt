@@ -1,13 +1,12 @@
 -- Over the table of a link after windows, with names that tell their lists, what clashes is what collides, and the rows
 -- that are added are the batch.
-use Rattle.dv_hub_link.proofs.Vocabulary.{◌≡◌, ℕ, true, List, [], ◌∷◌, ◌++◌, Some, None, refl, sym, ◌∙◌, ap, subst, reverse, Contains, IfOk, Result, Less, Key, Window, Hashes, refs_cmp, Contains-cons_here, Contains-map, map_member}
-use Rattle.dv_hub_link.proofs.Vocabulary.{Link, Mapping, parent_hubs, DeltaFault, Delivery, LinkRow, appended, Pair, collision_in, deliveries, is_known, Answers, Hashed, HasNoClash, IfCollides, IsLeastClash, brought, hashed_by, HubName, link_batch, link_place, HashedList}
-use Rattle.dv_hub_link.proofs.Vocabulary.{all_hashed, refs_total, irreflexive, TellLists, link_delta, link_hashed, link_row, hubs_in, hubs_of, keys_under, stored}
+use Rattle.dv_hub_link.proofs.Vocabulary.{Answers, Contains, Contains-cons_here, Contains-map, Delivery, DeltaFault, HasNoClash, Hashed, HashedList, Hashes, HubName, IfCollides, IfOk, IsLeastClash, Key, Less, Link, LinkRow, List, Mapping, None, Pair, Result, Some, TellLists, Window, []}
+use Rattle.dv_hub_link.proofs.Vocabulary.{all_hashed, ap, appended, brought, collision_in, deliveries, hashed_by, hubs_in, hubs_of, irreflexive, is_known, keys_under, link_batch, link_delta, link_hashed, link_place, link_row, map_member, parent_hubs, refl, refs_cmp, refs_total, reverse, stored}
+use Rattle.dv_hub_link.proofs.Vocabulary.{subst, sym, true, ℕ, ◌++◌, ◌∙◌, ◌∷◌, ◌≡◌}
 use Rattle.dv_records.proofs.LinkTables.{table_has, table_row}
-use Rattle.dv_hub_link.proofs.KeyDeltas.{answers, held_nothing, next_rows}
-use Rattle.dv_hub_link.proofs.WindowLists.{HoldsOffered, delivery_kept, held_none as lists_none, holds_clear, next_least as lists_least, next_none as lists_free, offered_apart}
+use Rattle.dv_hub_link.proofs.{KeyDeltas.answers, KeyDeltas.held_nothing, KeyDeltas.next_rows, WindowLists.HoldsOffered, WindowLists.delivery_kept, WindowLists.held_none as lists_none, WindowLists.holds_clear, WindowLists.next_least as lists_least, WindowLists.next_none as lists_free}
+use Rattle.dv_hub_link.proofs.{WindowLists.offered_apart, ToldLists.list_told}
 use Rattle.dv_hub_link.specs.LinkDeltas.{IsHeld, IsNext}
-use Rattle.dv_hub_link.proofs.ToldLists.{list_told}
 
 -- rows without hubs stand for one list
 pub bare_clear : (mapping : Mapping) (names : List HubName) (rows : List LinkRow) → HasNoClash (stored mapping names [] rows)

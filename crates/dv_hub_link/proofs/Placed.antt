@@ -1,9 +1,8 @@
 -- Rows of which each has a digest of its own: the one under a digest is the last one in load order that has it, and new rows
 -- of a date that is not earlier may stand behind them.
-use Rattle.dv_hub_link.proofs.Vocabulary.{◌≡◌, ◌-◌, ℕ, inl, inr, Bool, true, false, ◌&&◌, List, [], ◌∷◌, ◌++◌, Option, Some, None, refl, sym, ◌∙◌, ap, subst, arith, length, reverse, nat_le, option_map, is_some, Bor, le-leb, Contains, find, not, slice_get, nat_list_cmp_total, list_all, list_any}
-use Rattle.dv_hub_link.proofs.Vocabulary.{IsStrictlySortedBy, bytes_eq, Less, and_from, and_parts, false≢true, false_from_ne_true, not-true, or_parts, Contains-append_cases, bytes_eq-Decides, Contains-cons_here, Contains-cons_there, member_of_all, reverse_member, Place, are_in_load_order, irreflexive}
-use Rattle.dv_hub_link.proofs.Vocabulary.{latest_at, digest_cmp, up_to_last, are_parents_apart, are_placed_rows, has_row_under, row_under, all_pass, passes_at, find_none, find_same, finds, found_member, none_found_at, none_pass, some_passes_at}
-use Rattle.dv_hub_link.proofs.Vocabulary.{map}
+use Rattle.dv_hub_link.proofs.Vocabulary.{Bool, Bor, Contains, Contains-append_cases, Contains-cons_here, Contains-cons_there, IsStrictlySortedBy, Less, List, None, Option, Place, Some, [], all_pass, and_from, and_parts, ap, are_in_load_order, are_parents_apart, are_placed_rows, arith, bytes_eq}
+use Rattle.dv_hub_link.proofs.Vocabulary.{bytes_eq-Decides, digest_cmp, false, false_from_ne_true, false≢true, find, find_none, find_same, finds, found_member, has_row_under, inl, inr, irreflexive, is_some, latest_at, le-leb, length, list_all, list_any, map, member_of_all, nat_le}
+use Rattle.dv_hub_link.proofs.Vocabulary.{nat_list_cmp_total, none_found_at, none_pass, not, not-true, option_map, or_parts, passes_at, refl, reverse, reverse_member, row_under, slice_get, some_passes_at, subst, sym, true, up_to_last, ℕ, ◌&&◌, ◌++◌, ◌-◌, ◌∙◌, ◌∷◌, ◌≡◌}
 use Rattle.dv_hub_link.proofs.Alike.{one_alike}
 
 -- one is found exactly where one passes

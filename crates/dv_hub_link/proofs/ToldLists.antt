@@ -1,10 +1,8 @@
 -- The names of hubs tell the reference lists that windows bring to a link, so that its rows stand for them.
-use Rattle.dv_hub_link.proofs.Vocabulary.{◌≡◌, ◌<◌, ◌==◌, ℕ, Bool, true, false, List, [], ◌∷◌, Option, Some, None, refl, sym, ◌∙◌, ap, subst, length, map, option_map, reverse, reverse-reverse, eqb-true, ltb-true, Contains, not, slice_get, flat_map, list_all, some_passes, some_passes_at}
-use Rattle.dv_hub_link.proofs.Vocabulary.{is_offered-member, offered_member}
-use Rattle.dv_hub_link.proofs.Vocabulary.{and_parts, Key, NRow, Staged, Window, Hashes, is_missing, Contains-cons_there, Contains-flat_map, Contains-map, Contains-nil, filtered_members, is_offered, key_at_first, key_found, missing_unfound, the_missing}
-use Rattle.dv_hub_link.proofs.Vocabulary.{flat_map_member, map_member, FeedDef, LinkDef, Parent, Hub, Link, Mapping, feed_hubs, hubs_by, is_fed_by, keys_at, parent_eq, parent_hubs, is_hub, is_valid, valid_link, Delivery, HubRow, IsApart, appended, hashed_refs}
-use Rattle.dv_hub_link.proofs.Vocabulary.{is_known, offered_refs, offers, offers_of, refs_from, table_of, all_refs, HubName, key_named, each_hash, hub_batch, are_rows_of, fit_hubs, fits_hub, is_row_of, is_staged, is_window, collision_free, missing_key}
-use Rattle.dv_hub_link.proofs.Vocabulary.{TellLists, key_with, key_or, key_under, keys_under, passes_at}
+use Rattle.dv_hub_link.proofs.Vocabulary.{Bool, Contains, Contains-cons_there, Contains-flat_map, Contains-map, Contains-nil, Delivery, FeedDef, Hashes, Hub, HubName, HubRow, IsApart, Key, Link, LinkDef, List, Mapping, NRow, None, Option, Parent, Some, Staged, TellLists, Window, [], all_refs}
+use Rattle.dv_hub_link.proofs.Vocabulary.{and_parts, ap, appended, are_rows_of, collision_free, each_hash, eqb-true, false, feed_hubs, filtered_members, fit_hubs, fits_hub, flat_map, flat_map_member, hashed_refs, hub_batch, hubs_by, is_fed_by, is_hub, is_known, is_missing, is_offered}
+use Rattle.dv_hub_link.proofs.Vocabulary.{is_offered-member, is_row_of, is_staged, is_valid, is_window, key_at_first, key_found, key_named, key_or, key_under, key_with, keys_at, keys_under, length, list_all, ltb-true, map, map_member, missing_key, missing_unfound, not, offered_member}
+use Rattle.dv_hub_link.proofs.Vocabulary.{offered_refs, offers, offers_of, option_map, parent_eq, parent_hubs, passes_at, refl, refs_from, reverse, reverse-reverse, slice_get, some_passes, some_passes_at, subst, sym, table_of, the_missing, true, valid_link, ℕ, ◌<◌, ◌==◌, ◌∙◌, ◌∷◌, ◌≡◌}
 
 -- ---- hubs beside keys
 

@@ -1,11 +1,10 @@
 -- Over lists that windows bring, held under their hash keys, what clashes is what collides, and a list is held exactly
 -- where a window brings it.
-use Rattle.dv_hub_link.proofs.Vocabulary.{◌≡◌, ◌⊎◌, inl, inr, Bool, true, false, List, [], ◌∷◌, Option, Some, None, refl, sym, ◌∙◌, ap, subst, reverse, Contains, not, flat_map, list_all, bytes_eq, Less, not-true, Contains-append_cases, Contains-append_left}
-use Rattle.dv_hub_link.proofs.Vocabulary.{Contains-append_right, bytes_eq-Decides, Key, Window, Hashes, is_missing, refs_cmp, Contains-cons_cases, Contains-cons_here, Contains-cons_there, Contains-flat_map, Contains-nil, filtered_members, flat_map_member, map_member, reverse_member, same_answer}
-use Rattle.dv_hub_link.proofs.Vocabulary.{Parent, Mapping, Delivery, IsApart, IsPairOf, Pair, collision_in, hashed_refs, missing_refs, deliveries, first_offer, is_known, is_offered, offered_refs, offers_of, refs_from, table_of, Hashed, HasNoClash, IsClash, IsLeastClash, brought, hashed_by}
-use Rattle.dv_hub_link.proofs.Vocabulary.{missing_in, collision_free, collision_tied, deliveries_member, delivery-offered, first_offer-member, first_offer-refs, has_first_offer, is_offered-member, offered_member, is_held, all_hashed, refs_total, irreflexive, some_passes, some_passes_at}
-use Rattle.dv_hub_link.proofs.Brought.{brought_cases, item_in, missing_there}
-use Rattle.dv_hub_link.proofs.Hashables.{missing_table}
+use Rattle.dv_hub_link.proofs.Vocabulary.{Bool, Contains, Contains-append_cases, Contains-append_left, Contains-append_right, Contains-cons_cases, Contains-cons_here, Contains-cons_there, Contains-flat_map, Contains-nil, Delivery, HasNoClash, Hashed, Hashes, IsApart, IsClash, IsLeastClash}
+use Rattle.dv_hub_link.proofs.Vocabulary.{IsPairOf, Key, Less, List, Mapping, None, Option, Pair, Parent, Some, Window, [], all_hashed, ap, brought, bytes_eq, bytes_eq-Decides, collision_free, collision_in, collision_tied, deliveries, deliveries_member, delivery-offered, false, filtered_members}
+use Rattle.dv_hub_link.proofs.Vocabulary.{first_offer, first_offer-member, first_offer-refs, flat_map, flat_map_member, has_first_offer, hashed_by, hashed_refs, inl, inr, irreflexive, is_held, is_known, is_missing, is_offered, is_offered-member, list_all, map_member, missing_in, missing_refs}
+use Rattle.dv_hub_link.proofs.Vocabulary.{not, not-true, offered_member, offered_refs, offers_of, refl, refs_cmp, refs_from, refs_total, reverse, reverse_member, same_answer, some_passes, some_passes_at, subst, sym, table_of, true, ◌∙◌, ◌∷◌, ◌≡◌, ◌⊎◌}
+use Rattle.dv_hub_link.proofs.{Brought.brought_cases, Brought.item_in, Brought.missing_there, Hashables.missing_table}
 
 -- the held lists are those that windows bring, each under its hash key
 pub record HoldsOffered (mapping : Mapping) (hashes : Hashes) (parent : Parent) (windows : List Window) (held : List Hashed) : Type 0 where

@@ -1,5 +1,5 @@
 -- A delivery that is put behind others with its hash key.
-use Rattle.dv_hub_link_tests.proofs.Vocabulary.{◌≡◌, List, [], ◌∷◌, ◌++◌, All-push, AreHashed, HashedDelivery, Hashes, delivered, delivery_of, map-append}
+use Rattle.dv_hub_link_tests.proofs.Vocabulary.{All-push, AreHashed, HashedDelivery, Hashes, List, [], delivered, delivery_of, map-append, ◌++◌, ◌∷◌, ◌≡◌}
 
 pub delivered_more : (items : List HashedDelivery) (item : HashedDelivery) → delivered (items ++ item ∷ []) ≡ delivered items ++ delivery_of item ∷ []
 delivered_more items item = map-append delivery_of items (item ∷ [])

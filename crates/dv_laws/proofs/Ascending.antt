@@ -1,6 +1,7 @@
 -- The rows of a batch ascend strictly.
-use Rattle.dv_laws.proofs.Vocabulary.{on_total, nat_list_cmp_total, filter_map, ℕ, List, ◌++◌, Window, Hashes, ascending-sorted_by, Hub, Link, Mapping, EffectRow, HubRow, LinkRow, SatRow, StatusRow, deliveries, effect_cmp, effect_row}
-use Rattle.dv_laws.proofs.Vocabulary.{Extract, all_refs, newest_rows, hub_cmp, hub_row, link_cmp, link_row, multi_cmp, multi_row, sat_cmp, sat_row, status_cmp, status_row, multi_total, ExtractBatchesAscend, WindowBatchesAscend}
+use Rattle.dv_laws.proofs.Vocabulary.{EffectRow, Extract, ExtractBatchesAscend, Hashes, Hub, HubRow, Link, LinkRow, List, Mapping, SatRow, StatusRow, Window, WindowBatchesAscend, all_refs, ascending-sorted_by, deliveries, effect_cmp, effect_row, filter_map, hub_cmp, link_cmp, multi_cmp}
+use Rattle.dv_laws.proofs.Vocabulary.{multi_row, multi_total, nat_list_cmp_total, newest_rows, on_total, sat_cmp, sat_row, status_cmp, status_row, ℕ, ◌++◌}
+use Rattle.dv_records.specs.Hubs.{hub_row, link_row}
 
 module _ (mapping : Mapping) (hashes : Hashes) (place : ℕ) (older : List Window) (window : Window) where
   pub window_batches : WindowBatchesAscend mapping hashes place older window

@@ -1,17 +1,7 @@
 -- The periods that effectivity rows tell are the rows of the period mart, by hash key, and what is in effect is in a run.
-use Rattle.dv_laws.proofs.Vocabulary.{Contains, Contains-map, List, ◌≡◌, ◌↔◌, ◌∙◌, ℕ, ap, ascending-sorted_by, filter, map, map_member, member_after_sort, member_before_sort, nat_le, refl, reverse, same_ascending}
-use Rattle.dv_laws.proofs.Vocabulary.{sorted_by, subst, sym, Window, Hashes, Mapping, EffectRow, PeriodRow, Extract, IsApart, IsInLoadOrder, appended, delivered_refs, effect_batch, feed_rows, history, period_mart, source, table_after, up_to}
-use Rattle.dv_laws.proofs.Vocabulary.{Key, apart-reversed, history-newest_first, run_begin}
-use Rattle.dv_catalog.specs.declared.tables.TableId.TheVariants.{Effect}
-use Rattle.dv_records.specs.declared.mart_rows.Period.{Period}
-use Rattle.dv_records.specs.declared.stores.Rows.TheVariants.{Effects}
-use Rattle.dv_records.specs.Backwards.{backwards}
-use Rattle.dv_records.specs.EffectPeriods.{effect_periods, in_effect_since, last_of_runs, parent_period_cmp, period_in}
-use Rattle.dv_records.specs.Ranks.{parent_period_total}
-use Rattle.dv_records.specs.ReadBack.{effect_rows}
-use Rattle.dv_records.proofs.EffectReconstruct.{effects_say}
-use Rattle.dv_records.proofs.PeriodRuns.{mart_runs, one_period, periods_told, IsRun}
-use Rattle.dv_laws.specs.EffectPeriods.{by_hash_key}
+use Rattle.dv_laws.proofs.Vocabulary.{Contains, Contains-map, Effect, EffectRow, Effects, Extract, Hashes, IsApart, IsInLoadOrder, IsRun, Key, List, Mapping, Period, PeriodRow, Window, ap, apart-reversed, appended, ascending-sorted_by, backwards, by_hash_key, delivered_refs, effect_batch}
+use Rattle.dv_laws.proofs.Vocabulary.{effect_periods, effect_rows, effects_say, feed_rows, filter, history, history-newest_first, in_effect_since, last_of_runs, map, map_member, mart_runs, member_after_sort, member_before_sort, nat_le, one_period, parent_period_cmp, parent_period_total}
+use Rattle.dv_laws.proofs.Vocabulary.{period_in, period_mart, periods_told, refl, reverse, run_begin, same_ascending, sorted_by, source, subst, sym, table_after, up_to, ℕ, ◌↔◌, ◌∙◌, ◌≡◌}
 
 module _ (mapping : Mapping) (hashes : Hashes) (feed : ℕ) (sealed : List Window) (rows : List EffectRow) (table : table_after mapping hashes (backwards sealed) (Effect feed) ≡ Effects rows)
     (order : IsInLoadOrder sealed) (apart : IsApart hashes (delivered_refs feed sealed)) where

@@ -1,8 +1,7 @@
 -- What an extract that is a header alone closes.
-use Rattle.dv_laws.proofs.Vocabulary.{nat_cmp-IsAntisymmetric, slice_cmp-IsAntisymmetric, filter_map, option_map, unwrap_or, All, Contains, ◌≡◌, ℕ, Bool, true, false, List, [], ◌∷◌, ◌++◌, Option, Some, refl, sym, ◌∙◌, ap, append-nil}
-use Rattle.dv_laws.proofs.Vocabulary.{false≢true, All-contains_itself, All-weaker, Contains-append_left, Key, Hashes, filter_map_member, member_of_filter_map, member_after_sort, D, EffectRow, StatusRow, IsApart, span_between, effect_batch}
-use Rattle.dv_laws.proofs.Vocabulary.{effect_cmp, effect_row, Extract, all_refs, delivers, newest_rows, run_begin, code_between, status_batch, status_cmp, status_row, batch_made, Contains-all_refs, Closes, rules}
-use Rattle.dv_records.proofs.EffectTies.{effect_tied}
+use Rattle.dv_laws.proofs.Vocabulary.{All, All-contains_itself, All-weaker, Bool, Closes, Contains, Contains-all_refs, Contains-append_left, D, EffectRow, Extract, Hashes, IsApart, Key, List, Option, Some, StatusRow, [], all_refs, ap, append-nil, batch_made, code_between, delivers, effect_batch}
+use Rattle.dv_laws.proofs.Vocabulary.{effect_cmp, effect_row, effect_tied, false, false≢true, filter_map, filter_map_member, member_after_sort, member_of_filter_map, nat_cmp-IsAntisymmetric, newest_rows, option_map, refl, rules, run_begin, slice_cmp-IsAntisymmetric, span_between, status_batch}
+use Rattle.dv_laws.proofs.Vocabulary.{status_cmp, status_row, sym, true, unwrap_or, ℕ, ◌++◌, ◌∙◌, ◌∷◌, ◌≡◌}
 
 -- a list that is present is in a run
 pub present_in_run : (older : List Extract) (refs : List Key) → delivers (newest_rows older) refs ≡ true → (begin : ℕ) × (run_begin older refs ≡ Some begin)

@@ -1,12 +1,8 @@
 -- The content of a feed of keys alone is read back from its hub's table and its status table.
-use Rattle.dv_laws.proofs.Vocabulary.{Contains, slice_get, ◌≡◌, Bool, ℕ, true, List, [], ◌∷◌, Some, None, sym, ◌∙◌, ap, subst, map, filter, reverse, Key, NRow, Window, row_cmp-IsAntisymmetric, Hashes, refs_eq, refs_eq-Decides, row_total}
-use Rattle.dv_laws.proofs.Vocabulary.{filter_map_member, filtered_members, flat_map_member, map_member, Contains-map, some_passes_at, some_passes, sorted_by-members, FeedDef, Parent, Hub, Status, Mapping, keys_at, parent_hubs, HubRow}
-use Rattle.dv_laws.proofs.Vocabulary.{StatusRow, Hubs, Statuses, appended, IsApart, collision_in, hashed_refs, is_known, is_offered, Extract, all_refs, content, delivered_refs, delivers, extract_of, history, IsInLoadOrder, hub_batch}
-use Rattle.dv_laws.proofs.Vocabulary.{hub_rows, HasKeysAlone, key_row, present_at, present_keys, table_after, collision_free, table_has, table_row, key_at_first, key_offered, known_apart, offers_apart, content_extract, history_member}
-use Rattle.dv_laws.proofs.Vocabulary.{status_tells}
-use Rattle.dv_catalog.specs.declared.tables.TableId.TheVariants.{Hub as HubTable}
-use Rattle.dv_records.proofs.NewestRows.{content_ascends}
-use Rattle.dv_records.specs.Backwards.{backwards}
+use Rattle.dv_laws.proofs.Vocabulary.{Bool, Contains, Contains-map, Extract, FeedDef, HasKeysAlone, Hashes, Hub, HubRow, HubTable, Hubs, IsApart, IsInLoadOrder, Key, List, Mapping, NRow, None, Parent, Some, Status, StatusRow, Statuses, Window, [], all_refs, ap, appended, backwards}
+use Rattle.dv_laws.proofs.Vocabulary.{collision_free, collision_in, content, content_ascends, content_extract, delivered_refs, delivers, extract_of, filter, filter_map_member, filtered_members, flat_map_member, hashed_refs, history, history_member, hub_batch, hub_rows, is_known, is_offered}
+use Rattle.dv_laws.proofs.Vocabulary.{key_at_first, key_offered, key_row, keys_at, known_apart, map, map_member, offers_apart, parent_hubs, present_at, present_keys, refs_eq, refs_eq-Decides, reverse, row_cmp-IsAntisymmetric, row_total, slice_get, some_passes, some_passes_at, sorted_by-members}
+use Rattle.dv_laws.proofs.Vocabulary.{status_tells, subst, sym, table_after, table_has, table_row, true, ℕ, ◌∙◌, ◌∷◌, ◌≡◌}
 
 -- the row of a key is that of the one key that it has
 same_key_row : (row : NRow) (key other : Key) → row ≡ key_row key → row.refs ≡ other ∷ [] → row ≡ key_row other

@@ -1,10 +1,6 @@
 -- The rows of a period mart are the periods in which the content delivers a list.
-use Rattle.dv_laws.proofs.Vocabulary.{flat_map, IsStrictlySortedBy, Contains, nat_le, ◌≡◌, ◌↔◌, ℕ, ◌≤◌, Bool, true, List, [], ◌∷◌, refl, sym, ap}
-use Rattle.dv_laws.proofs.Vocabulary.{filter, reverse, arith, leb-true, Key, Window, Contains-cons_here, filtered_members, flat_map_member, Contains-flat_map}
-use Rattle.dv_laws.proofs.Vocabulary.{ascending-sorted_by, same_ascending, PeriodRow, Extract, all_refs, content, delivers, history, newest_rows, up_to, IsInLoadOrder, period_cmp, period_mart}
-use Rattle.dv_laws.proofs.Vocabulary.{periods_of, Contains-all_refs, IsPeriod, rules, common_steps, nat_tests}
-use Rattle.dv_records.specs.Ranks.{period_total}
-use Rattle.dv_records.proofs.PeriodRuns.{in_order, mart_runs}
+use Rattle.dv_laws.proofs.Vocabulary.{Bool, Contains, Contains-all_refs, Contains-cons_here, Contains-flat_map, Extract, IsInLoadOrder, IsPeriod, IsStrictlySortedBy, Key, List, PeriodRow, Window, [], all_refs, ap, arith, ascending-sorted_by, common_steps, content, delivers, filter}
+use Rattle.dv_laws.proofs.Vocabulary.{filtered_members, flat_map, flat_map_member, history, in_order, leb-true, mart_runs, nat_le, nat_tests, newest_rows, period_cmp, period_mart, period_total, periods_of, refl, reverse, rules, same_ascending, sym, true, up_to, ℕ, ◌↔◌, ◌∷◌, ◌≡◌, ◌≤◌}
 use Rattle.dv_laws.proofs.RunTies.{is_run, never_both, present, runs_there}
 
 -- ---- periods of tests that say the same up to a date

@@ -1,8 +1,7 @@
 -- The runs of a reference list are the longest periods in which it is present, up to a date that all extracts have come to.
-use Rattle.dv_laws.proofs.Vocabulary.{Contains, nat_le, ◌≡◌, ◌⊎◌, ℕ, ◌+◌, ◌-◌, ◌<◌, ◌≤◌, inl, inr, Bool, true, false, List, [], ◌∷◌, Option, Some, None, refl, sym, ◌∙◌, ap, subst, arith, false≢true, le-leb, lt-leb, leb_tells}
-use Rattle.dv_laws.proofs.Vocabulary.{Contains-append_cases, Contains-append_left, Contains-append_right, Key, open_end, Contains-cons_cases, Contains-cons_here, Contains-cons_there, Contains-nil, Extract, delivers, newest_rows, up_to}
-use Rattle.dv_laws.proofs.Vocabulary.{Span, ended, ended_runs, open_run, run_begin, runs, AllBefore, IsNewestFirst, IsEndedPeriod, IsOpenPeriod, IsPeriod, filter-all, rules, common_steps}
-use Rattle.dv_records.proofs.EffectTies.{begins_before}
+use Rattle.dv_laws.proofs.Vocabulary.{AllBefore, Bool, Contains, Contains-append_cases, Contains-append_left, Contains-append_right, Contains-cons_cases, Contains-cons_here, Contains-cons_there, Contains-nil, Extract, IsEndedPeriod, IsNewestFirst, IsOpenPeriod, IsPeriod, Key, List, None, Option}
+use Rattle.dv_laws.proofs.Vocabulary.{Some, Span, [], ap, arith, begins_before, common_steps, delivers, ended, ended_runs, false, false≢true, filter-all, inl, inr, le-leb, leb_tells, lt-leb, nat_le, newest_rows, open_end, open_run, refl, rules, run_begin, runs, subst, sym, true, up_to, ℕ, ◌+◌}
+use Rattle.dv_laws.proofs.Vocabulary.{◌-◌, ◌<◌, ◌∙◌, ◌∷◌, ◌≡◌, ◌≤◌, ◌⊎◌}
 
 -- ---- periods of a test of dates
 

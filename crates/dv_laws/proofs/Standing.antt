@@ -1,17 +1,6 @@
 -- What the storing of a mapping, and of a snapshot, makes of what a store stands for.
-use Rattle.std.specs.Prelude.{◌≢◌}
-use Rattle.dv_laws.proofs.Vocabulary.{◌≡◌, ◌⊎◌, ℕ, List, Some, None, refl}
-use Rattle.dv_laws.proofs.Vocabulary.{sym, ◌∙◌, subst, inl, inr, and_from}
-use Rattle.dv_laws.proofs.Vocabulary.{Hashes, Mapping, tables}
-use Rattle.dv_laws.specs.Standing.{StandsAtFirst}
-use Rattle.dv_records.proofs.NoWindows.{none_in, none_valid}
-use Rattle.dv_records.specs.Snapshots.{snapshot}
-use Rattle.dv_records.specs.Standing.{IsFresh, Stands}
-use Rattle.dv_records.specs.States.{State, beginning}
-use Rattle.dv_records.specs.Steps.{InitBroke, InitStep, IsStored}
-use Rattle.dv_records.specs.declared.answers.InitAnswer.{InitAnswer}
+use Rattle.dv_laws.proofs.Vocabulary.{Hashes, InitAnswer, InitBroke, InitStep, IsFresh, IsStored, List, Mapping, None, Some, Stands, StandsAtFirst, State, Store, and_from, beginning, inl, inr, none_in, none_valid, refl, snapshot, subst, sym, tables, ℕ, ◌∙◌, ◌≡◌, ◌≢◌, ◌⊎◌}
 use Rattle.dv_records.specs.declared.answers.InitAnswer.TheVariants as init
-use Rattle.dv_records.specs.declared.stores.Store.{Store}
 
 -- ---- a mapping
 

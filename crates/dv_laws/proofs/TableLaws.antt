@@ -1,10 +1,6 @@
 -- What the tables hold, and how they grow by a window.
-use Rattle.dv_laws.proofs.Vocabulary.{flat_map, Contains, sum_by, ◌≡◌, ℕ, List, [], ◌∷◌, sym, ◌∙◌, ap, subst, ◌+◌, ◌++◌, arith, reverse, reverse-append, Window, Hashes, Hub, Link, TableId, Mapping, tables, HubRow, LinkRow, Hubs, Links}
-use Rattle.dv_laws.proofs.Vocabulary.{IsApart, offered_refs, loaded, hub_rows, link_rows, rows_in, rows_then, row_count, table_after, table_batch, vault, table_has as hub_has, table_row as hub_row, vault_holds, table_after-newest}
-use Rattle.dv_laws.proofs.Vocabulary.{batch_adds, grown, HoldsKeys, HoldsLists, PartialEnds, common_steps, nat_tests}
-use Rattle.dv_catalog.specs.declared.tables.TableId.TheVariants.{Hub as HubTable, Link as LinkTable}
-use Rattle.dv_records.proofs.LinkTables.{table_has as link_has, table_row as link_row}
-use Rattle.dv_records.specs.Backwards.{backwards}
+use Rattle.dv_laws.proofs.Vocabulary.{Contains, Hashes, HoldsKeys, HoldsLists, Hub, HubRow, HubTable, Hubs, IsApart, Link, LinkRow, LinkTable, Links, List, Mapping, PartialEnds, TableId, Window, [], ap, arith, backwards, batch_adds, common_steps, flat_map, grown, hub_has, hub_row, hub_rows}
+use Rattle.dv_laws.proofs.Vocabulary.{link_has, link_row, link_rows, loaded, nat_tests, offered_refs, reverse, reverse-append, row_count, rows_in, rows_then, subst, sum_by, sym, table_after, table_after-newest, table_batch, tables, vault, vault_holds, ℕ, ◌++◌, ◌+◌, ◌∙◌, ◌∷◌, ◌≡◌}
 
 pub hub_holds : (mapping : Mapping) (hashes : Hashes) (hub : ℕ) (windows : List Window) (rows : List HubRow) → table_after mapping hashes (record { windows = windows }) (HubTable hub) ≡ Hubs rows
     → IsApart hashes (flat_map (offered_refs mapping (Hub hub)) windows) → HoldsKeys mapping hashes hub windows rows

@@ -1,8 +1,6 @@
 -- What a window more changes of the contents, the marts and the snapshots, and what it leaves.
-use Rattle.dv_laws.proofs.Vocabulary.{All, Contains, nat_le, ◌≡◌, ℕ, ◌<◌, List, [], ◌∷◌, ◌++◌, None, ap, reverse, lt-leb, All-contains, Window, Hashes}
-use Rattle.dv_laws.proofs.Vocabulary.{reverse_member, filter_map_member, Mapping, Extract, content, extract_of, history, newest_rows, up_to}
-use Rattle.dv_laws.proofs.Vocabulary.{extract-load, SameAt, SameMarts, SameOfFeed, filter-none, arith, common_steps, nat_tests, rules}
-use Rattle.dv_records.proofs.LaterWindows.{extracts_same, snapshot_same}
+use Rattle.dv_laws.proofs.Vocabulary.{All, All-contains, Contains, Extract, Hashes, List, Mapping, None, SameAt, SameMarts, SameOfFeed, Window, [], ap, arith, common_steps, content, extract-load, extract_of, extracts_same, filter-none, filter_map_member, history, lt-leb, nat_le, nat_tests}
+use Rattle.dv_laws.proofs.Vocabulary.{newest_rows, reverse, reverse_member, rules, snapshot_same, up_to, ℕ, ◌++◌, ◌<◌, ◌∷◌, ◌≡◌}
 
 -- ---- before the first window
 

@@ -1,5 +1,5 @@
 -- A walk over the keys of a table that looks for the first that is not known.
-use Rattle.dv_mapfile.proofs.Vocabulary.{◌≡◌, ℕ, Bool, true, false, not, List, [], ◌∷◌, map, find, Option, Some, refl, ap, String, Global, string_bytes, Bor, list_any, bytes_eq, members_view, Entry, keys_of, unknown_key}
+use Rattle.dv_mapfile.proofs.Vocabulary.{Bool, Bor, Entry, Global, List, Option, Some, String, [], ap, bytes_eq, false, find, keys_of, list_any, map, members_view, not, refl, string_bytes, true, unknown_key, ℕ, ◌∷◌, ◌≡◌}
 
 -- whether a key is known, as the code asks
 abbrev pub is_known : List (Bor (List ℕ)) → List ℕ → Bool

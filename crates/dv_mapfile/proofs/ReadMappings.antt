@@ -1,6 +1,5 @@
 -- What the mappings keep to that are read.
-use Rattle.dv_mapfile.proofs.Vocabulary.{◌≡◌, ℕ, true, List, Option, Some, None, refl, Result, Ok, Err, IfOk, MapError, Outline, fault_of, Mapping, checked_if, read_mapping, is_valid, mapping_of, unless_fault, outline_in, IfOk-at_ok}
-use Rattle.dv_mapfile.proofs.Vocabulary.{mapping_valid}
+use Rattle.dv_mapfile.proofs.Vocabulary.{Err, IfOk, IfOk-at_ok, List, MapError, Mapping, None, Ok, Option, Outline, Result, Some, checked_if, fault_of, is_valid, mapping_of, mapping_valid, outline_in, read_mapping, refl, true, unless_fault, ℕ, ◌≡◌}
 use Rattle.dv_mapfile.proofs.ReadShapes.{read_shape}
 
 -- every mapping that is read is valid

@@ -1,7 +1,7 @@
 -- What is read of a mapping file has the form of its entries: parts in range, and columns of their form.
-use Rattle.dv_mapfile.proofs.Vocabulary.{◌≡◌, ℕ, ◌+◌, pos, negsuc, Bool, true, false, List, [], ◌∷◌, ◌++◌, Option, Some, None, refl, option_map, Result, Ok, Err, codes, ok_or, is_some, if◌then◌else◌, IfOk, IfSome, option_and_then, IfOk-at_ok, flat_map, list_all, and_from, and_parts, Data}
-use Rattle.dv_mapfile.proofs.Vocabulary.{no_items, item, Members, as_array, as_integer, as_str, get_member, all_pass_both, FeedOutline, HubOutline, Outline, all_columns, mapping_document, column, column_or_none, count_or_none, each, list_of, optional, part_count, required, text, has_column_form}
-use Rattle.dv_mapfile.proofs.Vocabulary.{is_within, most_parts, has_shape, entries, feed_keys, feed_of, hub_of, link_of, no_others, outline_in, outline_of, outline_or_shape, outline_or_text, parent_of, path_of, placed, tops_of, ◌>>=◌}
+use Rattle.dv_mapfile.proofs.Vocabulary.{Bool, Data, Err, FeedOutline, HubOutline, IfOk, IfOk-at_ok, IfSome, List, Members, None, Ok, Option, Outline, Result, Some, [], all_columns, all_pass_both, and_from, and_parts, as_array, as_integer, as_str, codes, column, column_or_none, count_or_none}
+use Rattle.dv_mapfile.proofs.Vocabulary.{each, entries, false, feed_keys, feed_of, flat_map, get_member, has_column_form, has_shape, hub_of, if◌then◌else◌, is_some, is_within, item, link_of, list_all, list_of, mapping_document, most_parts, negsuc, no_items, no_others, ok_or, option_and_then}
+use Rattle.dv_mapfile.proofs.Vocabulary.{option_map, optional, outline_in, outline_of, outline_or_shape, outline_or_text, parent_of, part_count, path_of, placed, pos, refl, required, text, tops_of, true, ℕ, ◌++◌, ◌+◌, ◌>>=◌, ◌∷◌, ◌≡◌}
 
 -- a step that makes what passes, before the next one
 passing : {A B F : Type 0} (Q : A → Type 0) (P : B → Type 0) (first : Result A F) (next : A → Result B F) → IfOk first Q → ((a : A) → Q a → IfOk (next a) P) → IfOk (first >>= next) P

@@ -1,8 +1,5 @@
 -- A step that refuses, before the next one.
-use Rattle.dv_mapfile.proofs.Vocabulary.{ℕ, List, Result, Err, refl, ◌>>=◌}
-use Rattle.dv_mapfile.specs.declared.shape_faults.ShapeFault.{ShapeFault}
-use Rattle.dv_mapfile.specs.declared.shape_faults.ShapeFault.TheVariants.{At, Memory}
-use Rattle.dv_mapfile.specs.Meets.{Meets}
+use Rattle.dv_mapfile.proofs.Vocabulary.{At, Err, List, Meets, Memory, Result, ShapeFault, refl, ℕ, ◌>>=◌}
 
 -- the fault of the first step is the fault of both
 pub stopped : {A B : Type 0} (fault : ShapeFault) (first : Result A (List ℕ)) (next : A → Result B (List ℕ)) → Meets {X = A} (Err fault) first → Meets {X = B} (Err fault) (first >>= next)

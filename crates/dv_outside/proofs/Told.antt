@@ -1,5 +1,5 @@
 -- How what is told goes on over several calls.
-use Rattle.dv_outside.proofs.Vocabulary.{◌≡◌, ℕ, ◌+◌, ◌-◌, ◌≤◌, drop-drop, length-take-le, List, [], ◌++◌, Option, Some, None, refl, sym, ◌∙◌, ap, append_assoc, length, take, drop, length-drop, arith, take-append-drop, append-nil, take_all, take-append_seam, after, GotPrefix}
+use Rattle.dv_outside.proofs.Vocabulary.{GotPrefix, List, None, Option, Some, [], after, ap, append-nil, append_assoc, arith, drop, drop-drop, length, length-drop, length-take-le, refl, sym, take, take-append-drop, take-append_seam, take_all, ℕ, ◌++◌, ◌+◌, ◌-◌, ◌∙◌, ◌≡◌, ◌≤◌}
 
 pub after-nil : (o : Option (List ℕ)) → after o [] ≡ o
 after-nil None = refl

@@ -1,6 +1,5 @@
 -- The tables after rows are put at the end of one, by the place of its entry.
-use Rattle.dv_records.proofs.Vocabulary.{◌≡◌, ℕ, Bool, false, List, [], ◌∷◌, ◌++◌, Some, get_or, slice_set, refl, ap, TableId, Rows, TableRows, appended_to, rows_then, table_eq, Contains, position, Contains-cons_here, Contains-cons_there}
-use Rattle.dv_records.proofs.Vocabulary.{by_place}
+use Rattle.dv_records.proofs.Vocabulary.{Bool, Contains, Contains-cons_here, Contains-cons_there, List, Rows, Some, TableId, TableRows, [], ap, appended_to, by_place, false, get_or, position, refl, rows_then, slice_set, table_eq, ℕ, ◌++◌, ◌∷◌, ◌≡◌}
 
 module _ (table : TableId) (rows : Rows) where
   abbrev pub is_its : TableRows → Bool

@@ -1,6 +1,6 @@
 -- A list is a batch's value exactly where it meets the record.
-use Rattle.dv_records.proofs.Vocabulary.{Ordering, Equal, IsTotalOrder, on_total, nat_list_cmp_total, nat_cmp-IsAntisymmetric, slice_cmp-IsAntisymmetric, filter_map, option_map, Contains, ◌≡◌, ◌↔◌, ℕ, List, Option, Some, sym, ◌∙◌, ap}
-use Rattle.dv_records.proofs.Vocabulary.{subst, filter_map_member, member_of_filter_map, ascending-sorted_by, member_after_sort, member_before_sort, same_ascending, batch_of, digest_cmp, IsBatchOf, IsWholeBatch, rules}
+use Rattle.dv_records.proofs.Vocabulary.{Contains, Equal, IsBatchOf, IsTotalOrder, IsWholeBatch, List, Option, Ordering, Some, ap, ascending-sorted_by, batch_of, digest_cmp, filter_map, filter_map_member, member_after_sort, member_before_sort, member_of_filter_map, nat_cmp-IsAntisymmetric}
+use Rattle.dv_records.proofs.Vocabulary.{nat_list_cmp_total, on_total, option_map, rules, same_ascending, slice_cmp-IsAntisymmetric, subst, sym, ℕ, ◌↔◌, ◌∙◌, ◌≡◌}
 
 -- each row of a batch is made of one of the things
 pub batch_made : {T R : Type 0} (cmp : R → R → Ordering) (row_of : T → Option R) (things : List T) (row : R) → Contains (batch_of cmp row_of things) row → (thing : T) × Contains things thing × (row_of thing ≡ Some row)

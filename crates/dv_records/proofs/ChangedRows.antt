@@ -1,10 +1,9 @@
 -- The rows of a satellite say at each date which rows a list had when it was last there, for any kind of row that is made
 -- of an extract's row.
-use Rattle.dv_records.proofs.Vocabulary.{Ordering, pointwise, Contains, if◌then◌else◌, find, ◌&&◌, nat_le, not, ◌≡◌, ℕ, Bool, true, false, List, [], ◌∷◌, Some, None, refl, sym, ◌∙◌, ap, subst, reverse, ◌⊎◌, inl, inr, bytes_eq, false≢true}
-use Rattle.dv_records.proofs.Vocabulary.{not-false, Contains-append_left, slice_eq-Decides, Key, NRow, Hashes, refs_eq, row_eq, refs_eq-Decides, row_eq-Decides, Contains-cons_here, Contains-cons_there, filtered_members, Contains-map}
-use Rattle.dv_records.proofs.Vocabulary.{Contains-nil, some_passes_at, some_passes, appended, IsBatchOf, IsApart, Extract, all_refs, delivers, lists_of, up_to, first_attrs, is_changed, last_rows, rows_of, IsOnePerList}
-use Rattle.dv_records.proofs.LastChange.{AreApart, Changes, IsStep, Tells, apart-older, last_change}
-use Rattle.dv_records.proofs.Reversing.{IsNewestFirst}
+use Rattle.dv_records.proofs.Vocabulary.{Bool, Contains, Contains-append_left, Contains-cons_here, Contains-cons_there, Contains-map, Contains-nil, Extract, Hashes, IsApart, IsBatchOf, IsOnePerList, Key, List, NRow, None, Ordering, Some, [], all_refs, ap, appended, bytes_eq, delivers, false}
+use Rattle.dv_records.proofs.Vocabulary.{false≢true, filtered_members, find, first_attrs, if◌then◌else◌, inl, inr, is_changed, last_rows, lists_of, nat_le, not, not-false, pointwise, refl, refs_eq, refs_eq-Decides, reverse, row_eq, row_eq-Decides, rows_of, slice_eq-Decides, some_passes}
+use Rattle.dv_records.proofs.Vocabulary.{some_passes_at, subst, sym, true, up_to, ℕ, ◌&&◌, ◌∙◌, ◌∷◌, ◌≡◌, ◌⊎◌}
+use Rattle.dv_records.proofs.{LastChange.AreApart, LastChange.Changes, LastChange.IsStep, LastChange.Tells, LastChange.apart-older, LastChange.last_change, Reversing.IsNewestFirst}
 
 -- rows of a list are rows, and of the list
 pub of_list : (rows : List NRow) (refs : List Key) (row : NRow) → Contains (rows_of rows refs) row → Contains rows row × (row.refs ≡ refs)

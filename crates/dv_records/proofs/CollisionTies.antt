@@ -1,8 +1,8 @@
 -- The collision of a hub or a link is the least pair of different lists with one hash key.
-use Rattle.dv_records.proofs.Vocabulary.{Ordering, Less, Equal, Greater, IsTotalOrder, on_total, then_total, AllByRecursion, IsStrictlySortedBy, All, Contains, find, bytes_eq, ◌≡◌, ◌↔◌, ◌⊎◌, Bool, List, [], ◌∷◌, Option, Some, None, refl}
-use Rattle.dv_records.proofs.Vocabulary.{sym, ◌∙◌, ap, subst, false≢true, All-cons, All-head, All-nil, All-tail, bytes_eq-Decides, Key, Window, Hashes, refs_cmp, sorted_by, refs_exact, refs_total, member_of_all, Contains-cons_cases}
-use Rattle.dv_records.proofs.Vocabulary.{Contains-cons_here, Contains-cons_there, Contains-nil, none_before_map, or_none, asymmetric, irreflexive, then_less, turned, finds, found_member, ascending-sorted_by, member_after_sort}
-use Rattle.dv_records.proofs.Vocabulary.{member_before_sort, Parent, Mapping, Pair, IsApart, IsLeastPair, IsPairOf, collision, collision_in, first_collision, hashed_refs, least_pair, pair_cmp, parents, rules, arith, common_steps}
+use Rattle.dv_records.proofs.Vocabulary.{All, All-cons, All-head, All-nil, All-tail, AllByRecursion, Bool, Contains, Contains-cons_cases, Contains-cons_here, Contains-cons_there, Contains-nil, Equal, Greater, Hashes, IsApart, IsLeastPair, IsPairOf, IsStrictlySortedBy, IsTotalOrder, Key, Less}
+use Rattle.dv_records.proofs.Vocabulary.{List, Mapping, None, Option, Ordering, Pair, Parent, Some, Window, [], ap, arith, ascending-sorted_by, asymmetric, bytes_eq, bytes_eq-Decides, collision, collision_in, common_steps, false≢true, find, finds, first_collision, found_member, hashed_refs}
+use Rattle.dv_records.proofs.Vocabulary.{irreflexive, least_pair, member_after_sort, member_before_sort, member_of_all, none_before_map, on_total, or_none, pair_cmp, parents, refl, refs_cmp, refs_exact, refs_total, rules, sorted_by, subst, sym, then_less, then_total, turned, ◌↔◌, ◌∙◌, ◌∷◌, ◌≡◌}
+use Rattle.dv_records.proofs.Vocabulary.{◌⊎◌}
 
 greater_than : (x : List Key) (xs : List (List Key)) → AllByRecursion (λ y. refs_cmp x y ≡ Less) xs → (y : List Key) → Contains xs y → refs_cmp x y ≡ Less
 greater_than x xs all y has = member_of_all (λ y. refs_cmp x y ≡ Less) xs y all has

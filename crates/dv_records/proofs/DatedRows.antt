@@ -1,10 +1,9 @@
 -- Rows in the order of their load dates, and of their batch within one date: what is true of the tables of satellites and of
 -- status tables.
-use Rattle.dv_records.proofs.Vocabulary.{◌≡◌, ℕ, ◌==◌, ◌≤◌, ◌<◌, inl, inr, Bool, true, false, List, [], ◌∷◌, ◌++◌, Option, Some, refl, sym, ◌∙◌, subst, arith, append-nil, nat_le, length, ◌-◌, reverse, eq-eqb, slice_get, ◌&&◌, Contains}
-use Rattle.dv_records.proofs.Vocabulary.{find, if◌then◌else◌, All, Ordering, Less, AllByRecursion, filter_map, list_all, list_any, IsStrictlySortedBy, nat_cmp, ordering_then, and_from, eqb-true, false≢true, le-leb, leb-true}
-use Rattle.dv_records.proofs.Vocabulary.{All-contains_itself, All-weaker, Contains-append_cases, Contains-cons_here, Contains-cons_there, Contains-nil, filter_map_member, member_of_all, reverse_member, got_member, equal_first, le_from_cmp}
-use Rattle.dv_records.proofs.Vocabulary.{less_first, all_pass, find_same, passes_at, some_passes, some_passes_at, same_answer, ascending-append, ascending-same, member_before_sort, appended, batch_of, AreNewestFirst, Extract, Place}
-use Rattle.dv_records.proofs.Vocabulary.{are_in_load_order, get_or-map, get_or_from_slice_get, loads_rise, rules, common_steps, nat_tests}
+use Rattle.dv_records.proofs.Vocabulary.{All, All-contains_itself, All-weaker, AllByRecursion, AreNewestFirst, Bool, Contains, Contains-append_cases, Contains-cons_here, Contains-cons_there, Contains-nil, Extract, IsStrictlySortedBy, Less, List, Option, Ordering, Place, Some, [], all_pass}
+use Rattle.dv_records.proofs.Vocabulary.{and_from, append-nil, appended, are_in_load_order, arith, ascending-append, ascending-same, batch_of, common_steps, eq-eqb, eqb-true, equal_first, false, false≢true, filter_map, filter_map_member, find, find_same, get_or-map, get_or_from_slice_get}
+use Rattle.dv_records.proofs.Vocabulary.{got_member, if◌then◌else◌, inl, inr, le-leb, le_from_cmp, leb-true, length, less_first, list_all, list_any, loads_rise, member_before_sort, member_of_all, nat_cmp, nat_le, nat_tests, ordering_then, passes_at, refl, reverse, reverse_member, rules}
+use Rattle.dv_records.proofs.Vocabulary.{same_answer, slice_get, some_passes, some_passes_at, subst, sym, true, ℕ, ◌&&◌, ◌++◌, ◌-◌, ◌<◌, ◌==◌, ◌∙◌, ◌∷◌, ◌≡◌, ◌≤◌}
 use Rattle.dv_records.proofs.Reversing.{AllBefore, IsNewestFirst}
 
 -- ---- rows whose load dates do not fall
@@ -46,9 +45,6 @@ module _ {X : Type 0} (load : X → ℕ) (cmp : X → X → Ordering) where
   -- no row is later than the last one
   last_is_latest : (rows : List X) (last : X) → IsStrictlySortedBy (dated load cmp) rows → slice_get rows (length rows - 1) ≡ Some last → (row : X) → Contains rows row → load row ≤ load last
   last_is_latest rows last up = let place : X → Place = λ row. record { parent = []; load = load row } in up_to_last place rows last (in_load_order place cmp rows up)
-
-  pub up_to_last_load : (rows : List X) (last : X) → IsStrictlySortedBy (dated load cmp) rows → slice_get rows (length rows - 1) ≡ Some last → list_all (λ row. nat_le (load row) (load last)) rows ≡ true
-  up_to_last_load rows last up e = all_pass (λ row. nat_le (load row) (load last)) rows (λ row has. le-leb (load row) (load last) (last_is_latest rows last up e row has))
 
   -- where no row is later than a date, a row has it where the last one has
   pub last_load : (rows : List X) (last : X) (date : ℕ) → IsStrictlySortedBy (dated load cmp) rows → list_all (λ row. nat_le (load row) date) rows ≡ true → slice_get rows (length rows - 1) ≡ Some last

@@ -1,5 +1,5 @@
 -- A reference list is delivered exactly where it is among the lists of the rows.
-use Rattle.dv_records.proofs.Vocabulary.{Contains, ◌≡◌, true, List, Key, NRow, all_refs, delivers, any_refs}
+use Rattle.dv_records.proofs.Vocabulary.{Contains, Key, List, NRow, all_refs, any_refs, delivers, true, ◌≡◌}
 
 -- a delivered list is among the lists of the rows
 pub Contains-all_refs : (rows : List NRow) (refs : List Key) → delivers rows refs ≡ true → Contains (all_refs rows) refs

@@ -1,7 +1,6 @@
 -- The deliveries of a window are its offers, each list once, by the first feed.
-use Rattle.dv_records.proofs.Vocabulary.{slice_cmp-IsAntisymmetric, Contains, ◌≡◌, ◌↔◌, true, List, Some, ◌∙◌, ap, Key, Window, key_cmp-IsAntisymmetric, refs_eq, refs_cmp, sorted_by, refs_eq-Decides, any_refs, filter_map_member}
-use Rattle.dv_records.proofs.Vocabulary.{member_of_filter_map, map_member, Contains-map, finds, found_member, member_after_sort, Parent, Mapping, Delivery, deliveries, first_offer, is_offered, offered_refs, offers, rules, arith}
-use Rattle.dv_records.proofs.Vocabulary.{common_steps}
+use Rattle.dv_records.proofs.Vocabulary.{Contains, Contains-map, Delivery, Key, List, Mapping, Parent, Some, Window, any_refs, ap, arith, common_steps, deliveries, filter_map_member, finds, first_offer, found_member, is_offered, key_cmp-IsAntisymmetric, map_member, member_after_sort}
+use Rattle.dv_records.proofs.Vocabulary.{member_of_filter_map, offered_refs, offers, refs_cmp, refs_eq, refs_eq-Decides, rules, slice_cmp-IsAntisymmetric, sorted_by, true, ◌↔◌, ◌∙◌, ◌≡◌}
 
 module _ (mapping : Mapping) (parent : Parent) (window : Window) where
   -- a list that is offered is among those that are, and the other way round

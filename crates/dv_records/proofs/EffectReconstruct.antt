@@ -1,16 +1,8 @@
 -- The effectivity rows of a feed say at each date in which run a reference list is.
-use Rattle.dv_records.proofs.Vocabulary.{Contains, ◌≡◌, ◌<◌, ◌==◌, ℕ, inl, inr, Bool, true, false, List, ◌∷◌, Option, Some, None, refl, sym, ◌∙◌, ap, subst, arith, eq-eqb, eqb-true, Key, Hashes, appended, IsApart, Extract, lists_of, up_to}
-use Rattle.dv_records.specs.declared.raw_rows.EffectRow.{EffectRow}
-use Rattle.std.specs.Prelude.{option_and_then}
-use Rattle.dv_text.specs.Stamps.{open_end}
-use Rattle.dv_records.specs.EffectPeriods.{in_effect_since, opened_by}
-use Rattle.dv_records.specs.Effects.{effect_batch, effect_row, IsEffectBatch}
-use Rattle.dv_records.specs.History.{delivers}
-use Rattle.dv_records.specs.Runs.{run_begin}
-use Rattle.dv_records.proofs.EffectTies.{begins_before, effect_parent, effect_stands, effect_tied}
-use Rattle.dv_records.proofs.LastChange.{AreApart, Changes, IsOwn, IsStep, Tells, apart-older, last_change}
-use Rattle.dv_records.proofs.Reversing.{IsNewestFirst}
-use Rattle.dv_records.proofs.StatusReconstruct.{both_lists}
+use Rattle.dv_records.proofs.Vocabulary.{Bool, Contains, EffectRow, Extract, Hashes, IsApart, IsEffectBatch, Key, List, None, Option, Some, ap, appended, arith, delivers, effect_batch, effect_row, eq-eqb, eqb-true, false, in_effect_since, inl, inr, lists_of, open_end, opened_by, option_and_then}
+use Rattle.dv_records.proofs.Vocabulary.{refl, run_begin, subst, sym, true, up_to, ℕ, ◌<◌, ◌==◌, ◌∙◌, ◌∷◌, ◌≡◌}
+use Rattle.dv_records.proofs.{EffectTies.begins_before, EffectTies.effect_parent, EffectTies.effect_stands, EffectTies.effect_tied, LastChange.AreApart, LastChange.Changes, LastChange.IsOwn, LastChange.IsStep, LastChange.Tells, LastChange.apart-older, LastChange.last_change}
+use Rattle.dv_records.proofs.{Reversing.IsNewestFirst, StatusReconstruct.both_lists}
 
 not_same : (a b : ℕ) → a < b → (a == b) ≡ false
 not_same a b less = by (a == b) refl

@@ -1,23 +1,9 @@
 -- The last rows of the runs in an effectivity table are the runs of its feed's extracts.
-use Rattle.dv_records.proofs.Vocabulary.{Bool, Contains, Contains-append_right, Contains-cons_cases, Contains-cons_here, Contains-cons_there, Contains-nil, List, None, Option, Some, [], ◌∷◌, ◌++◌}
-use Rattle.dv_records.proofs.Vocabulary.{◌≡◌, ◌⊎◌, ◌==◌, ◌<◌, ◌∙◌, ℕ, true, false, false≢true, and_from, and_parts, ap, arith, bytes_eq, bytes_eq-Decides, eq-eqb, eqb-true, filter-all, inl, inr, leb-true}
-use Rattle.dv_records.proofs.Vocabulary.{nat_le, nat_list_cmp_total, refl, some_passes, some_passes_at, subst, sym, irreflexive, list_any, IsStrictlySortedBy, Less, member_of_all, digest_cmp, made_of, append-nil}
-use Rattle.dv_records.proofs.Vocabulary.{Key, Hashes, Extract, IsApart, all_refs, appended, delivers, lists_of, newest_rows, up_to}
-use Rattle.std.proofs.lemmas.List.Elements.{filter-append}
-use Rattle.std.proofs.lemmas.List.Folds.{list_any-append}
-use Rattle.std.specs.Prelude.{filter}
-use Rattle.dv_text.proofs.Passing.{filter-none}
-use Rattle.dv_text.specs.Stamps.{open_end}
-use Rattle.dv_records.specs.declared.raw_rows.EffectRow.{EffectRow}
-use Rattle.dv_records.specs.EffectPeriods.{is_of_one_run, last_of_runs}
-use Rattle.dv_records.specs.Effects.{effect_batch, effect_cmp, effect_row, span_between, IsEffectBatch}
-use Rattle.dv_records.specs.Runs.{Span, ended_runs, run_begin, runs}
-use Rattle.dv_records.proofs.BatchTies.{batch_made}
-use Rattle.dv_records.proofs.EffectTies.{effect_parent, effect_stands, effect_tied}
-use Rattle.dv_records.proofs.LastChange.{IsOwn, all_up_to}
-use Rattle.dv_records.proofs.Reversing.{IsNewestFirst}
-use Rattle.dv_records.proofs.RunOrder.{apart as apart_open, run_ended, run_ordered}
-use Rattle.dv_records.proofs.StatusReconstruct.{both_lists}
+use Rattle.dv_records.proofs.Vocabulary.{Bool, Contains, Contains-append_right, Contains-cons_cases, Contains-cons_here, Contains-cons_there, Contains-nil, EffectRow, Extract, Hashes, IsApart, IsEffectBatch, IsStrictlySortedBy, Key, Less, List, None, Option, Some, Span, [], all_refs, and_from}
+use Rattle.dv_records.proofs.Vocabulary.{and_parts, ap, append-nil, appended, arith, bytes_eq, bytes_eq-Decides, delivers, digest_cmp, effect_batch, effect_cmp, effect_row, ended_runs, eq-eqb, eqb-true, false, false≢true, filter, filter-all, filter-append, filter-none, inl, inr, irreflexive}
+use Rattle.dv_records.proofs.Vocabulary.{is_of_one_run, last_of_runs, leb-true, list_any, list_any-append, lists_of, made_of, member_of_all, nat_le, nat_list_cmp_total, newest_rows, open_end, refl, run_begin, runs, some_passes, some_passes_at, span_between, subst, sym, true, up_to, ℕ, ◌++◌, ◌<◌}
+use Rattle.dv_records.proofs.Vocabulary.{◌==◌, ◌∙◌, ◌∷◌, ◌≡◌, ◌⊎◌}
+use Rattle.dv_records.proofs.{BatchTies.batch_made, EffectTies.effect_parent, EffectTies.effect_stands, EffectTies.effect_tied, LastChange.IsOwn, LastChange.all_up_to, Reversing.IsNewestFirst, RunOrder.apart as apart_open, RunOrder.run_ended, RunOrder.run_ordered, StatusReconstruct.both_lists}
 
 -- ---- the last rows of runs
 

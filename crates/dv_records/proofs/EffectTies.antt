@@ -1,11 +1,7 @@
 -- Effectivity batches are the lists that meet their records.
-use Rattle.dv_records.proofs.Vocabulary.{Contains, ◌≡◌, ◌↔◌, ℕ, ◌<◌, Bool, true, false, List, [], ◌∷◌, ◌++◌, Option, Some, None, refl, subst, Contains-cons_here, Contains-cons_there, Key, Hashes, IsApart, Extract, all_refs, delivers, newest_rows, rules}
-use Rattle.dv_records.specs.declared.raw_rows.EffectRow.{EffectRow}
-use Rattle.dv_records.specs.Effects.{effect_batch, effect_row, span_between, IsEffectBatch}
-use Rattle.dv_records.specs.Runs.{run_begin}
-use Rattle.dv_records.proofs.BatchTies.{given, tied_by_digest, tied_whole}
-use Rattle.dv_records.proofs.Reversing.{AllBefore}
-use Rattle.dv_records.proofs.StatusTies.{is_there, was_there}
+use Rattle.dv_records.proofs.Vocabulary.{Bool, Contains, Contains-cons_here, Contains-cons_there, EffectRow, Extract, Hashes, IsApart, IsEffectBatch, Key, List, None, Option, Some, [], all_refs, delivers, effect_batch, effect_row, false, newest_rows, refl, rules, run_begin, span_between, subst}
+use Rattle.dv_records.proofs.Vocabulary.{true, ℕ, ◌++◌, ◌<◌, ◌↔◌, ◌∷◌, ◌≡◌}
+use Rattle.dv_records.proofs.{BatchTies.given, BatchTies.tied_by_digest, BatchTies.tied_whole, Reversing.AllBefore, StatusTies.is_there, StatusTies.was_there}
 
 -- a run began with one of the extracts
 pub begins_before : (refs : List Key) (limit : ℕ) (all : List Extract) → AllBefore (λ (x : Extract). x.load) limit all → (b : ℕ) → run_begin all refs ≡ Some b → b < limit

@@ -1,20 +1,10 @@
 -- The content of a valid feed, its rows' hash keys, and its status table in the vault.
-use Rattle.dv_records.proofs.Vocabulary.{IsStrictlySortedBy, Contains, find, slice_get, ◌&&◌, bytes_eq, ◌≡◌, ℕ, inl, inr, Bool, true, false, List, [], ◌∷◌, ◌++◌, Option, Some, None, refl, sym, ◌∙◌, ap, subst, map, nat_le, reverse}
-use Rattle.dv_records.proofs.Vocabulary.{and_parts, Contains-append_cases, Contains-append_right, bytes_eq-Decides, Key, NRow, Window, text_cmp-IsAntisymmetric, Hashes, refs_eq, row_cmp, sorted_by, refs_eq-Decides, filtered_members}
-use Rattle.dv_records.proofs.Vocabulary.{Contains-flat_map, map_member, Contains-map, Contains-nil, reverse_member, made_of, some_passes_at, some_passes, found_member, member_after_sort, member_before_sort, FeedDef, Mapping}
-use Rattle.dv_records.proofs.Vocabulary.{source as source_of, is_valid, StatusRow, Statuses, appended, digest_cmp, IsApart, Extract, all_refs, content, delivered_refs, delivers, history, newest_rows, lists_of, present_parents, refs_read}
-use Rattle.dv_records.proofs.Vocabulary.{status_rows_in, present_at, says_present, are_windows_valid, code_of, status_batch, status_cmp, status_row, vault}
-use Rattle.dv_records.proofs.BatchTies.{batch_made}
-use Rattle.dv_records.proofs.FeedRefs.{parent_apart, refs_told}
-use Rattle.dv_records.proofs.FeedSteps.{appended-history}
-use Rattle.dv_records.proofs.KnownLists.{lists_apart, rows_valid}
-use Rattle.dv_records.proofs.LastChange.{lists_reversed}
-use Rattle.dv_records.proofs.NewestRows.{content_ascends as ascends, content_extract}
-use Rattle.dv_records.proofs.Reversing.{history_member}
-use Rattle.dv_records.proofs.StatusReconstruct.{both_lists, delivered_tells}
-use Rattle.dv_records.proofs.ValidWindows.{load_order, whole}
-use Rattle.dv_records.proofs.VaultRows.{vault_status}
-use Rattle.dv_records.proofs.WindowRows.{AreRows, HasForm}
+use Rattle.dv_records.proofs.Vocabulary.{Bool, Contains, Contains-append_cases, Contains-append_right, Contains-flat_map, Contains-map, Contains-nil, Extract, FeedDef, Hashes, IsApart, IsStrictlySortedBy, Key, List, Mapping, NRow, None, Option, Some, StatusRow, Statuses, Window, [], all_refs}
+use Rattle.dv_records.proofs.Vocabulary.{and_parts, ap, appended, are_windows_valid, bytes_eq, bytes_eq-Decides, code_of, content, delivered_refs, delivers, digest_cmp, false, filtered_members, find, found_member, history, inl, inr, is_valid, lists_of, made_of, map, map_member, member_after_sort}
+use Rattle.dv_records.proofs.Vocabulary.{member_before_sort, nat_le, newest_rows, present_at, present_parents, refl, refs_eq, refs_eq-Decides, refs_read, reverse, reverse_member, row_cmp, says_present, slice_get, some_passes, some_passes_at, sorted_by, source_of, status_batch, status_cmp}
+use Rattle.dv_records.proofs.Vocabulary.{status_row, status_rows_in, subst, sym, text_cmp-IsAntisymmetric, true, vault, ℕ, ◌&&◌, ◌++◌, ◌∙◌, ◌∷◌, ◌≡◌}
+use Rattle.dv_records.proofs.{BatchTies.batch_made, FeedRefs.parent_apart, FeedRefs.refs_told, FeedSteps.appended-history, KnownLists.lists_apart, KnownLists.rows_valid, LastChange.lists_reversed, NewestRows.content_ascends as ascends, NewestRows.content_extract, Reversing.history_member}
+use Rattle.dv_records.proofs.{StatusReconstruct.both_lists, StatusReconstruct.delivered_tells, ValidWindows.load_order, ValidWindows.whole, VaultRows.vault_status, WindowRows.AreRows, WindowRows.HasForm}
 
 -- ---- status rows
 

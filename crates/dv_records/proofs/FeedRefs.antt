@@ -1,13 +1,9 @@
 -- The references of a valid feed's rows are read back from the tables of its hub or its link.
-use Rattle.dv_records.proofs.Vocabulary.{suc, option_map, option_map_or, Contains, slice_get, ◌≡◌, ℕ, ◌<◌, ◌==◌, Bool, true, false, List, [], ◌∷◌, Option, Some, None, refl, sym, ◌∙◌, ap, subst, length, reverse, cond, ltb-true, and_parts, Key}
-use Rattle.dv_records.proofs.Vocabulary.{NRow, Window, Hashes, is_missing, Contains-cons_here, Contains-cons_there, Contains-nil, passes_at, FeedDef, LinkDef, Parent, Hub, Link, Mapping, keys_at, link_hubs, parent_hubs, is_declared, is_hub}
-use Rattle.dv_records.proofs.Vocabulary.{is_valid, valid_feed, valid_link, HubRow, LinkRow, TableRows, appended, IsApart, hashed_refs, is_known, Extract, history, each_hash, hub_batch, hub_row_by, hub_rows_in, key_read, keys_read}
-use Rattle.dv_records.proofs.Vocabulary.{link_row_by, link_rows_in, missing_key, refs_read, are_windows_valid, fit_hubs, fits_hub, vault}
-use Rattle.dv_records.proofs.KnownLists.{key_at_first, key_known, row_known}
-use Rattle.dv_records.proofs.KnownRefs.{key_found, list_found, missing_unfound, the_missing}
-use Rattle.dv_records.proofs.ValidWindows.{hub_apart, link_apart}
-use Rattle.dv_records.proofs.VaultRows.{vault_hub, vault_link}
-use Rattle.dv_records.proofs.WindowRows.{HasForm, one_key}
+use Rattle.dv_records.proofs.Vocabulary.{Bool, Contains, Contains-cons_here, Contains-cons_there, Contains-nil, Extract, FeedDef, Hashes, Hub, HubRow, IsApart, Key, Link, LinkDef, LinkRow, List, Mapping, NRow, None, Option, Parent, Some, TableRows, Window, [], and_parts, ap, appended}
+use Rattle.dv_records.proofs.Vocabulary.{are_windows_valid, cond, each_hash, false, fit_hubs, fits_hub, hashed_refs, history, hub_batch, hub_row_by, hub_rows_in, is_declared, is_hub, is_known, is_missing, is_valid, key_read, keys_at, keys_read, length, link_hubs, link_row_by, link_rows_in}
+use Rattle.dv_records.proofs.Vocabulary.{ltb-true, missing_key, option_map, option_map_or, parent_hubs, passes_at, refl, refs_read, reverse, slice_get, subst, suc, sym, true, valid_feed, valid_link, vault, ℕ, ◌<◌, ◌==◌, ◌∙◌, ◌∷◌, ◌≡◌}
+use Rattle.dv_records.proofs.{KnownLists.key_at_first, KnownLists.key_known, KnownLists.row_known, KnownRefs.key_found, KnownRefs.list_found, KnownRefs.missing_unfound, KnownRefs.the_missing, ValidWindows.hub_apart, ValidWindows.link_apart, VaultRows.vault_hub, VaultRows.vault_link}
+use Rattle.dv_records.proofs.{WindowRows.HasForm, WindowRows.one_key}
 
 -- ---- hubs and references
 

@@ -1,5 +1,5 @@
 -- The table of a feed over windows is that over its extracts.
-use Rattle.dv_records.proofs.Vocabulary.{◌≡◌, ℕ, List, [], ◌∷◌, refl, sym, ◌∙◌, append-nil, Window, appended, Extract, history, feed_batch, rules}
+use Rattle.dv_records.proofs.Vocabulary.{Extract, List, Window, [], append-nil, appended, feed_batch, history, refl, rules, sym, ℕ, ◌∙◌, ◌∷◌, ◌≡◌}
 
 pub appended-history : {R : Type 0} (feed : ℕ) (batch : List Extract → Extract → List R) (windows : List Window) → appended (feed_batch feed batch) windows ≡ appended batch (history feed windows)
 appended-history feed batch [] = refl

@@ -1,7 +1,6 @@
 -- A hub table has a row for each key that the windows bring, and no other one.
-use Rattle.dv_records.proofs.Vocabulary.{flat_map, list_all, option_map, Contains, not, ◌↔◌, ◌≡◌, ℕ, Bool, true, false, List, [], ◌∷◌, Some, None, refl, sym, ◌∙◌, ap, subst, map, Key, NRow, Window, Hashes, is_missing, filtered_members}
-use Rattle.dv_records.proofs.Vocabulary.{flat_map_member, map_member, made_of, Hub, Mapping, feed_hubs, keys_at, source, Delivery, HubRow, appended, IsApart, deliveries, is_known, offered_refs, offers, offers_of, refs_from, table_of}
-use Rattle.dv_records.proofs.Vocabulary.{hub_batch, hub_row, only_key, IsHubBatch, rules}
+use Rattle.dv_records.proofs.Vocabulary.{Bool, Contains, Delivery, Hashes, Hub, HubRow, IsApart, IsHubBatch, Key, List, Mapping, NRow, None, Some, Window, [], ap, appended, deliveries, false, feed_hubs, filtered_members, flat_map, flat_map_member, hub_batch, hub_row, is_known, is_missing}
+use Rattle.dv_records.proofs.Vocabulary.{keys_at, list_all, made_of, map, map_member, not, offered_refs, offers, offers_of, only_key, option_map, refl, refs_from, rules, source, subst, sym, table_of, true, ℕ, ◌↔◌, ◌∙◌, ◌∷◌, ◌≡◌}
 use Rattle.dv_records.proofs.Delivered.{delivery-offered}
 use Rattle.dv_records.proofs.ParentTables as tables
 

@@ -1,12 +1,8 @@
 -- The reference lists of a feed's rows are known to its hub or its link, and so have hash keys of their own.
-use Rattle.dv_records.proofs.Vocabulary.{flat_map, list_all, Contains, slice_get, ◌≡◌, ℕ, true, false, not, List, [], ◌∷◌, Some, refl, sym, ◌∙◌, ap, subst, map, reverse, eq-eqb, Key, NRow, Staged, Window, Hashes, is_missing}
-use Rattle.dv_records.proofs.Vocabulary.{Contains-cons_here, filter_map_member, filtered_members, Contains-flat_map, Contains-map, flat_map_member, map_member, passes_at, some_passes_at, FeedDef, Parent, Hub, Link, Mapping, feed_hubs}
-use Rattle.dv_records.proofs.Vocabulary.{is_fed_by, keys_at, parent_hubs, Delivery, IsApart, hashed_refs, is_known, is_offered, offers, offers_of, refs_from, table_of, Extract, all_refs, extract_of, history, delivered_refs, fit_hubs}
-use Rattle.dv_records.proofs.Vocabulary.{is_window, rules}
-use Rattle.dv_records.proofs.Delivered.{is_offered-member}
-use Rattle.dv_records.proofs.KnownRefs.{known_apart}
-use Rattle.dv_records.proofs.Reversing.{history_member}
-use Rattle.dv_records.proofs.WindowRows.{AreRows, HasForm, one_key, rows_at, some_there, staged_of}
+use Rattle.dv_records.proofs.Vocabulary.{Contains, Contains-cons_here, Contains-flat_map, Contains-map, Delivery, Extract, FeedDef, Hashes, Hub, IsApart, Key, Link, List, Mapping, NRow, Parent, Some, Staged, Window, [], all_refs, ap, delivered_refs, eq-eqb, extract_of, false, feed_hubs}
+use Rattle.dv_records.proofs.Vocabulary.{filter_map_member, filtered_members, fit_hubs, flat_map, flat_map_member, hashed_refs, history, is_fed_by, is_known, is_missing, is_offered, is_window, keys_at, list_all, map, map_member, not, offers, offers_of, parent_hubs, passes_at, refl, refs_from}
+use Rattle.dv_records.proofs.Vocabulary.{reverse, rules, slice_get, some_passes_at, subst, sym, table_of, true, ℕ, ◌∙◌, ◌∷◌, ◌≡◌}
+use Rattle.dv_records.proofs.{Delivered.is_offered-member, KnownRefs.known_apart, Reversing.history_member, WindowRows.AreRows, WindowRows.HasForm, WindowRows.one_key, WindowRows.rows_at, WindowRows.some_there, WindowRows.staged_of}
 
 -- ---- offers
 

@@ -1,11 +1,8 @@
 -- A reference list that windows bring is found in its table by its hash key.
-use Rattle.dv_records.proofs.Vocabulary.{flat_map, list_all, Contains, replicate, slice_get, bytes_eq, ◌≡◌, ℕ, ◌==◌, true, false, not, List, [], ◌∷◌, Option, Some, None, refl, sym, ◌∙◌, ap, length, reverse, and_parts, eqb-true, false≢true}
-use Rattle.dv_records.proofs.Vocabulary.{not-true, nil_from_length, bytes_eq-Decides, Key, Window, Hashes, is_missing, Contains-cons_here, Contains-cons_there, filtered_members, flat_map_member, Contains-flat_map, map_member}
-use Rattle.dv_records.proofs.Vocabulary.{reverse_member, all_pass_replicate, some_passes_at, some_passes, finds, found_member, Parent, Hub, Link, Mapping, parts_of, Delivery, HubRow, LinkRow, appended, IsApart, hashed_refs, missing_refs}
-use Rattle.dv_records.proofs.Vocabulary.{is_known, is_offered, offered_refs, offers, offers_of, each_hash, hub_batch, link_batch, hub_row_by, link_row_by, missing_key, fits_hub, rules}
-use Rattle.dv_records.proofs.Delivered.{is_offered-member, offered_member}
-use Rattle.dv_records.proofs.HubTables.{table_has as hub_has, table_row as hub_row_of}
-use Rattle.dv_records.proofs.LinkTables.{table_has as link_has, table_row as link_row_of}
+use Rattle.dv_records.proofs.Vocabulary.{Contains, Contains-cons_here, Contains-cons_there, Contains-flat_map, Delivery, Hashes, Hub, HubRow, IsApart, Key, Link, LinkRow, List, Mapping, None, Option, Parent, Some, Window, [], all_pass_replicate, and_parts, ap, appended, bytes_eq}
+use Rattle.dv_records.proofs.Vocabulary.{bytes_eq-Decides, each_hash, eqb-true, false, false≢true, filtered_members, finds, fits_hub, flat_map, flat_map_member, found_member, hashed_refs, hub_batch, hub_row_by, is_known, is_missing, is_offered, length, link_batch, link_row_by, list_all}
+use Rattle.dv_records.proofs.Vocabulary.{map_member, missing_key, missing_refs, nil_from_length, not, not-true, offered_refs, offers, offers_of, parts_of, refl, replicate, reverse, reverse_member, rules, slice_get, some_passes, some_passes_at, sym, true, ℕ, ◌==◌, ◌∙◌, ◌∷◌, ◌≡◌}
+use Rattle.dv_records.proofs.{Delivered.is_offered-member, Delivered.offered_member, HubTables.table_has as hub_has, HubTables.table_row as hub_row_of, LinkTables.table_has as link_has, LinkTables.table_row as link_row_of}
 
 -- ---- what is missing
 

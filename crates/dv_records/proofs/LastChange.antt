@@ -1,8 +1,7 @@
 -- A table that gets rows of a parent only from extracts that change something of it: its last rows tell the last change.
-use Rattle.dv_records.proofs.Vocabulary.{option_or, Contains, find, ◌&&◌, nat_le, ◌≡◌, ◌⊎◌, ℕ, ◌≤◌, inl, inr, Bool, true, false, List, [], ◌∷◌, ◌++◌, Option, Some, None, refl, sym, ◌∙◌, ap, subst, arith, reverse, bytes_eq, and_from}
-use Rattle.dv_records.proofs.Vocabulary.{and_parts, false≢true, le-leb, leb-true, reverse-append, Contains-append_cases, Contains-append_left, Contains-append_right, find-append, bytes_eq-Decides, Key, Window, Hashes, Contains-cons_here}
-use Rattle.dv_records.proofs.Vocabulary.{Contains-cons_there, flat_map_member, Contains-flat_map, Contains-nil, reverse_member, finds, found_member, filter-all, appended, IsApart, Extract, all_refs, delivered_refs, history, lists_of, up_to}
-use Rattle.dv_records.proofs.Vocabulary.{rules}
+use Rattle.dv_records.proofs.Vocabulary.{Bool, Contains, Contains-append_cases, Contains-append_left, Contains-append_right, Contains-cons_here, Contains-cons_there, Contains-flat_map, Contains-nil, Extract, Hashes, IsApart, Key, List, None, Option, Some, Window, [], all_refs, and_from}
+use Rattle.dv_records.proofs.Vocabulary.{and_parts, ap, appended, arith, bytes_eq, bytes_eq-Decides, delivered_refs, false, false≢true, filter-all, find, find-append, finds, flat_map_member, found_member, history, inl, inr, le-leb, leb-true, lists_of, nat_le, option_or, refl, reverse}
+use Rattle.dv_records.proofs.Vocabulary.{reverse-append, reverse_member, rules, subst, sym, true, up_to, ℕ, ◌&&◌, ◌++◌, ◌∙◌, ◌∷◌, ◌≡◌, ◌≤◌, ◌⊎◌}
 use Rattle.dv_records.proofs.Reversing.{AllBefore, IsNewestFirst, history_member}
 
 -- extracts that are all before a date are all up to it

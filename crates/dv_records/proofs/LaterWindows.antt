@@ -1,13 +1,6 @@
 -- A window that is later than a date leaves the contents, the marts and the snapshot at it.
-use Rattle.dv_records.proofs.Vocabulary.{Contains, Contains-cons_here, Contains-cons_there, refl, ◌≡◌, ◌<◌, ◌∷◌, ◌++◌, ℕ, List, [], Mapping, Hashes, Window, Hub, ap, append-nil, arith, common_steps, nat_tests, nat_le, map, length, slice_get, reverse, range_with_len, sorted_by, content, delivers, history, newest_rows, offered_refs, up_to}
-use Rattle.std.proofs.lemmas.Bool.{lt-leb}
-use Rattle.std.proofs.lemmas.List.Elements.{filter-append}
-use Rattle.std.specs.List.{flat_map}
-use Rattle.std.specs.Prelude.{filter}
-use Rattle.dv_records.specs.declared.snapshots.SnapId.TheVariants.{Pit, Bridge}
-use Rattle.dv_records.specs.declared.stores.Rows.TheVariants.{Pits, Bridges}
-use Rattle.dv_records.specs.Marts.{hub_feeds, path_mart, path_rows_by}
-use Rattle.dv_records.specs.Snapshots.{bridge, bridge_cmp, bridge_row, pit, pit_cmp, sat_load, snap_head, snap_tables, snapshot}
+use Rattle.dv_records.proofs.Vocabulary.{Bridge, Bridges, Contains, Contains-cons_here, Contains-cons_there, Hashes, Hub, List, Mapping, Pit, Pits, Window, [], ap, append-nil, arith, bridge, bridge_cmp, bridge_row, common_steps, delivers, filter, filter-append, flat_map, history, hub_feeds}
+use Rattle.dv_records.proofs.Vocabulary.{length, lt-leb, map, nat_le, nat_tests, newest_rows, offered_refs, path_mart, path_rows_by, pit, pit_cmp, range_with_len, refl, reverse, sat_load, slice_get, snap_head, snap_tables, snapshot, sorted_by, up_to, ℕ, ◌++◌, ◌<◌, ◌∷◌, ◌≡◌}
 
 up_to-later : (feed : ℕ) (sealed : List Window) (next : Window) (date : ℕ) → date < next.load → up_to date (history feed (reverse (sealed ++ next ∷ []))) ≡ up_to date (history feed (reverse sealed))
 up_to-later feed sealed next date later = grind (arith, common_steps, nat_tests)

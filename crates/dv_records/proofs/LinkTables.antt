@@ -1,6 +1,5 @@
 -- A link table has a row for each reference list that the windows bring, and no other one.
-use Rattle.dv_records.proofs.Vocabulary.{flat_map, Contains, ◌↔◌, ◌≡◌, ℕ, true, false, List, Some, refl, Key, Window, Hashes, Link, Mapping, source, Delivery, LinkRow, appended, IsApart, deliveries, is_known, offered_refs, each_hash}
-use Rattle.dv_records.proofs.Vocabulary.{link_batch, link_row, IsLinkBatch, rules}
+use Rattle.dv_records.proofs.Vocabulary.{Contains, Delivery, Hashes, IsApart, IsLinkBatch, Key, Link, LinkRow, List, Mapping, Some, Window, appended, deliveries, each_hash, false, flat_map, is_known, link_batch, link_row, offered_refs, refl, rules, source, true, ℕ, ◌↔◌, ◌≡◌}
 use Rattle.dv_records.proofs.ParentTables as tables
 
 module _ (mapping : Mapping) (link : ℕ) (hashes : Hashes) where

@@ -1,36 +1,10 @@
 -- The content of a feed with a sub, and so that of any feed, is read back from the tables of the vault.
-use Rattle.std.specs.List.{flat_map}
-use Rattle.std.specs.Option.{option_map_or}
-use Rattle.std.specs.Prelude.{Contains, slice_get}
-use Rattle.std.proofs.Common.{◌≡◌, ◌↔◌, ℕ, ◌==◌, Bool, true, false, List, [], ◌∷◌, Option, Some, None, refl, sym, ◌∙◌, ap, subst, map, length, reverse, eqb-true}
-use Rattle.std.proofs.lemmas.List.{nil_from_length}
-use Rattle.dv_text.specs.declared.rows.Key.{Key}
-use Rattle.dv_text.specs.declared.rows.NRow.{NRow}
-use Rattle.dv_text.specs.declared.rows.Window.{Window}
-use Rattle.dv_text.specs.Exact.{row_cmp-IsAntisymmetric}
-use Rattle.dv_text.specs.Keys.{Hashes, refs_eq}
-use Rattle.dv_text.proofs.Deciding.{refs_eq-Decides, row_total}
-use Rattle.dv_text.proofs.Members.{filtered_members, flat_map_member, Contains-flat_map, Contains-nil}
-use Rattle.dv_text.proofs.Passing.{some_passes_at}
-use Rattle.dv_text.proofs.SortedLists.{sorted_by-members}
-use Rattle.dv_catalog.specs.declared.entries.FeedDef.{FeedDef}
-use Rattle.dv_catalog.specs.Entries.{Mapping}
-use Rattle.dv_catalog.specs.Mappings.{is_valid}
-use Rattle.dv_catalog.proofs.ValidReads.{valid_feed}
-use Rattle.dv_records.specs.declared.stores.Rows.TheVariants.{Multis}
-use Rattle.dv_records.specs.declared.stores.TableRows.{TableRows}
-use Rattle.dv_records.specs.History.{Extract, content, delivered_refs, delivers, history, newest_rows, up_to}
-use Rattle.dv_records.specs.ReadBack.{any_content_read, any_content_read_by, multi_content_read, multi_content_read_by, multi_rows_in, present_parents, rows_read, status_rows_in}
-use Rattle.dv_records.specs.Reconstruction.{all_valid_at, described_row, HasOneRowPerSub}
-use Rattle.dv_records.specs.Satellites.{last_rows, rows_of}
-use Rattle.dv_records.specs.States.{are_windows_valid}
-use Rattle.dv_records.specs.Vault.{vault}
-use Rattle.dv_records.proofs.FeedContents.{rows_of_extract, content_ascends, content_delivered, feed_apart, present_has, row_present, row_refs}
-use Rattle.dv_records.proofs.ReadBack.{feed_tells}
-use Rattle.dv_records.proofs.ValidWindows.{load_order, no_history}
-use Rattle.dv_records.proofs.VaultRows.{vault_multi}
-use Rattle.std.proofs.lemmas.Bool.{not-true}
-use Rattle.dv_records.proofs.MultiReconstruct.{multi_tells}
+use Rattle.dv_records.proofs.Vocabulary.{Bool, Contains, Contains-flat_map, Contains-nil, Extract, FeedDef, HasOneRowPerSub, Hashes, Key, List, Mapping, Multis, NRow, None, Option, Some, TableRows, Window, [], all_valid_at, any_content_read, any_content_read_by, ap, are_windows_valid, content}
+use Rattle.dv_records.proofs.Vocabulary.{delivered_refs, delivers, described_row, eqb-true, false, filtered_members, flat_map, flat_map_member, history, is_valid, last_rows, length, map, multi_content_read, multi_content_read_by, multi_rows_in, newest_rows, nil_from_length, not-true}
+use Rattle.dv_records.proofs.Vocabulary.{option_map_or, present_parents, refl, refs_eq, refs_eq-Decides, reverse, row_cmp-IsAntisymmetric, row_total, rows_of, rows_read, slice_get, some_passes_at, sorted_by-members, status_rows_in, subst, sym, true, up_to, valid_feed, vault, ℕ, ◌==◌, ◌↔◌, ◌∙◌}
+use Rattle.dv_records.proofs.Vocabulary.{◌∷◌, ◌≡◌}
+use Rattle.dv_records.proofs.{FeedContents.rows_of_extract, FeedContents.content_ascends, FeedContents.content_delivered, FeedContents.feed_apart, FeedContents.present_has, FeedContents.row_present, FeedContents.row_refs, ReadBack.feed_tells, ValidWindows.load_order, ValidWindows.no_history}
+use Rattle.dv_records.proofs.{VaultRows.vault_multi, MultiReconstruct.multi_tells}
 
 -- ---- the last rows
 

@@ -1,17 +1,8 @@
 -- The multi-active satellite rows of a feed say at each date which rows a list had when it was last there.
-use Rattle.dv_records.specs.Reconstruction.{all_valid_at, described_row, loaded_with, HasOneRowPerSub}
-use Rattle.dv_records.specs.declared.stores.Rows.TheVariants.{Multis}
-use Rattle.dv_records.proofs.Vocabulary.{Contains, nat_le, find, ◌&&◌, bytes_eq, ◌≡◌, ◌↔◌, ℕ, ◌==◌, inl, inr, Bool, List, [], Option, Some, None, refl, sym, ◌∙◌, ap, subst, reverse, map, eq-eqb, eqb-true, ◌⊎◌, and_from}
-use Rattle.dv_records.proofs.Vocabulary.{and_parts, bytes_eq-Decides, Key, NRow, Window, Hashes, filtered_members, map_member, Contains-map, Contains-nil, Multi, Mapping, MultiRow, appended, IsApart, Extract, all_refs, delivered_refs, history, up_to, IsInLoadOrder, lists_of, multi_rows}
-use Rattle.dv_records.proofs.Vocabulary.{last_rows, multi_batch, multi_cmp, rows_of, IsMultiBatch}
-use Rattle.dv_records.proofs.Vocabulary.{IsOnePerSub, table_after}
-use Rattle.dv_catalog.specs.Feeds.{source as source_of}
-use Rattle.dv_records.proofs.ChangedRows.{AreValid, of_list, valid_rows}
-use Rattle.dv_records.proofs.FeedSteps.{feed_rows}
-use Rattle.dv_records.proofs.LastChange.{IsOwn, apart-reversed}
-use Rattle.dv_records.proofs.Reversing.{IsNewestFirst, history-newest_first, history_member}
-use Rattle.dv_records.proofs.SatelliteTies.{multi_tied}
-use Rattle.dv_records.specs.Backwards.{backwards}
+use Rattle.dv_records.proofs.Vocabulary.{Bool, Contains, Contains-map, Contains-nil, Extract, HasOneRowPerSub, Hashes, IsApart, IsInLoadOrder, IsMultiBatch, IsOnePerSub, Key, List, Mapping, Multi, MultiRow, Multis, NRow, None, Option, Some, Window, [], all_refs, all_valid_at, and_from, and_parts}
+use Rattle.dv_records.proofs.Vocabulary.{ap, appended, backwards, bytes_eq, bytes_eq-Decides, delivered_refs, described_row, eq-eqb, eqb-true, filtered_members, find, history, inl, inr, last_rows, lists_of, loaded_with, map, map_member, multi_batch, multi_cmp, multi_rows, nat_le, refl, reverse}
+use Rattle.dv_records.proofs.Vocabulary.{rows_of, source_of, subst, sym, table_after, up_to, ℕ, ◌&&◌, ◌==◌, ◌↔◌, ◌∙◌, ◌≡◌, ◌⊎◌}
+use Rattle.dv_records.proofs.{ChangedRows.AreValid, ChangedRows.of_list, ChangedRows.valid_rows, FeedSteps.feed_rows, LastChange.IsOwn, LastChange.apart-reversed, Reversing.IsNewestFirst, Reversing.history-newest_first, Reversing.history_member, SatelliteTies.multi_tied}
 
 module _ (hashes : Hashes) (source : List ℕ) (refs : List Key) (date : ℕ) where
   -- the multi-active row of an extract's row

@@ -1,6 +1,5 @@
 -- The rows of a content are those of one extract.
-use Rattle.dv_records.proofs.Vocabulary.{IsStrictlySortedBy, Contains, ℕ, nat_le, reverse, List, [], ◌∷◌, NRow, Window, row_cmp, filtered_members, Contains-cons_here, content, history, up_to, Extract, newest_rows, arith, common_steps}
-use Rattle.dv_records.proofs.Vocabulary.{nat_tests}
+use Rattle.dv_records.proofs.Vocabulary.{Contains, Contains-cons_here, Extract, IsStrictlySortedBy, List, NRow, Window, [], arith, common_steps, content, filtered_members, history, nat_le, nat_tests, newest_rows, reverse, row_cmp, up_to, ℕ, ◌∷◌}
 use Rattle.dv_records.proofs.Reversing.{history_member}
 
 newest_extract : (all : List Extract) (row : NRow) → Contains (newest_rows all) row → (extract : Extract) × Contains all extract × Contains extract.rows row

@@ -1,24 +1,15 @@
 -- With no windows each table is empty, and the windows are valid.
-use Rattle.dv_records.proofs.Vocabulary.{◌≡◌, Bool, true, false, List, [], ◌∷◌, None, refl, ◌∙◌, ap, arith, map, nat_le, sum_by-cons, and_from, is_none, Hashes, Mapping, tables, TableId, TableRows, no_rows, rows_in, table_eq, table_after, table_entry, rows_weight, are_windows_valid}
-use Rattle.dv_catalog.specs.declared.entries.Parent.{Parent}
-use Rattle.dv_catalog.specs.declared.tables.TableId.TheVariants as ids
-use Rattle.dv_records.specs.Backwards.{backwards}
-use Rattle.dv_records.specs.Collisions.{first_collision, parents}
-use Rattle.dv_records.specs.Limits.{most_weight}
-use Rattle.dv_records.specs.Weights.{tables_weight}
+use Rattle.dv_records.proofs.Vocabulary.{Bool, Hashes, List, Mapping, None, Parent, TableId, TableRows, [], and_from, ap, are_windows_valid, arith, backwards, false, first_collision, is_none, map, most_weight, nat_le, no_rows, parents, refl, rows_in, rows_weight, rules, sum_by-cons, table_after}
+use Rattle.dv_records.proofs.Vocabulary.{table_entry, table_eq, tables, tables_weight, true, ◌∙◌, ◌∷◌, ◌≡◌}
 use Rattle.dv_records.proofs.WellFormedTables.{same_table}
+use Rattle.dv_catalog.specs.declared.tables.TableId.TheVariants as ids
 
 no_collision : (mapping : Mapping) (hashes : Hashes) (all : List Parent) → first_collision mapping hashes [] all ≡ None
 no_collision mapping hashes [] = refl
 no_collision mapping hashes (parent ∷ all) = no_collision mapping hashes all
 
 no_weight : (mapping : Mapping) (hashes : Hashes) (id : TableId) → rows_weight (table_after mapping hashes (backwards []) id) ≡ 0
-no_weight mapping hashes (ids.Hub n) = refl
-no_weight mapping hashes (ids.Link n) = refl
-no_weight mapping hashes (ids.Sat n) = refl
-no_weight mapping hashes (ids.Multi n) = refl
-no_weight mapping hashes (ids.Status n) = refl
-no_weight mapping hashes (ids.Effect n) = refl
+no_weight mapping hashes id = search rules
 
 no_weights : (mapping : Mapping) (hashes : Hashes) (all : List TableId) → tables_weight (map (table_entry mapping hashes (backwards [])) all) ≡ 0
 no_weights mapping hashes [] = refl
@@ -33,12 +24,7 @@ none_valid mapping hashes =
     and_from _ _ (and_from _ _ (ap is_none (no_collision mapping hashes (parents mapping))) (ap (λ n. nat_le n most_weight) (no_weights mapping hashes (tables mapping)))) refl
 
 pub after_none : (mapping : Mapping) (hashes : Hashes) (id : TableId) → table_after mapping hashes (backwards []) id ≡ no_rows id
-after_none mapping hashes (ids.Hub n) = refl
-after_none mapping hashes (ids.Link n) = refl
-after_none mapping hashes (ids.Sat n) = refl
-after_none mapping hashes (ids.Multi n) = refl
-after_none mapping hashes (ids.Status n) = refl
-after_none mapping hashes (ids.Effect n) = refl
+after_none mapping hashes id = search rules
 
 pub none_in : (mapping : Mapping) (hashes : Hashes) (all : List TableId) (table : TableId) → rows_in table (map (table_entry mapping hashes (backwards [])) all) ≡ no_rows table
 none_in mapping hashes [] table = refl

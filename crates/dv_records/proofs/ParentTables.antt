@@ -1,10 +1,8 @@
 -- The table of a hub or a link has a row for each reference list that the windows bring, and no other one, for any kind of
 -- row that is made of a delivery.
-use Rattle.dv_records.proofs.Vocabulary.{flat_map, Contains, ◌||◌, Option, ◌↔◌, ◌≡◌, ℕ, inl, inr, Bool, true, false, List, [], ◌∷◌, Some, refl, ◌∙◌, ap, subst, false≢true, or_left, or_right, Contains-append_cases, Contains-append_left}
-use Rattle.dv_records.proofs.Vocabulary.{Contains-append_right, Key, Window, Hashes, Contains-nil, Parent, Mapping, Delivery, appended, batch_of, digest_cmp, IsBatchOf, IsApart, deliveries, first_offer, is_known, is_offered, offered_refs}
-use Rattle.dv_records.proofs.Vocabulary.{rules}
-use Rattle.dv_records.proofs.BatchTies.{batch_made, tied_by_digest}
-use Rattle.dv_records.proofs.Delivered.{deliveries_member, delivery-offered, first_offer-refs, has_first_offer, is_offered-member, offered_member, deliveries-apart}
+use Rattle.dv_records.proofs.Vocabulary.{Bool, Contains, Contains-append_cases, Contains-append_left, Contains-append_right, Contains-nil, Delivery, Hashes, IsApart, IsBatchOf, Key, List, Mapping, Option, Parent, Some, Window, [], ap, appended, batch_of, deliveries, digest_cmp, false, false≢true}
+use Rattle.dv_records.proofs.Vocabulary.{first_offer, flat_map, inl, inr, is_known, is_offered, offered_refs, or_left, or_right, refl, rules, subst, true, ℕ, ◌||◌, ◌↔◌, ◌∙◌, ◌∷◌, ◌≡◌}
+use Rattle.dv_records.proofs.{BatchTies.batch_made, BatchTies.tied_by_digest, Delivered.deliveries_member, Delivered.delivery-offered, Delivered.first_offer-refs, Delivered.has_first_offer, Delivered.is_offered-member, Delivered.offered_member, Delivered.deliveries-apart}
 
 first_true : (a b : Bool) → (a || b) ≡ true → b ≡ false → a ≡ true
 first_true a b h1 h2 = search (rules, false≢true)

@@ -1,25 +1,9 @@
 -- The period mart of a feed is read back from the tables of the vault.
-use Rattle.dv_records.proofs.Vocabulary.{filter_map, option_map, Contains, slice_get, ◌≡◌, ◌↔◌, ℕ, true, List, Option, Some, None, refl, sym, ◌∙◌, ap, subst, reverse, NRow, Window, Hashes, Key, IsStrictlySortedBy, flat_map}
-use Rattle.dv_records.proofs.Vocabulary.{ascending-sorted_by, filter_map_member, flat_map_member, map_member, member_of_filter_map, member_after_sort, member_before_sort, same_ascending, FeedDef, Mapping, is_valid, tables, TableRows, Extract, all_refs, history, lists_of, up_to}
-use Rattle.dv_records.proofs.Vocabulary.{refs_read, are_windows_valid, vault, source, IsInLoadOrder, IsApart, delivered_refs}
-use Rattle.dv_text.specs.Sorting.{sorted_by}
-use Rattle.dv_text.proofs.SortedLists.{one_of_ties}
-use Rattle.dv_catalog.specs.declared.tables.TableId.TheVariants.{Effect}
-use Rattle.dv_records.specs.declared.mart_rows.Period.{Period}
-use Rattle.dv_records.specs.declared.mart_rows.PeriodRow.{PeriodRow}
-use Rattle.dv_records.specs.EffectPeriods.{effect_periods}
-use Rattle.dv_records.specs.Effects.{effect_batch}
-use Rattle.dv_records.specs.Marts.{period_cmp, period_mart, periods, periods_of}
-use Rattle.dv_records.specs.Ranks.{period_total}
-use Rattle.dv_records.specs.ReadBack.{effect_rows_in, period_read, periods_read, periods_read_by}
-use Rattle.dv_records.proofs.FeedContents.{feed_apart, rows_of_extract}
-use Rattle.dv_records.proofs.FeedRefs.{refs_told}
-use Rattle.dv_records.proofs.FeedSteps.{appended-history}
-use Rattle.dv_records.proofs.NewestRows.{reached}
-use Rattle.dv_records.proofs.PeriodRuns.{mart_runs, periods_told, IsRun, IsRunOf}
-use Rattle.dv_records.proofs.Reversing.{history_member}
-use Rattle.dv_records.proofs.ValidWindows.{load_order, no_history}
-use Rattle.dv_records.proofs.VaultRows.{vault_effect}
+use Rattle.dv_records.proofs.Vocabulary.{Contains, Effect, Extract, FeedDef, Hashes, IsApart, IsInLoadOrder, IsStrictlySortedBy, Key, List, Mapping, NRow, None, Option, Period, PeriodRow, Some, TableRows, Window, all_refs, ap, are_windows_valid, ascending-sorted_by, delivered_refs, effect_batch}
+use Rattle.dv_records.proofs.Vocabulary.{effect_periods, effect_rows_in, filter_map, filter_map_member, flat_map, flat_map_member, history, is_valid, lists_of, map_member, member_after_sort, member_before_sort, member_of_filter_map, one_of_ties, option_map, period_cmp, period_mart, period_read}
+use Rattle.dv_records.proofs.Vocabulary.{period_total, periods, periods_of, periods_read, periods_read_by, refl, refs_read, reverse, same_ascending, slice_get, sorted_by, source, subst, sym, tables, true, up_to, vault, ℕ, ◌↔◌, ◌∙◌, ◌≡◌}
+use Rattle.dv_records.proofs.{FeedContents.feed_apart, FeedContents.rows_of_extract, FeedRefs.refs_told, FeedSteps.appended-history, NewestRows.reached, PeriodRuns.mart_runs, PeriodRuns.periods_told, PeriodRuns.IsRun, PeriodRuns.IsRunOf, Reversing.history_member, ValidWindows.load_order}
+use Rattle.dv_records.proofs.{ValidWindows.no_history, VaultRows.vault_effect}
 
 -- ---- a feed of the mapping
 

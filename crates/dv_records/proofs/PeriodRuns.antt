@@ -1,20 +1,8 @@
 -- The periods that a feed's effectivity rows tell, and the rows of its period mart, are the runs of its extracts.
-use Rattle.dv_records.proofs.Vocabulary.{Contains, ◌≡◌, ◌↔◌, ℕ, List, sym, ◌∙◌, ap, subst, map, nat_le, reverse, Equal, nat_cmp-IsAntisymmetric, slice_cmp-IsAntisymmetric, flat_map}
-use Rattle.dv_records.proofs.Vocabulary.{Contains-flat_map, Contains-map, flat_map_member, map_member, member_after_sort, member_before_sort, both_tied, refs_exact}
-use Rattle.dv_records.proofs.Vocabulary.{Key, Window, Hashes, Extract, IsApart, IsInLoadOrder, all_refs, appended, delivered_refs, history, lists_of, up_to}
-use Rattle.std.specs.Prelude.{filter}
-use Rattle.dv_text.specs.Sorting.{sorted_by}
-use Rattle.dv_records.specs.declared.mart_rows.Period.{Period}
-use Rattle.dv_records.specs.declared.mart_rows.PeriodRow.{PeriodRow}
-use Rattle.dv_records.specs.declared.raw_rows.EffectRow.{EffectRow}
-use Rattle.dv_records.specs.EffectPeriods.{effect_periods, last_of_runs, parent_period_cmp, period_in}
-use Rattle.dv_records.specs.Effects.{effect_batch}
-use Rattle.dv_records.specs.Marts.{period_cmp, period_mart, periods_of}
-use Rattle.dv_records.specs.Runs.{Span, runs}
-use Rattle.dv_records.proofs.EffectRuns.{all_runs, only_runs, rows_up_to}
-use Rattle.dv_records.proofs.NewestRows.{reached}
-use Rattle.dv_records.proofs.Reversing.{IsNewestFirst, history-newest_first, history_member, newest_first-filter}
-use Rattle.dv_records.proofs.RunOrder.{one_run}
+use Rattle.dv_records.proofs.Vocabulary.{Contains, Contains-flat_map, Contains-map, EffectRow, Equal, Extract, Hashes, IsApart, IsInLoadOrder, Key, List, Period, PeriodRow, Span, Window, all_refs, ap, appended, both_tied, delivered_refs, effect_batch, effect_periods, filter, flat_map}
+use Rattle.dv_records.proofs.Vocabulary.{flat_map_member, history, last_of_runs, lists_of, map, map_member, member_after_sort, member_before_sort, nat_cmp-IsAntisymmetric, nat_le, parent_period_cmp, period_cmp, period_in, period_mart, periods_of, refs_exact, reverse, runs}
+use Rattle.dv_records.proofs.Vocabulary.{slice_cmp-IsAntisymmetric, sorted_by, subst, sym, up_to, ℕ, ◌↔◌, ◌∙◌, ◌≡◌}
+use Rattle.dv_records.proofs.{EffectRuns.all_runs, EffectRuns.only_runs, EffectRuns.rows_up_to, NewestRows.reached, Reversing.IsNewestFirst, Reversing.history-newest_first, Reversing.history_member, Reversing.newest_first-filter, RunOrder.one_run}
 
 -- a row of a period mart is a run of one of the extracts' lists
 abbrev pub IsRunOf : List Extract → PeriodRow → Type 0

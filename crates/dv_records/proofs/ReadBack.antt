@@ -1,16 +1,9 @@
 -- The content of a feed without a sub is read back from the tables of the vault.
-use Rattle.dv_records.proofs.Vocabulary.{filter_map, option_map, option_map_or, Contains, slice_get, ◌≡◌, ℕ, ◌==◌, Bool, true, false, List, [], ◌∷◌, Option, Some, refl, sym, ◌∙◌, ap, subst, length, reverse, eqb-true, nil_from_length, NRow}
-use Rattle.dv_records.proofs.Vocabulary.{Window, row_cmp-IsAntisymmetric, Hashes, refs_eq, refs_eq-Decides, row_total, Contains-cons_here, filter_map_member, filtered_members, member_of_filter_map, Contains-nil, made_of, some_passes_at}
-use Rattle.dv_records.proofs.Vocabulary.{sorted_by-members, FeedDef, Mapping, is_valid, SatRow, Sats, TableRows, Extract, content, delivers, history, newest_rows, up_to, attrs_read, content_read, content_read_by, present_parents, row_read}
-use Rattle.dv_records.proofs.Vocabulary.{sat_rows_in, status_rows_in, first_attrs, valid_at, HasOneRowEach, last_rows, IsOnePerList, are_windows_valid, vault, rules}
-use Rattle.dv_records.proofs.ChangedRows.{only_attrs}
-use Rattle.dv_records.proofs.FeedContents.{rows_of_extract, content_ascends, content_delivered, feed_apart, present_has, row_form, row_present, row_refs}
-use Rattle.dv_records.proofs.NewestRows.{reached}
-use Rattle.dv_records.proofs.Reversing.{history_member}
-use Rattle.dv_records.proofs.SatReconstruct.{sat_tells}
-use Rattle.dv_records.proofs.ValidWindows.{load_order}
-use Rattle.dv_records.proofs.VaultRows.{vault_sat}
-use Rattle.dv_records.proofs.WindowRows.{HasForm}
+use Rattle.dv_records.proofs.Vocabulary.{Bool, Contains, Contains-cons_here, Contains-nil, Extract, FeedDef, HasOneRowEach, Hashes, IsOnePerList, List, Mapping, NRow, Option, SatRow, Sats, Some, TableRows, Window, [], ap, are_windows_valid, attrs_read, content, content_read, content_read_by}
+use Rattle.dv_records.proofs.Vocabulary.{delivers, eqb-true, false, filter_map, filter_map_member, filtered_members, first_attrs, history, is_valid, last_rows, length, made_of, member_of_filter_map, newest_rows, nil_from_length, option_map, option_map_or, present_parents, refl, refs_eq}
+use Rattle.dv_records.proofs.Vocabulary.{refs_eq-Decides, reverse, row_cmp-IsAntisymmetric, row_read, row_total, rules, sat_rows_in, slice_get, some_passes_at, sorted_by-members, status_rows_in, subst, sym, true, up_to, valid_at, vault, ℕ, ◌==◌, ◌∙◌, ◌∷◌, ◌≡◌}
+use Rattle.dv_records.proofs.{ChangedRows.only_attrs, FeedContents.rows_of_extract, FeedContents.content_ascends, FeedContents.content_delivered, FeedContents.feed_apart, FeedContents.present_has, FeedContents.row_form, FeedContents.row_present, FeedContents.row_refs, NewestRows.reached}
+use Rattle.dv_records.proofs.{Reversing.history_member, SatReconstruct.sat_tells, ValidWindows.load_order, VaultRows.vault_sat, WindowRows.HasForm}
 
 -- ---- attributes
 

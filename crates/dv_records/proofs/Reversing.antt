@@ -1,8 +1,6 @@
 -- Windows and extracts from the newest to the oldest.
-use Rattle.dv_records.proofs.Vocabulary.{Less, ranked, AllByRecursion, filter_map, IsStrictlySortedBy, nat_cmp, Contains, ◌≡◌, ◌↔◌, ℕ, ◌<◌, inl, inr, List, [], ◌∷◌, ◌++◌, Option, Some, None, refl, sym, subst, reverse, map, reverse-append}
-use Rattle.dv_records.proofs.Vocabulary.{Contains-append_cases, Window, reverse_member, Contains-cons_cases, Contains-cons_here, Contains-cons_there, filter_map_member, member_of_filter_map, Contains-nil, made_of, Extract, extract_of}
-use Rattle.dv_records.proofs.Vocabulary.{history, IsInLoadOrder, rules, Bool, true, false, filtered_members}
-use Rattle.std.specs.Prelude.{filter}
+use Rattle.dv_records.proofs.Vocabulary.{AllByRecursion, Bool, Contains, Contains-append_cases, Contains-cons_cases, Contains-cons_here, Contains-cons_there, Contains-nil, Extract, IsInLoadOrder, IsStrictlySortedBy, Less, List, None, Option, Some, Window, [], extract_of, false, filter}
+use Rattle.dv_records.proofs.Vocabulary.{filter_map, filter_map_member, filtered_members, history, inl, inr, made_of, map, member_of_filter_map, nat_cmp, ranked, refl, reverse, reverse-append, reverse_member, rules, subst, sym, true, ℕ, ◌++◌, ◌<◌, ◌↔◌, ◌∷◌, ◌≡◌}
 
 -- each is before a date
 abbrev pub AllBefore : {X : Type 0} → (X → ℕ) → ℕ → List X → Type 0

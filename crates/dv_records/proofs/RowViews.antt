@@ -1,6 +1,6 @@
 -- When no row is later than a date.
-use Rattle.dv_records.proofs.Vocabulary.{list_all, ◌≡◌, ℕ, ◌≤◌, ◌==◌, true, List, [], ◌∷◌, ◌++◌, refl, ap, arith, length, map, nat_le, inl, ◌⊎◌, eqb-true, le-leb, nat_tests, map-append, Rows, Hubs, TableRows, AreOfLoad, are_up_to, is_up_to}
-use Rattle.dv_records.proofs.Vocabulary.{loads_of, row_count, rows_then, All-contains, all_pass_weaker, all_pass, all_pass_both, rules}
+use Rattle.dv_records.proofs.Vocabulary.{All-contains, AreOfLoad, Hubs, List, Rows, TableRows, [], all_pass, all_pass_both, all_pass_weaker, ap, are_up_to, arith, eqb-true, inl, is_up_to, le-leb, length, list_all, loads_of, map, map-append, nat_le, nat_tests, refl, row_count, rows_then, rules}
+use Rattle.dv_records.proofs.Vocabulary.{true, ℕ, ◌++◌, ◌==◌, ◌∷◌, ◌≡◌, ◌≤◌, ◌⊎◌}
 
 -- the load dates of rows with others behind them are those of both, or of the first alone
 loads-then : (rows more : Rows) → (loads_of (rows_then rows more) ≡ loads_of rows ++ loads_of more) ⊎ (loads_of (rows_then rows more) ≡ loads_of rows)

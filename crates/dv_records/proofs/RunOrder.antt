@@ -1,10 +1,7 @@
 -- The runs of a reference list begin at different dates.
-use Rattle.dv_records.proofs.Vocabulary.{Contains, ◌≡◌, ℕ, ◌<◌, inl, inr, Bool, true, false, List, [], ◌∷◌, Option, Some, None, refl, sym, ◌∙◌, ap, subst, arith, Contains-append_cases, Contains-cons_cases, Contains-cons_here, Contains-cons_there, Contains-nil, Key}
-use Rattle.dv_records.proofs.Vocabulary.{Extract, delivers}
-use Rattle.dv_text.specs.Stamps.{open_end}
-use Rattle.dv_records.specs.Runs.{Span, ended, ended_runs, open_run, run_begin, runs}
-use Rattle.dv_records.proofs.EffectTies.{begins_before}
-use Rattle.dv_records.proofs.Reversing.{AllBefore, IsNewestFirst}
+use Rattle.dv_records.proofs.Vocabulary.{Bool, Contains, Contains-append_cases, Contains-cons_cases, Contains-cons_here, Contains-cons_there, Contains-nil, Extract, Key, List, None, Option, Some, Span, [], ap, arith, delivers, ended, ended_runs, false, inl, inr, open_end, open_run, refl}
+use Rattle.dv_records.proofs.Vocabulary.{run_begin, runs, subst, sym, true, ℕ, ◌<◌, ◌∙◌, ◌∷◌, ◌≡◌}
+use Rattle.dv_records.proofs.{EffectTies.begins_before, Reversing.AllBefore, Reversing.IsNewestFirst}
 
 -- an extract ends the run that was open, if it doesn't hold the list
 ends_open : (load : ℕ) (was : Option ℕ) (now : Bool) (span : Span) → Contains (ended load was now) span → (was ≡ Some span.begin) × (now ≡ false) × (span.end ≡ load)

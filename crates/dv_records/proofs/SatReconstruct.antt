@@ -1,13 +1,7 @@
 -- The satellite rows of a feed say at each date which attributes a list had when it was last there.
-use Rattle.dv_records.proofs.Vocabulary.{option_map, Contains, find, ◌&&◌, nat_le, ◌≡◌, ℕ, List, [], Some, None, refl, sym, ◌∙◌, ap, reverse, ◌⊎◌, inl, inr, bytes_eq, Key, NRow, Window, Hashes, Sat, Mapping, source as source_of, SatRow}
-use Rattle.dv_records.proofs.Vocabulary.{Sats, appended, IsApart, Extract, all_refs, delivered_refs, history, lists_of, up_to, IsInLoadOrder, sat_rows, first_attrs, valid_at, HasOneRowEach, last_rows, sat_batch, IsSatBatch, IsOnePerList}
-use Rattle.dv_records.proofs.Vocabulary.{sat_cmp, table_after}
-use Rattle.dv_records.proofs.ChangedRows.{AreValid, only_attrs, valid_rows}
-use Rattle.dv_records.proofs.FeedSteps.{feed_rows}
-use Rattle.dv_records.proofs.LastChange.{IsOwn, apart-reversed}
-use Rattle.dv_records.proofs.Reversing.{IsNewestFirst, history-newest_first, history_member}
-use Rattle.dv_records.proofs.SatelliteTies.{sat_tied}
-use Rattle.dv_records.specs.Backwards.{backwards}
+use Rattle.dv_records.proofs.Vocabulary.{Contains, Extract, HasOneRowEach, Hashes, IsApart, IsInLoadOrder, IsOnePerList, IsSatBatch, Key, List, Mapping, NRow, None, Sat, SatRow, Sats, Some, Window, [], all_refs, ap, appended, backwards, bytes_eq, delivered_refs, find, first_attrs, history, inl}
+use Rattle.dv_records.proofs.Vocabulary.{inr, last_rows, lists_of, nat_le, option_map, refl, reverse, sat_batch, sat_cmp, sat_rows, source_of, sym, table_after, up_to, valid_at, ℕ, ◌&&◌, ◌∙◌, ◌≡◌, ◌⊎◌}
+use Rattle.dv_records.proofs.{ChangedRows.AreValid, ChangedRows.only_attrs, ChangedRows.valid_rows, FeedSteps.feed_rows, LastChange.IsOwn, LastChange.apart-reversed, Reversing.IsNewestFirst, Reversing.history-newest_first, Reversing.history_member, SatelliteTies.sat_tied}
 
 module _ (hashes : Hashes) (source : List ℕ) (refs : List Key) (date : ℕ) where
   -- the satellite row of an extract's row

@@ -1,8 +1,7 @@
 -- Satellite batches are the lists that meet their records.
-use Rattle.dv_records.proofs.Vocabulary.{Equal, nat_cmp-IsAntisymmetric, slice_cmp-IsAntisymmetric, Contains, ◌≡◌, ◌↔◌, ℕ, List, Some, sym, ◌∙◌, ap, NRow, both_tied}
-use Rattle.dv_records.proofs.Vocabulary.{Hashes, Contains-map, MultiRow, SatRow, IsApart, Extract, all_refs, multi_batch, multi_cmp, multi_row, sat_batch, sat_row, IsMultiBatch, IsSatBatch, IsOnePerList, IsOnePerSub, rules}
+use Rattle.dv_records.proofs.Vocabulary.{Contains, Contains-map, Equal, Extract, Hashes, IsApart, IsMultiBatch, IsOnePerList, IsOnePerSub, IsSatBatch, List, MultiRow, NRow, SatRow, Some, all_refs, ap, both_tied, multi_batch, multi_cmp, multi_row, multi_total, nat_cmp-IsAntisymmetric, rules}
+use Rattle.dv_records.proofs.Vocabulary.{sat_batch, sat_row, slice_cmp-IsAntisymmetric, sym, ℕ, ◌↔◌, ◌∙◌, ◌≡◌}
 use Rattle.dv_records.proofs.BatchTies.{tied, tied_by_digest}
-use Rattle.dv_records.specs.Ranks.{multi_total}
 
 module _ (hashes : Hashes) (source : List ℕ) (older : List Extract) (newest : Extract) where
   -- the row has the hash key of the extract row's list

@@ -1,14 +1,6 @@
 -- A new snapshot that is put in its place by date leaves the snapshots in order.
-use Rattle.dv_records.proofs.Vocabulary.{◌≡◌, ◌&&◌, ◌==◌, ◌<◌, ◌∙◌, ℕ, not, Bool, true, false, List, [], ◌∷◌, refl, sym, and_from, and_parts, eq-eqb, false≢true, list_all, list_any, Less, Ordering, nat_cmp, ranked, arith, not-true}
-use Rattle.std.proofs.lemmas.Bool.{le-leb, lt-leb, lt-ltb, ltb-true, or_parts}
-use Rattle.std.specs.List.{insert, position_or_len}
-use Rattle.std.specs.Prelude.{◌+◌, nat_le, nat_lt, suc}
-use Rattle.std.proofs.Common.{ap}
-use Rattle.std.specs.declared.cmp.Ordering.TheVariants.{Equal, Greater}
-use Rattle.dv_text.specs.Sorting.{insert_by}
-use Rattle.dv_records.specs.declared.snapshots.Snap.{Snap}
-use Rattle.dv_records.specs.declared.stores.Store.{Store}
-use Rattle.dv_records.specs.Stores.{are_apart, are_snap_tables_apart, are_snapshots_in_order, have_kinds, is_new_snapshot, is_well_formed, snap_cmp, with_snapshot}
+use Rattle.dv_records.proofs.Vocabulary.{Bool, Equal, Greater, Less, List, Ordering, Snap, Store, [], and_from, and_parts, ap, are_apart, are_snap_tables_apart, are_snapshots_in_order, arith, eq-eqb, false, false≢true, have_kinds, insert, insert_by, is_new_snapshot, is_well_formed, le-leb}
+use Rattle.dv_records.proofs.Vocabulary.{list_all, list_any, lt-leb, lt-ltb, ltb-true, nat_cmp, nat_le, nat_lt, not, not-true, or_parts, position_or_len, ranked, refl, snap_cmp, suc, sym, true, with_snapshot, ℕ, ◌&&◌, ◌+◌, ◌<◌, ◌==◌, ◌∙◌, ◌∷◌, ◌≡◌}
 
 module _ {X : Type 0} (R : X → X → Ordering) where
   -- a test that passes of it and of the others passes of all

@@ -1,12 +1,9 @@
 -- The status rows of a feed say at each date which reference lists its content delivers.
-use Rattle.dv_records.proofs.Vocabulary.{Contains, find, ◌&&◌, nat_le, ◌≡◌, ℕ, inl, inr, Bool, List, ◌∷◌, ◌++◌, Option, Some, None, refl, sym, ◌∙◌, ap, reverse, bytes_eq, Contains-append_cases, Contains-append_left, Contains-append_right}
-use Rattle.dv_records.proofs.Vocabulary.{Key, Window, Hashes, made_of, Status, Mapping, source as source_of, Code, StatusRow, Statuses, appended, IsApart, Extract, all_refs, content, delivered_refs, delivers, history, lists_of, newest_rows}
-use Rattle.dv_records.proofs.Vocabulary.{up_to, IsInLoadOrder, status_rows, is_appearance, present_at, says_present, code_between, code_of, status_batch, IsStatusBatch, table_after, arith, common_steps, nat_tests, rules}
-use Rattle.dv_records.proofs.FeedSteps.{feed_rows}
-use Rattle.dv_records.proofs.LastChange.{AreApart, Changes, IsOwn, IsStep, Tells, apart-older, apart-reversed, last_change}
-use Rattle.dv_records.proofs.Reversing.{IsNewestFirst, history-newest_first}
-use Rattle.dv_records.proofs.StatusTies.{status_stands, status_tied}
-use Rattle.dv_records.specs.Backwards.{backwards}
+use Rattle.dv_records.proofs.Vocabulary.{Bool, Code, Contains, Contains-append_cases, Contains-append_left, Contains-append_right, Extract, Hashes, IsApart, IsInLoadOrder, IsStatusBatch, Key, List, Mapping, None, Option, Some, Status, StatusRow, Statuses, Window, all_refs, ap, appended, arith}
+use Rattle.dv_records.proofs.Vocabulary.{backwards, bytes_eq, code_between, code_of, common_steps, content, delivered_refs, delivers, find, history, inl, inr, is_appearance, lists_of, made_of, nat_le, nat_tests, newest_rows, present_at, refl, reverse, rules, says_present, source_of, status_batch}
+use Rattle.dv_records.proofs.Vocabulary.{status_rows, sym, table_after, up_to, ℕ, ◌&&◌, ◌++◌, ◌∙◌, ◌∷◌, ◌≡◌}
+use Rattle.dv_records.proofs.{FeedSteps.feed_rows, LastChange.AreApart, LastChange.Changes, LastChange.IsOwn, LastChange.IsStep, LastChange.Tells, LastChange.apart-older, LastChange.apart-reversed, LastChange.last_change, Reversing.IsNewestFirst, Reversing.history-newest_first}
+use Rattle.dv_records.proofs.{StatusTies.status_stands, StatusTies.status_tied}
 
 -- those of the newest extract are among them
 pub newest_lists : (all : List Extract) (refs : List Key) → Contains (all_refs (newest_rows all)) refs → Contains (lists_of all) refs

@@ -1,8 +1,6 @@
 -- Status batches are the lists that meet their records.
-use Rattle.dv_records.proofs.Vocabulary.{Contains, ◌≡◌, ◌↔◌, ℕ, Bool, true, false, List, ◌++◌, Some, refl, Contains-append_left, Contains-append_right, Key, Hashes, StatusRow, IsApart, Extract, all_refs, delivers, newest_rows, code_of}
-use Rattle.dv_records.proofs.Vocabulary.{status_batch, status_row, IsStatusBatch}
-use Rattle.dv_records.proofs.BatchTies.{given, tied_by_digest, tied_whole}
-use Rattle.dv_records.proofs.Deciding.{Contains-all_refs}
+use Rattle.dv_records.proofs.Vocabulary.{Bool, Contains, Contains-append_left, Contains-append_right, Extract, Hashes, IsApart, IsStatusBatch, Key, List, Some, StatusRow, all_refs, code_of, delivers, false, newest_rows, refl, status_batch, status_row, true, ℕ, ◌++◌, ◌↔◌, ◌≡◌}
+use Rattle.dv_records.proofs.{BatchTies.given, BatchTies.tied_by_digest, BatchTies.tied_whole, Deciding.Contains-all_refs}
 
 module _ (hashes : Hashes) (source : List ℕ) (older : List Extract) (newest : Extract) where
   -- a list of the extract, or of the one before it, is among the two's lists

@@ -1,26 +1,9 @@
 -- A snapshot at a date that is not refused: what a store that stands for a state stands for with it, and that it is new there.
-use Rattle.dv_records.proofs.Vocabulary.{◌≡◌, ◌&&◌, ◌||◌, ◌+◌, ◌<◌, ◌≤◌, ◌==◌, ◌∙◌, ℕ, Bool, true, false, not, List, [], ◌∷◌, ◌++◌, Option, Some, None, Mapping, Hashes, Window, Ordering, Less, Equal, Greater, refl, sym, ap, arith, map, nat_le, nat_cmp, length, list_all, list_any, sum_by, zero, suc, range_with_len, ranked, sorted_by}
-use Rattle.dv_records.proofs.Vocabulary.{AllByRecursion, IsStrictlySortedBy, and_from, and_parts, ascending-sorted_by, common_steps, false≢true, if◌then◌else◌, le-leb, lt-ltb, nat_tests, not-true, sorted_by-sorted, sum_by-append, sum_by-cons, are_windows_valid, ascends, or_none, nat_lt}
-use Rattle.std.proofs.lemmas.List.Folds.{list_any-append}
-use Rattle.std.specs.Cmp.{nat_cmp_total}
-use Rattle.dv_text.proofs.Passing.{list_any-map}
-use Rattle.dv_text.proofs.SortedLists.{length-sorted_by}
-use Rattle.dv_text.specs.Sorting.{insert_by}
-use Rattle.dv_catalog.specs.FirstOf.{first_of}
-use Rattle.dv_records.proofs.SnapshotOrder.{all-insert}
-use Rattle.dv_records.proofs.WindowRows.{in_order}
-use Rattle.dv_records.specs.declared.snapshots.Snap.{Snap}
-use Rattle.dv_records.specs.declared.snapshots.SnapId.{SnapId}
-use Rattle.dv_records.specs.declared.snapshots.SnapId.TheVariants.{Pit, Bridge}
-use Rattle.dv_records.specs.declared.snapshots.SnapTable.{SnapTable}
-use Rattle.dv_records.specs.declared.stores.Rows.TheVariants.{Pits, Bridges}
-use Rattle.dv_records.specs.declared.stores.Store.{Store}
-use Rattle.dv_records.specs.Limits.{most_snapshot_weight, most_snapshots}
-use Rattle.dv_records.specs.Snapshots.{bridge, pit, snapshot}
-use Rattle.dv_records.specs.Standing.{Stands, TablesStand}
-use Rattle.dv_records.specs.States.{State, all_windows, are_dates_valid, are_not_later, is_valid_state, last_load, snapshots_weight}
-use Rattle.dv_records.specs.Steps.{full_with, future, later_than, snapshot_refusal, snapshots_full, taken, too_large, with_date}
-use Rattle.dv_records.specs.Stores.{are_snap_tables_apart, is_new_snapshot, snap_cmp, snap_id_eq, with_snapshot}
+use Rattle.dv_records.proofs.Vocabulary.{AllByRecursion, Bool, Bridge, Bridges, Equal, Greater, Hashes, IsStrictlySortedBy, Less, List, Mapping, None, Option, Ordering, Pit, Pits, Snap, SnapId, SnapTable, Some, Stands, State, Store, TablesStand, Window, [], all_windows, and_from, and_parts, ap}
+use Rattle.dv_records.proofs.Vocabulary.{are_dates_valid, are_not_later, are_snap_tables_apart, are_windows_valid, arith, ascending-sorted_by, ascends, bridge, common_steps, false, false≢true, full_with, future, if◌then◌else◌, insert_by, is_new_snapshot, is_valid_state, last_load, later_than}
+use Rattle.dv_records.proofs.Vocabulary.{le-leb, length, length-sorted_by, list_all, list_any, list_any-append, list_any-map, lt-ltb, map, most_snapshot_weight, most_snapshots, nat_cmp, nat_cmp_total, nat_le, nat_lt, nat_tests, not, or_none, pit, range_with_len, ranked, refl, rules, snap_cmp}
+use Rattle.dv_records.proofs.Vocabulary.{snap_id_eq, snapshot, snapshot_refusal, snapshots_full, snapshots_weight, sorted_by, sorted_by-sorted, suc, sum_by, sum_by-append, sum_by-cons, sym, taken, true, with_date, with_snapshot, zero, ℕ, ◌++◌, ◌+◌, ◌<◌, ◌==◌, ◌||◌, ◌∙◌, ◌∷◌, ◌≡◌, ◌≤◌}
+use Rattle.dv_records.proofs.{SnapshotOrder.all-insert, WindowRows.in_order}
 
 -- ---- what is put among others
 
@@ -67,12 +50,7 @@ pub record IsFree (mapping : Mapping) (hashes : Hashes) (state : State) (date : 
   pub not_full : snapshots_full mapping hashes state date ≡ None
 
 pub is_free : (mapping : Mapping) (hashes : Hashes) (state : State) (date : ℕ) → snapshot_refusal mapping hashes state date ≡ None → IsFree mapping hashes state date
-is_free mapping hashes state date none =
-    let (a, rest) = or_none (future state date) (first_of (taken state date ∷ too_large mapping state date ∷ snapshots_full mapping hashes state date ∷ [])) none in
-    let (b, more) = or_none (taken state date) (first_of (too_large mapping state date ∷ snapshots_full mapping hashes state date ∷ [])) rest in
-    let (c, last) = or_none (too_large mapping state date) (first_of (snapshots_full mapping hashes state date ∷ [])) more in
-    let (d, end) = or_none (snapshots_full mapping hashes state date) None last in
-    record { not_future = a; not_taken = b; not_full = d }
+is_free mapping hashes state date none = search (rules, or_none)
 
 -- tests that answer nothing have failed
 pub if_none : {X : Type 0} (b : Bool) (x : X) → (if b then Some x else None) ≡ None → b ≡ false

@@ -1,10 +1,9 @@
 -- What valid windows keep to: they are in load order, no two keys of a hub and no two lists of a link have one hash key,
 -- and each is a window of the definition.
-use Rattle.dv_records.proofs.Vocabulary.{list_all, range_with_len, Contains, is_none, slice_get, ◌≡◌, ℕ, ◌<◌, true, List, Some, None, sym, ◌∙◌, ap, length, map, and_parts, All-contains, Contains-append_right, none-some, Window, Hashes}
-use Rattle.dv_records.proofs.Vocabulary.{Contains-map, Contains-range, none_from, passes_at, Parent, Hub, Link, Mapping, IsApart, collision, collision_in, hashed_refs, parents, Extract, extract_of, IsInLoadOrder, are_windows_valid, ascends}
-use Rattle.dv_records.proofs.Vocabulary.{is_window, arith, common_steps, rules, [], ◌∷◌, refl, reverse, Contains-cons_here, filter_map_member, reverse_member, history}
-use Rattle.dv_records.proofs.CollisionTies.{collision_free, none_collide}
-use Rattle.dv_records.proofs.WindowRows.{in_order, staged_at, staged_rows}
+use Rattle.dv_records.proofs.Vocabulary.{All-contains, Contains, Contains-append_right, Contains-cons_here, Contains-map, Contains-range, Extract, Hashes, Hub, IsApart, IsInLoadOrder, Link, List, Mapping, None, Parent, Some, Window, [], and_parts, ap, are_windows_valid, arith, ascends, collision}
+use Rattle.dv_records.proofs.Vocabulary.{collision_in, common_steps, extract_of, filter_map_member, hashed_refs, history, is_none, is_window, length, list_all, map, none-some, none_from, parents, passes_at, range_with_len, refl, reverse, reverse_member, rules, slice_get, sym, true, ℕ, ◌<◌, ◌∙◌}
+use Rattle.dv_records.proofs.Vocabulary.{◌∷◌, ◌≡◌}
+use Rattle.dv_records.proofs.{CollisionTies.collision_free, CollisionTies.none_collide, WindowRows.in_order, WindowRows.staged_at, WindowRows.staged_rows}
 
 is_parent_hub : (mapping : Mapping) (hub : ℕ) → hub < length mapping.hubs → Contains (parents mapping) (Hub hub)
 is_parent_hub mapping hub under = grind (arith, common_steps, Contains-range (length mapping.hubs) hub under)

@@ -1,13 +1,10 @@
 -- The rows of a table in the vault, and which tables a mapping has.
-use Rattle.dv_records.proofs.Vocabulary.{range_with_len, Contains, slice_get, ◌≡◌, ℕ, zero, suc, ◌+◌, ◌<◌, ◌==◌, Bool, true, false, List, [], ◌∷◌, ◌++◌, Some, None, refl, ap, subst, arith, length, map, reverse, false≢true}
-use Rattle.dv_records.proofs.Vocabulary.{Contains-append_left, Contains-append_right, Window, Hashes, Contains-range, Contains-cons_cases, Contains-cons_here, Contains-cons_there, Contains-map, Contains-nil, FeedDef, TableId, Sat, Multi}
-use Rattle.dv_records.proofs.Vocabulary.{Status, Mapping, source, effect_tables, feed_tables, sat_tables, tables, appended, hub_batch, link_batch, hub_rows, hub_rows_in, link_rows, link_rows_in, multi_rows, multi_rows_in, sat_rows}
-use Rattle.dv_records.proofs.Vocabulary.{sat_rows_in, status_rows, status_rows_in, multi_batch, sat_batch, status_batch, no_rows, rows_in, table_eq, HoldsTable, feed_batch, table_after, table_entry, vault, rules}
-use Rattle.dv_catalog.specs.declared.tables.TableId.TheVariants.{Hub, Link, Effect}
+use Rattle.dv_records.proofs.Vocabulary.{Backwards, Bool, Contains, Contains-append_left, Contains-append_right, Contains-cons_cases, Contains-cons_here, Contains-cons_there, Contains-map, Contains-nil, Contains-range, Effect, FeedDef, Hashes, HoldsTable, List, Mapping, Multi, None, Sat, Some}
+use Rattle.dv_records.proofs.Vocabulary.{Status, TableId, Window, [], ap, appended, arith, backwards, effect_batch, effect_rows, effect_rows_in, effect_tables, false, false≢true, feed_batch, feed_tables, hub_batch, hub_rows, hub_rows_in, length, link_batch, link_rows, link_rows_in, map}
+use Rattle.dv_records.proofs.Vocabulary.{multi_batch, multi_rows, multi_rows_in, no_rows, range_with_len, refl, reverse, rows_in, rules, sat_batch, sat_rows, sat_rows_in, sat_tables, slice_get, source, status_batch, status_rows, status_rows_in, subst, suc, table_after, table_entry, table_eq}
+use Rattle.dv_records.proofs.Vocabulary.{tables, true, vault, zero, ℕ, ◌++◌, ◌+◌, ◌<◌, ◌==◌, ◌∷◌, ◌≡◌}
+use Rattle.dv_catalog.specs.declared.tables.TableId.TheVariants.{Hub, Link}
 use Rattle.dv_records.proofs.WellFormedTables.{same_table, table_eq-itself}
-use Rattle.dv_records.specs.Backwards.{Backwards, backwards}
-use Rattle.dv_records.specs.Effects.{effect_batch}
-use Rattle.dv_records.specs.ReadBack.{effect_rows, effect_rows_in}
 
 -- ---- entries
 

@@ -1,8 +1,7 @@
 -- What a window more adds to the vault.
-use Rattle.dv_records.proofs.Vocabulary.{sum_by, ◌≡◌, ℕ, ◌+◌, true, List, [], ◌∷◌, ◌++◌, refl, ap, ◌∙◌, arith, map, reverse-append, sum_by-cons, Window, Hashes, TableId, Mapping, tables, Rows, AddsUp, are_of_one_kind, rows_then}
-use Rattle.dv_records.proofs.Vocabulary.{table_after, table_batch, table_entry, vault, rows_weight, vault_weight, common_steps, nat_tests}
+use Rattle.dv_records.proofs.Vocabulary.{AddsUp, Backwards, Hashes, List, Mapping, Rows, TableId, Window, [], ap, are_of_one_kind, arith, backwards, common_steps, map, nat_tests, refl, reverse-append, rows_then, rows_weight, sum_by, sum_by-cons, table_after, table_batch, table_entry, tables}
+use Rattle.dv_records.proofs.Vocabulary.{true, vault, vault_weight, with_newest, ℕ, ◌++◌, ◌+◌, ◌∙◌, ◌∷◌, ◌≡◌}
 use Rattle.dv_catalog.specs.declared.tables.TableId.TheVariants.{Hub}
-use Rattle.dv_records.specs.Backwards.{Backwards, backwards, with_newest}
 
 -- a table after one window more is the table before it, followed by the window's batch
 pub table_after-newest : (mapping : Mapping) (hashes : Hashes) (older : Backwards) (newest : Window) (table : TableId)

@@ -1,6 +1,6 @@
 -- Rows of a table's kind that are put at its end leave the tables well formed.
-use Rattle.dv_records.proofs.Vocabulary.{list_any, eq-eqb, ◌≡◌, ◌&&◌, not, Bool, true, false, List, [], ◌∷◌, refl, ◌∙◌, and_from, and_parts, eqb-true, TableId, Rows, TableRows, appended_to, are_apart, has_kind, have_kinds, is_of_kind}
-use Rattle.dv_records.proofs.Vocabulary.{rows_in, rows_then, table_eq, arith, nat_tests, rules, common_steps}
+use Rattle.dv_records.proofs.Vocabulary.{Bool, List, Rows, TableId, TableRows, [], and_from, and_parts, appended_to, are_apart, arith, common_steps, eq-eqb, eqb-true, false, has_kind, have_kinds, is_of_kind, list_any, nat_tests, not, refl, rows_in, rows_then, rules, table_eq, true, ◌&&◌, ◌∙◌}
+use Rattle.dv_records.proofs.Vocabulary.{◌∷◌, ◌≡◌}
 use Rattle.dv_catalog.specs.declared.tables.TableId.TheVariants.{Hub}
 
 pub same_table : (a b : TableId) → table_eq a b ≡ true → a ≡ b

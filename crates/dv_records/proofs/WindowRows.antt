@@ -1,9 +1,8 @@
 -- What holds of a window of the definition: of its extracts, their rows, references, keys and texts.
-use Rattle.dv_records.proofs.Vocabulary.{Less, nat_cmp_is, pointwise, list_all, IsStrictlySortedBy, nat_cmp, Contains, slice_get, sum_by, Bool, ◌≤◌, ◌≡◌, ℕ, ◌<◌, ◌==◌, ◌||◌, true, false, List, [], ◌∷◌, Some, refl, sym, ◌∙◌, ap, subst}
-use Rattle.dv_records.proofs.Vocabulary.{length, map, nat_le, nat_lt, eq-eqb, ltb-true, eqb-true, and_parts, false≢true, not-true, lt-ltb, le-leb, slice_eq-Decides, Key, NRow, Staged, Window, row_eq, texts_eq, is_missing, norm_field}
-use Rattle.dv_records.proofs.Vocabulary.{norm_key, row_cmp, sorted_by, refs_eq-Decides, texts_eq-Decides, row_total, row_eq-Decides, made_of, one_value, passes_at, found_member, all_pass, ascending-sorted_by, sorted_by-sorted, FeedDef}
-use Rattle.dv_records.proofs.Vocabulary.{Mapping, parent_hubs, parts_of, Extract, extract_of, most_field_bytes, most_records, most_window_records, are_rows_of, ascends, fit_hubs, holds_of_each_two, is_field, is_keyed, is_one_partner}
-use Rattle.dv_records.proofs.Vocabulary.{is_one_row, is_row_of, is_staged, is_window, fits_hub, is_key_part, all_members, are_rivals, rules, arith, common_steps, nat_tests}
+use Rattle.dv_records.proofs.Vocabulary.{Bool, Contains, Extract, FeedDef, IsStrictlySortedBy, Key, Less, List, Mapping, NRow, Some, Staged, Window, [], all_members, all_pass, and_parts, ap, are_rivals, are_rows_of, arith, ascending-sorted_by, ascends, common_steps, eq-eqb, eqb-true, extract_of}
+use Rattle.dv_records.proofs.Vocabulary.{false, false≢true, fit_hubs, fits_hub, found_member, holds_of_each_two, is_field, is_key_part, is_keyed, is_missing, is_one_partner, is_one_row, is_row_of, is_staged, is_window, le-leb, length, list_all, lt-ltb, ltb-true, made_of, map, most_field_bytes}
+use Rattle.dv_records.proofs.Vocabulary.{most_records, most_window_records, nat_cmp, nat_cmp_is, nat_le, nat_lt, nat_tests, norm_field, norm_key, not-true, one_value, parent_hubs, parts_of, passes_at, pointwise, refl, refs_eq-Decides, row_cmp, row_eq, row_eq-Decides, row_total, rules}
+use Rattle.dv_records.proofs.Vocabulary.{slice_eq-Decides, slice_get, sorted_by, sorted_by-sorted, subst, sum_by, sym, texts_eq, texts_eq-Decides, true, ℕ, ◌<◌, ◌==◌, ◌||◌, ◌∙◌, ◌∷◌, ◌≡◌, ◌≤◌}
 
 -- ---- load order
 

@@ -1,22 +1,13 @@
 -- Where sealed windows and an open one do not collide, no table of the vault has a clash, whichever first tables have the open
 -- one's batch.
-use Rattle.dv_vault.proofs.Vocabulary.{◌≡◌, ℕ, zero, suc, ◌+◌, ◌<◌, ◌≤◌, ◌==◌, inl, inr, Bool, true, false, List, [], ◌∷◌, ◌++◌, None, refl, sym, ◌∙◌, ap, subst, arith, drop, eqb-true, length, list_all, lt-ltb, ltb-true, map, nat_lt, nat_tests, range_with_len, reverse, reverse-append, reverse-reverse, take}
-use Rattle.dv_vault.proofs.Vocabulary.{All-append, All-contains, Contains, Contains-append_cases, Contains-append_left, Contains-append_right, append_assoc, length-map, length-range_with_len, take-append-drop, Contains-cons_cases, Contains-cons_here, Contains-cons_there, Contains-nil, HasNoClash, Hashes, HubName, TellLists, map_member, none_collide, some_passes, some_passes_at}
-use Rattle.dv_vault.proofs.Vocabulary.{Mapping, Parent, Hub, Link, TableId, TableRows, Window, Key, appended, are_windows_valid, collision_in, collision_free, feed_tables, hub_apart, hub_batch, hub_names, hub_rows, hub_rows_in, is_valid, is_window, key_named, key_with, parents, rows_in, table_after, table_entry, table_of, tables}
-use Rattle.dv_catalog.specs.declared.tables.TableId.TheVariants as ids
-use Rattle.dv_records.specs.Backwards.{Backwards, backwards, with_newest}
-use Rattle.dv_records.specs.Deliveries.{is_known, is_offered}
-use Rattle.dv_records.specs.Vault.{partial}
-use Rattle.dv_records.specs.declared.stores.Rows.{Rows}
-use Rattle.dv_store_rules.proofs.FewerWindows.{fewer_valid, parts_of_valid}
-use Rattle.dv_vault.proofs.FeedLists.{reversed_whole}
-use Rattle.dv_vault.proofs.FeedTables.{of_feeds}
-use Rattle.dv_vault.proofs.NamedHubs.{names_told}
-use Rattle.dv_vault.proofs.Stamped.{all_from_members}
-use Rattle.dv_vault.proofs.VaultCollisions.{parents_first, turned_back}
-use Rattle.dv_restore.specs.Begins.{compared_in}
+use Rattle.dv_restore.proofs.Vocabulary.{All, All-append, All-contains, Backwards, Bool, Contains, Contains-append_cases, Contains-append_left, Contains-append_right, Contains-cons_cases, Contains-cons_here, Contains-cons_there, Contains-nil, HasNoClash, Hashes, Hub, HubName, Key, Link, List}
+use Rattle.dv_restore.proofs.Vocabulary.{Mapping, None, Parent, Rows, TableId, TableRows, TellLists, Window, [], all_from_members, ap, append_assoc, appended, are_windows_valid, arith, backwards, collision_free, collision_in, compared_in, drop, eqb-true, false, feed_tables, fewer_valid}
+use Rattle.dv_restore.proofs.Vocabulary.{hub_apart, hub_batch, hub_names, hub_rows, hub_rows_in, if◌then◌else◌, inl, inr, is_known, is_offered, is_valid, is_window, key_named, length, length-map, length-range_with_len, list_all, lt-ltb, ltb-true, map, map_member, names_told, nat_lt, nat_tests}
+use Rattle.dv_restore.proofs.Vocabulary.{none_collide, of_feeds, parents, parents_first, partial, parts_of_valid, range_with_len, refl, reverse, reverse-append, reverse-reverse, reversed_whole, rows_in, some_passes, some_passes_at, subst, suc, sym, table_after, table_entry, table_of, tables}
+use Rattle.dv_restore.proofs.Vocabulary.{take, take-append-drop, true, turned_back, with_newest, zero, ℕ, ◌++◌, ◌+◌, ◌<◌, ◌==◌, ◌∙◌, ◌∷◌, ◌≡◌, ◌≤◌}
+use Rattle.dv_hub_link.specs.LinkDeltas.{key_with}
 use Rattle.dv_restore.proofs.KnownLists.{hub_clear, link_clear, single_clear}
-use Rattle.std.specs.Prelude.{All, if◌then◌else◌}
+use Rattle.dv_catalog.specs.declared.tables.TableId.TheVariants as ids
 
 not_same : (a b : ℕ) → a ≤ b → (a == b) ≡ false → a < b
 not_same a b le e = grind (arith, nat_tests, le, e)

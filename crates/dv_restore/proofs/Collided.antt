@@ -1,11 +1,7 @@
 -- A window that makes a collision in a vault has no place there.
-use Rattle.dv_vault.proofs.Vocabulary.{All-contains, Bool, Contains, Contains-cons_there, HasNoClash, Hashes, Key, List, RawVault, TableId, TableRows, Window, None, Option, Some, false, false≢true, hashed_in, hub_names, refl, subst, sym, true, ◌∙◌, ◌≡◌}
-use Rattle.std.specs.Prelude.{◌↔◌}
-use Rattle.dv_records.specs.Deltas.{hashed_by, missing_in}
-use Rattle.dv_store_rules.proofs.Splits.{item_in}
-use Rattle.dv_vault.specs.Additions.{ClashesAt}
+use Rattle.dv_restore.proofs.Vocabulary.{All-contains, AreAllApart, Bool, ClashesAt, Contains, Contains-cons_there, HasNoClash, Hashes, Key, List, None, Option, RawVault, Some, TableId, TableRows, Window, compared_in, false, false≢true, hashed_by, hashed_in, hub_names, item_in, missing_in, refl}
+use Rattle.dv_restore.proofs.Vocabulary.{subst, sym, true, ◌↔◌, ◌∙◌, ◌≡◌}
 use Rattle.dv_vault.specs.declared.additions.AdditionFault.TheVariants as fault
-use Rattle.dv_restore.specs.Begins.{AreAllApart, compared_in}
 
 pub no_place : (hashes : Hashes) (raw : RawVault) (window : Window) (table : TableId) (first second : List Key) → ClashesAt raw.mapping hashes (hub_names raw.mapping raw.tables) window raw.tables (fault.Collision table first second) → AreAllApart hashes raw window → ⊥
 no_place hashes raw window table first second clash apart =

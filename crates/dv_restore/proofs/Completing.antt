@@ -1,16 +1,9 @@
 -- The kinds of rows of tables, and of what a window adds to them.
-use Rattle.dv_vault.proofs.Vocabulary.{Hashes, List, Mapping, None, Option, Rows, Some, TableId, Window, [], and_from, ap, drop, extract_added, is_of_kind, map, refl, row_count, rows_then, sym, true, ℕ, ◌∙◌, ◌∷◌, ◌≡◌}
+use Rattle.dv_restore.proofs.Vocabulary.{Bool, Bridges, Effects, Extract, Hashes, Hubs, Links, List, Mapping, Multis, NRow, None, Option, Pits, Rows, Sats, Some, Statuses, Table, TableId, Window, [], added, and_from, ap, drop, entry_of, extract_added, is_of_kind, kind_of, map, refl, row_count}
+use Rattle.dv_restore.proofs.Vocabulary.{rows_loaded, rows_then, rules, sym, true, ℕ, ◌∙◌, ◌∷◌, ◌≡◌}
+use Rattle.dv_restore.proofs.{RowLoads.are_of_kinds, RowHalves.drop_exactly}
 use Rattle.dv_catalog.specs.declared.tables.TableId.TheVariants as ids
-use Rattle.dv_vault.proofs.Vocabulary.{Bool, Extract, NRow}
-use Rattle.dv_records.specs.declared.stores.Rows.TheVariants.{Hubs, Links, Sats, Multis, Statuses, Effects, Pits, Bridges}
-use Rattle.dv_vault.specs.declared.tables.Table.{Table}
 use Rattle.dv_vault.specs.declared.tables.Table.TheVariants as table
-use Rattle.dv_vault.specs.Vaults.{added, entry_of}
-use Rattle.dv_restore.specs.Sealed.{rows_loaded}
-use Rattle.dv_restore.proofs.RowLoads.{are_of_kinds}
-use Rattle.dv_restore.proofs.RowHalves.{drop_exactly}
-use Rattle.std.proofs.Common.{rules}
-use Rattle.dv_vault.proofs.VaultFacts.{kind_of}
 
 -- ---- kinds
 

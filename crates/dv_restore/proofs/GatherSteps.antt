@@ -1,22 +1,9 @@
 -- One raw table more that is gathered, behind those before it in table order.
-use Rattle.std.proofs.Common.{rules}
-use Rattle.dv_store_rules.proofs.Vocabulary.{suc, ◌≡◌, ◌∙◌, ℕ, ◌+◌, ◌<◌, false, true, List, [], ◌∷◌, ◌++◌, Option, Some, None, refl, sym, ap, subst, append-nil, get_or, length, take, drop, take_more, list_any, option_map, sum_by_push, tables, table_name, flaw_in}
-use Rattle.dv_store_rules.proofs.Vocabulary.{rows_in, rows_weight, table_eq, tables_weight, IsKnown, Known, Hubs, Links, Store, TableId, TableRows, Told, take-append-drop}
-use Rattle.std.proofs.Common.{add-one, drop-cons}
-use Rattle.dv_store_rules.proofs.KnownSteps.{feed_known, hub_known, link_known}
-use Rattle.dv_store_rules.specs.Damages.{damage_at}
-use Rattle.dv_store_rules.specs.declared.known.Known.{Known as KnownTables}
-use Rattle.dv_store_rules.specs.KnownTables.{is_of_feed}
-use Rattle.dv_catalog.specs.declared.tables.TableId.TheVariants.{Hub as HubId, Link as LinkId}
-use Rattle.dv_records.specs.declared.answers.Damage.{Damage}
-use Rattle.dv_vault.specs.declared.tables.Table.{Table}
+use Rattle.dv_restore.proofs.Vocabulary.{AreGathered, AreRead, Damage, Gathered, HasPut, HubId, Hubs, IsKnown, IsKnownBy, IsPut, IsRawDamage, Known, KnownTables, LinkId, Links, List, None, Option, Some, Store, Table, TableId, TableRows, TellsKnown, Told, [], add-one, ap, append-nil, damage_at}
+use Rattle.dv_restore.proofs.Vocabulary.{drop, drop-cons, entries_in, entry_of, false, feed_known, flaw_in, get_or, hub_known, is_of_feed, length, link_known, list_any, option_map, refl, rows_in, rows_weight, rules, subst, suc, sum_by_push, sym, table_eq, table_name, tables, tables_weight, take}
+use Rattle.dv_restore.proofs.Vocabulary.{take-append-drop, take_more, true, ℕ, ◌++◌, ◌+◌, ◌<◌, ◌∙◌, ◌∷◌, ◌≡◌}
+use Rattle.dv_restore.proofs.{GatheredEntries.IsNext, GatheredEntries.entries_put, ReadSteps.more_read, ReadSteps.read_damaged, TablePlaces.IsPlaced, TablePlaces.counted_put, TablePlaces.next_of, TablePlaces.none_before, TablePlaces.placed}
 use Rattle.dv_vault.specs.declared.tables.Table.TheVariants as table
-use Rattle.dv_vault.specs.Vaults.{entry_of}
-use Rattle.dv_restore.specs.declared.gathered.Gathered.{Gathered}
-use Rattle.dv_restore.specs.Readings.{AreGathered, HasPut, IsKnownBy, IsPut, IsRawDamage, TellsKnown, entries_in, AreRead}
-use Rattle.dv_restore.proofs.GatheredEntries.{IsNext, entries_put}
-use Rattle.dv_restore.proofs.ReadSteps.{more_read, read_damaged}
-use Rattle.dv_restore.proofs.TablePlaces.{IsPlaced, counted_put, next_of, none_before, placed}
 
 -- ---- what is known
 

@@ -1,13 +1,7 @@
 -- The entries of tables that are gathered, with one table more.
-use Rattle.dv_store_rules.proofs.Vocabulary.{◌≡◌, ◌∙◌, ℕ, ◌+◌, suc, List, [], ◌∷◌, ◌++◌, sym, ap, arith, append-nil, append_assoc, length, map, map-append, Indexed, HubRow, LinkRow, Hubs, Links, TableId, TableRows}
-use Rattle.std.proofs.Common.{zero-add}
-use Rattle.dv_catalog.proofs.Vocabulary.{nil_from_length}
-use Rattle.dv_catalog.specs.declared.tables.TableId.TheVariants.{Hub as HubId, Link as LinkId, Sat, Multi, Status, Effect}
-use Rattle.dv_vault.specs.declared.tables.Table.{Table}
+use Rattle.dv_restore.proofs.Vocabulary.{Effect, Gathered, HasPut, HubId, HubRow, Hubs, Indexed, IsPut, LinkId, LinkRow, Links, List, Multi, Sat, Status, Table, TableId, TableRows, [], ap, append-nil, append_assoc, arith, entries_in, entry_of, hub_entries, length, link_entries, map, map-append}
+use Rattle.dv_restore.proofs.Vocabulary.{nil_from_length, suc, sym, zero-add, ℕ, ◌++◌, ◌+◌, ◌∙◌, ◌∷◌, ◌≡◌}
 use Rattle.dv_vault.specs.declared.tables.Table.TheVariants as table
-use Rattle.dv_vault.specs.Vaults.{entry_of}
-use Rattle.dv_restore.specs.declared.gathered.Gathered.{Gathered}
-use Rattle.dv_restore.specs.Readings.{HasPut, IsPut, entries_in, hub_entries, link_entries}
 
 -- ---- one table more behind those of its kind
 

@@ -1,17 +1,8 @@
 -- What holds of the heads of sealed windows that break no rule: none is later than the last one, and their feeds are in the
 -- mapping.
-use Rattle.std.proofs.Common.{rules}
-use Rattle.dv_store_rules.proofs.Vocabulary.{Bool, List, None, Option, Some, [], and_from, and_parts, ap, append-nil, append_assoc, arith, eqb-true, first_along, flaw_behind, inl, inr, length, list_all, ltb-true, map, map-append, nat_lt, none_before_map, option_map, or_none, refl, slice_get, subst, sym, true, ℕ}
-use Rattle.dv_store_rules.proofs.Vocabulary.{Mapping, get_or, is_loaded, last_or, slice_get-get_or, ◌&&◌, ◌++◌, ◌-◌, ◌==◌, ◌∙◌, ◌∷◌, ◌≡◌, ◌≤◌, ◌<◌, ◌⊎◌, false≢true, false}
-use Rattle.std.specs.Prelude.{◌||◌}
-use Rattle.dv_text.specs.declared.rows.WindowHead.{WindowHead}
-use Rattle.dv_catalog.specs.FirstOf.{first_along}
-use Rattle.std.proofs.lemmas.List.Folds.{list_any-append}
-use Rattle.dv_store_rules.proofs.LastRows.{last_is, last_map}
-use Rattle.dv_store_rules.proofs.RuleParts.{held}
-use Rattle.dv_store_rules.specs.StoredHeads.{are_feeds, head_flaw, head_rule, is_head, is_later, last_sealed}
-use Rattle.dv_records.specs.Limits.{most_windows}
-use Rattle.dv_records.specs.States.{ascends}
+use Rattle.dv_restore.proofs.Vocabulary.{Bool, List, Mapping, None, Option, Some, WindowHead, [], and_from, and_parts, ap, append-nil, append_assoc, are_feeds, arith, ascends, eqb-true, false, false≢true, first_along, flaw_behind, get_or, head_flaw, head_rule, held, inl, inr, is_head, is_later}
+use Rattle.dv_restore.proofs.Vocabulary.{is_loaded, last_is, last_map, last_or, last_sealed, length, list_all, list_any-append, ltb-true, map, map-append, most_windows, nat_lt, none_before_map, option_map, or_none, refl, rules, slice_get, slice_get-get_or, subst, sym, true, ℕ, ◌&&◌, ◌++◌, ◌-◌}
+use Rattle.dv_restore.proofs.Vocabulary.{◌<◌, ◌==◌, ◌||◌, ◌∙◌, ◌∷◌, ◌≡◌, ◌≤◌, ◌⊎◌}
 
 pub some_of : (a b : Bool) → (a || b) ≡ true → (a ≡ true) ⊎ (b ≡ true)
 some_of a b e = search rules

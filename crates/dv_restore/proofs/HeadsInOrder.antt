@@ -1,14 +1,7 @@
 -- The load dates of sealed windows ascend where their heads break no rule, and with one more that is later than the last.
-use Rattle.dv_store_rules.proofs.Vocabulary.{List, None, [], ap, append-nil, append_assoc, flaw_behind, map, map-append, none_before_map, or_none, refl, subst, sym, true, ℕ, Mapping, ascends, ◌++◌, ◌∙◌, ◌∷◌, ◌≡◌}
-use Rattle.dv_text.specs.declared.rows.WindowHead.{WindowHead}
-use Rattle.dv_catalog.specs.FirstOf.{first_along}
-use Rattle.dv_records.specs.Outcomes.{late_after}
-use Rattle.dv_store_rules.specs.StoredHeads.{head_flaw, head_rule, last_sealed}
-use Rattle.dv_vault.specs.Vaults.{last_head}
-use Rattle.dv_vault.proofs.Afterwards.{loads_ascend}
-use Rattle.dv_restore.specs.Restored.{are_in_order}
-use Rattle.dv_restore.proofs.HeadsHeld.{head_holds, last_sealed_is}
-use Rattle.dv_restore.proofs.KeptTables.{not_late}
+use Rattle.dv_restore.proofs.Vocabulary.{List, Mapping, None, WindowHead, [], ap, append-nil, append_assoc, are_in_order, ascends, first_along, flaw_behind, head_flaw, head_rule, last_head, last_sealed, late_after, loads_ascend, map, map-append, none_before_map, or_none, refl, subst, sym, true}
+use Rattle.dv_restore.proofs.Vocabulary.{ℕ, ◌++◌, ◌∙◌, ◌∷◌, ◌≡◌}
+use Rattle.dv_restore.proofs.{HeadsHeld.head_holds, HeadsHeld.last_sealed_is, KeptTables.not_late}
 
 -- their load dates, and one that is later than the last
 pub later_ascends : (heads : List WindowHead) (load : ℕ) → are_in_order heads ≡ true → late_after (last_head heads) load ≡ None → ascends (map (λ head. head.load) heads ++ load ∷ []) ≡ true

@@ -1,25 +1,11 @@
 -- What a window adds to tables of which some have its batch already: nothing to these, and to the others their batch.
-use Rattle.dv_vault.proofs.Vocabulary.{◌≡◌, ℕ, ◌+◌, ◌==◌, Bool, true, false, List, [], ◌∷◌, ◌++◌, Option, Some, None, refl, ◌∙◌, ap, subst, arith, append-nil, all_refs, appended, drop, inl, inr, list_any, map, reverse, slice_get, suc, take, zero, if◌then◌else◌}
-use Rattle.dv_vault.proofs.Vocabulary.{Contains, Contains-append_cases, Contains-append_right, Contains-cons_here, Contains-cons_there, eq-eqb, map_member, some_passes_at, TellLists}
-use Rattle.dv_vault.proofs.Vocabulary.{Hashes, Mapping, FeedDef, Parent, Hub, Link, TableId, Rows, Hubs, Links, Sats, Statuses, NRow, Window, Extract, are_windows_valid, collision, extract_of, extract_added, feed_batch, feed_tables, history, is_valid, is_window, last_load, late_after, hub_names, parents, sat_batch, source, status_batch, table_batch, table_entry, table_of, tables, vault}
-use Rattle.dv_vault.proofs.Vocabulary.{added_to, appended-history, none_like, parts_at, rest_in, window_batches, reverse-append}
-use Rattle.dv_catalog.specs.declared.tables.TableId.TheVariants as ids
-use Rattle.dv_records.specs.declared.stores.Rows.TheVariants.{Effects, Multis}
-use Rattle.dv_hub_link.proofs.HubWindows.{held_delta as hub_held}
-use Rattle.dv_hub_link.proofs.LinkWindows.{held_delta as link_held}
-use Rattle.dv_sat.specs.SatRows.{sat_delta}
-use Rattle.dv_sat.specs.MultiRows.{multi_delta}
-use Rattle.dv_sat.proofs.MultiDeltaBatch.{row_load as multi_stamped}
-use Rattle.dv_track.specs.Tracks.{status_delta}
-use Rattle.dv_track.specs.EffectRows.{effect_delta}
-use Rattle.dv_records.specs.Effects.{effect_batch}
-use Rattle.dv_records.specs.Satellites.{multi_batch}
-use Rattle.dv_records.specs.Backwards.{Backwards, backwards, with_newest}
-use Rattle.dv_vault.proofs.AddedBatches.{effect_is, free_at, grown, multi_is, sat_is, status_is, table_added}
-use Rattle.dv_vault.proofs.BegunParts.{all_lacking}
-use Rattle.dv_vault.proofs.FeedTables.{OfFeed, of_feeds}
-use Rattle.dv_vault.proofs.VaultCollisions.{parents_first, sealed_told}
+use Rattle.dv_restore.proofs.Vocabulary.{Backwards, Bool, Contains, Contains-append_cases, Contains-append_right, Contains-cons_here, Contains-cons_there, Effects, Extract, FeedDef, Hashes, Hub, Hubs, Link, Links, List, Mapping, Multis, NRow, None, OfFeed, Option, Parent, Rows, Sats, Some}
+use Rattle.dv_restore.proofs.Vocabulary.{Statuses, TableId, TellLists, Window, [], added_to, all_lacking, all_refs, ap, append-nil, appended, appended-history, are_windows_valid, arith, backwards, collision, drop, effect_batch, effect_delta, effect_is, eq-eqb, extract_added, extract_of, false}
+use Rattle.dv_restore.proofs.Vocabulary.{feed_batch, feed_tables, free_at, grown, history, hub_held, hub_names, if◌then◌else◌, inl, inr, is_valid, is_window, last_load, late_after, link_held, list_any, map, map_member, multi_batch, multi_delta, multi_is, multi_stamped, none_like, of_feeds}
+use Rattle.dv_restore.proofs.Vocabulary.{parents, parents_first, parts_at, refl, rest_in, reverse, reverse-append, sat_batch, sat_delta, sat_is, sealed_told, slice_get, some_passes_at, source, status_batch, status_delta, status_is, subst, suc, table_added, table_batch, table_entry, table_of}
+use Rattle.dv_restore.proofs.Vocabulary.{tables, take, true, vault, window_batches, with_newest, zero, ℕ, ◌++◌, ◌+◌, ◌==◌, ◌∙◌, ◌∷◌, ◌≡◌}
 use Rattle.dv_restore.proofs.LoadedRows.{effect_stamped, sat_stamped, status_stamped}
+use Rattle.dv_catalog.specs.declared.tables.TableId.TheVariants as ids
 
 -- rows behind which a window has rows of its load date
 module _ {R : Type 0} (load_of : R → ℕ) (delta : List R → ℕ → List NRow → List R) (stops : (rows : List R) (load : ℕ) (staged : List NRow) → list_any (λ row. load_of row == load) rows ≡ true → delta rows load staged ≡ []) where

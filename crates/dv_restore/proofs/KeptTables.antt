@@ -1,19 +1,9 @@
 -- The tables of the sealed windows are those of a vault: no row of them is later than the last head.
-use Rattle.dv_vault.proofs.Vocabulary.{Bool, IsVaultOf, List, Mapping, None, Option, Rows, Some, TableId, TableRows, Window, [], all_pass_weaker, and_from, and_parts, ap, are_empty, are_rows_kept, are_up_to, arith, eq-eqb, eqb-true, false, false≢true, is_of_kind, is_up_to, last_head, late_after, le-leb, list_all, map, nat_le, nat_lt, not, option_map_or}
-use Rattle.dv_vault.proofs.Vocabulary.{head_of, refl, row_count, sym, true, ℕ, ◌++◌, ◌==◌, ◌∙◌, ◌∷◌, ◌≡◌, ◌<◌, map-map}
-use Rattle.std.proofs.lemmas.Bool.{leb-true, ltb-true}
-use Rattle.dv_vault.proofs.Vocabulary.{inl, inr}
-use Rattle.std.proofs.lemmas.List.Folds.{list_any-append}
-use Rattle.std.specs.Prelude.{filter}
-use Rattle.dv_text.specs.declared.rows.WindowHead.{WindowHead}
-use Rattle.dv_catalog.specs.declared.tables.TableId.TheVariants.{Hub, Link, Sat, Multi, Status, Effect}
-use Rattle.dv_records.specs.RowViews.{loads_of}
-use Rattle.dv_records.specs.declared.stores.Rows.TheVariants.{Hubs, Links, Sats, Multis, Statuses, Effects, Pits, Bridges}
-use Rattle.dv_store_rules.specs.FormRules.{is_loaded}
-use Rattle.dv_store_rules.specs.StoredHeads.{is_later, last_sealed}
-use Rattle.dv_restore.specs.Parts.{are_loaded, entry_before, rows_before}
-use Rattle.dv_restore.proofs.HeadsHeld.{EndLast, last_pushed, last_sealed_is, one_more, some_of}
-use Rattle.dv_restore.proofs.RowLoads.{are_of_kinds}
+use Rattle.dv_restore.proofs.Vocabulary.{Bool, Bridges, Effect, Effects, Hubs, IsVaultOf, Links, List, Mapping, Multi, Multis, None, Option, Pits, Rows, Sat, Sats, Some, Status, Statuses, TableId, TableRows, Window, WindowHead, [], all_pass_weaker, and_from, and_parts, ap, are_empty, are_loaded}
+use Rattle.dv_restore.proofs.Vocabulary.{are_rows_kept, are_up_to, arith, entry_before, eq-eqb, eqb-true, false, false≢true, filter, head_of, inl, inr, is_later, is_loaded, is_of_kind, is_up_to, last_head, last_sealed, late_after, le-leb, leb-true, list_all, list_any-append, loads_of, ltb-true}
+use Rattle.dv_restore.proofs.Vocabulary.{map, map-map, nat_le, nat_lt, not, option_map_or, refl, row_count, rows_before, sym, true, ℕ, ◌++◌, ◌<◌, ◌==◌, ◌∙◌, ◌∷◌, ◌≡◌}
+use Rattle.dv_catalog.specs.declared.tables.TableId.TheVariants.{Hub, Link}
+use Rattle.dv_restore.proofs.{HeadsHeld.EndLast, HeadsHeld.last_pushed, HeadsHeld.last_sealed_is, HeadsHeld.one_more, HeadsHeld.some_of, RowLoads.are_of_kinds}
 
 -- ---- no row is later than the last head
 

@@ -1,19 +1,9 @@
 -- What windows bring to a hub or a link, what is missing there, and what rows of it stand for, does not clash where the windows
 -- do not collide.
-use Rattle.dv_hub_link.proofs.Vocabulary.{Contains, Contains-append_cases, Contains-cons_cases, Contains-cons_here, Contains-cons_there, Contains-flat_map, Contains-nil, Delivery, HasNoClash, Hashed, Hashes, Hub, HubName, HubRow, IsApart, Key, Less, Link, false≢true}
-use Rattle.dv_hub_link.proofs.Vocabulary.{LinkRow, List, Mapping, None, Parent, TellLists, Window, [], ap, appended, brought, collision_free, collision_in, deliveries, flat_map, hashed_by, hashed_refs, hub_batch, hub_hashed, hubs_in, hubs_of, inl, inr, is_missing, list_all}
-use Rattle.dv_hub_link.proofs.Vocabulary.{irreflexive, is_known, keys_under, link_batch, link_hashed, map, map_member, missing_refs, offered_refs, parent_hubs, refl, refs_cmp, refs_total, reverse, stored, subst, sym, true, ℕ, ◌++◌, ◌∙◌, ◌∷◌, ◌≡◌}
-use Rattle.dv_text.proofs.Vocabulary.{◌⊎◌}
-use Rattle.dv_hub_link.proofs.Hashables.{all_missing}
-use Rattle.dv_hub_link.proofs.ToldLists.{list_told}
-use Rattle.dv_hub_link.proofs.WindowLists.{delivery_kept}
-use Rattle.dv_hub_link.specs.HubDeltas.{stored as stored_keys}
-use Rattle.dv_records.proofs.Delivered.{delivery-offered}
-use Rattle.dv_records.proofs.HubTables.{table_row as hub_row}
-use Rattle.dv_records.proofs.KnownRefs.{known_hashed, known_there}
-use Rattle.dv_records.proofs.LinkTables.{table_row as link_row}
-use Rattle.dv_records.specs.Deltas.{missing_in}
-use Rattle.dv_hub_link.proofs.Hashables.{missing_table}
+use Rattle.dv_restore.proofs.Vocabulary.{Contains, Contains-append_cases, Contains-cons_cases, Contains-cons_here, Contains-cons_there, Contains-flat_map, Contains-nil, Delivery, HasNoClash, Hashed, Hashes, Hub, HubName, HubRow, IsApart, Key, Less, Link, LinkRow, List, Mapping, None, Parent}
+use Rattle.dv_restore.proofs.Vocabulary.{TellLists, Window, [], all_missing, ap, appended, brought, collision_free, collision_in, deliveries, delivery-offered, delivery_kept, false≢true, flat_map, hashed_by, hashed_refs, hub_batch, hub_hashed, hub_row, hubs_in, hubs_of, inl, inr, irreflexive}
+use Rattle.dv_restore.proofs.Vocabulary.{is_known, is_missing, keys_under, known_hashed, known_there, link_batch, link_hashed, link_row, list_all, list_told, map, map_member, missing_in, missing_refs, missing_table, offered_refs, parent_hubs, refl, refs_cmp, refs_total, reverse, stored}
+use Rattle.dv_restore.proofs.Vocabulary.{stored_keys, subst, sym, true, ℕ, ◌++◌, ◌∙◌, ◌∷◌, ◌≡◌, ◌⊎◌}
 
 -- two lists that are one do not clash
 pub never_less : (refs other : List Key) → refs ≡ other → refs_cmp refs other ≡ Less → ⊥

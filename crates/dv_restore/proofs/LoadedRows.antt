@@ -1,27 +1,11 @@
 -- The rows of raw tables by their load dates: those of a window's batch have the window's, and those of older windows an
 -- earlier one.
-use Rattle.dv_store_rules.proofs.Vocabulary.{Contains, Contains-nil, Delivery, Extract, Hashes, HubRow, LinkRow, List, Mapping, None, Option, Ordering, Some, StatusRow, TableId, Window, [], all_refs, ap, append-nil, appended, arith, code_of}
-use Rattle.dv_store_rules.proofs.Vocabulary.{Bool, Hub, Link, deliveries, delivers, eq-eqb, extract_of, false, feed_batch, history, hub_batch, is_changed, is_known, link_batch, multi_batch, multi_cmp, nat_tests}
-use Rattle.dv_store_rules.proofs.Vocabulary.{newest_rows, not, not_from_false, refl, sat_batch, sat_cmp, sat_row, source, status_batch, status_cmp, status_row, made_of, sym, table_after, true, ℕ, ◌++◌, ◌<◌, ◌==◌, ◌∙◌, ◌∷◌, ◌≡◌}
-use Rattle.dv_store_rules.proofs.BatchRows.{earlier_rows}
+use Rattle.dv_restore.proofs.Vocabulary.{AllBefore, Backwards, Bool, Contains, Contains-nil, Delivery, EffectRow, Effects, Extract, Hashes, Hub, HubRow, Hubs, Link, LinkRow, Links, List, Mapping, MultiRow, Multis, None, Option, Ordering, SatRow, Sats, Some, StatusRow, Statuses, TableId, Window}
+use Rattle.dv_restore.proofs.Vocabulary.{[], all_refs, ap, append-nil, appended, arith, batch_at, batch_stamped, code_of, deliveries, delivers, earlier_rows, effect_batch, effect_cmp, effect_row, eq-eqb, extract-load, extract_of, false, feed_batch, filter, filter-all, filter-append, filter-none}
+use Rattle.dv_restore.proofs.Vocabulary.{history, hub_batch, hub_cmp, if_not, if_so, is_changed, is_known, link_batch, link_cmp, made_of, multi_batch, multi_cmp, multi_stamped, nat_tests, newest_rows, not, not_from_false, only_key, refl, run_begin, sat_batch, sat_cmp, sat_row, sealed_rows}
+use Rattle.dv_restore.proofs.Vocabulary.{source, span_between, status_batch, status_cmp, status_row, sym, table_after, true, with_newest, ℕ, ◌++◌, ◌<◌, ◌==◌, ◌∙◌, ◌∷◌, ◌≡◌}
+use Rattle.dv_records.specs.Hubs.{hub_row, link_row}
 use Rattle.dv_catalog.specs.declared.tables.TableId.TheVariants as ids
-use Rattle.dv_records.proofs.DatedRows.{batch_stamped}
-use Rattle.dv_records.proofs.Reversing.{AllBefore, extract-load}
-use Rattle.dv_records.specs.Backwards.{Backwards, with_newest}
-use Rattle.dv_records.specs.Effects.{effect_batch, effect_cmp, effect_row, span_between}
-use Rattle.dv_records.specs.Hubs.{hub_cmp, hub_row, link_cmp, link_row, only_key}
-use Rattle.dv_records.specs.Runs.{run_begin}
-use Rattle.dv_records.specs.Vault.{batch_at}
-use Rattle.dv_records.specs.declared.raw_rows.EffectRow.{EffectRow}
-use Rattle.dv_records.specs.declared.raw_rows.MultiRow.{MultiRow}
-use Rattle.dv_records.specs.declared.raw_rows.SatRow.{SatRow}
-use Rattle.dv_records.specs.declared.stores.Rows.TheVariants.{Effects, Hubs, Links, Multis, Sats, Statuses}
-use Rattle.dv_sat.proofs.MultiDeltaBatch.{row_load as multi_stamped}
-use Rattle.dv_sat.proofs.SatFollowing.{if_not, if_so}
-use Rattle.dv_text.proofs.Passing.{filter-all, filter-none}
-use Rattle.std.proofs.lemmas.List.Elements.{filter-append}
-use Rattle.std.specs.Prelude.{filter}
-use Rattle.dv_restore.specs.Sealed.{sealed_rows}
 
 -- ---- rows of batches
 

@@ -1,34 +1,15 @@
 -- The missing key among the keys of a hub: what stands under the zero key, and what that says of clashes.
-use Rattle.dv_hub_link.proofs.Vocabulary.{Bool, Contains, Contains-append_cases, Contains-append_left, Contains-append_right, Contains-cons_cases, Contains-cons_here, Contains-cons_there, Contains-map, Contains-nil, Delivery, HasNoClash, Hashed, Hashes, Hub, HubName, HubRow, Key, Link, LinkRow, List, Mapping, None, Option, Parent, Some}
-use Rattle.dv_hub_link.proofs.Vocabulary.{TableId, Window, [], ap, brought, bytes_eq, bytes_eq-Decides, deliveries, false, false≢true, find, found_member, hashed_by, inl, inr, is_some, list_any, map, map_member, missing_key, missing_refs, option_map, parent_hubs, refl, some_passes_at, subst, sym, true, ℕ, ◌++◌, ◌∙◌, ◌∷◌, ◌≡◌}
-use Rattle.dv_text.proofs.Vocabulary.{◌⊎◌}
-use Rattle.dv_text.proofs.Deciding.{key_eq-Decides}
-use Rattle.dv_text.specs.Keys.{DigestFunction, hashes_of}
-use Rattle.dv_catalog.specs.declared.tables.TableId.TheVariants as ids
-use Rattle.dv_records.specs.Deltas.{missing_in}
-use Rattle.dv_records.specs.declared.stores.Rows.{Rows}
-use Rattle.dv_records.specs.declared.stores.Rows.TheVariants as of
-use Rattle.dv_records.specs.declared.stores.TableRows.{TableRows}
-use Rattle.dv_hub_link.proofs.Hashables.{all_missing}
-use Rattle.dv_hub_link.proofs.Placed.{some_found}
-use Rattle.dv_hub_link.proofs.WindowLists.{delivery_kept}
-use Rattle.dv_hub_link.specs.HubDeltas.{stored as stored_keys}
-use Rattle.dv_hub_link.specs.LinkLists.{hubs_of, keys_under, stored}
-use Rattle.dv_store_rules.specs.FormRules.{zero_key}
-use Rattle.dv_vault.proofs.Vocabulary.{All, All-contains, All-cons, All-head, All-nil, All-tail, hashed_in}
-use Rattle.dv_restore.specs.Begins.{AreNamed, HasMisnamed, HaveNoZeroLinks, IsMisnamed, IsNamed, compared_in}
-use Rattle.dv_index.specs.Places.{Indexed}
-use Rattle.dv_vault.proofs.BatchSteps.{entry_here}
-use Rattle.dv_vault.proofs.Vocabulary.{Contains-get_or, Err, IfOk, Ok, Result, entry_of, get_or, length, not, not-true, same_Some, take, take_all, take_more, ◌+◌, ◌<◌, ◌≤◌}
-use Rattle.dv_text.proofs.Vocabulary.{key_eq, not-false}
-use Rattle.dv_hub_link.specs.HubRows.{key_with}
-use Rattle.dv_vault.specs.declared.tables.Table.{Table}
-use Rattle.dv_vault.specs.declared.tables.Table.TheVariants as held_as
+use Rattle.dv_restore.proofs.Vocabulary.{All, All-cons, All-contains, All-head, All-nil, All-tail, AreNamed, Bool, Contains, Contains-append_cases, Contains-append_left, Contains-append_right, Contains-cons_cases, Contains-cons_here, Contains-cons_there, Contains-get_or, Contains-map}
+use Rattle.dv_restore.proofs.Vocabulary.{Contains-nil, Delivery, DigestFunction, Err, HasMisnamed, HasNoClash, Hashed, Hashes, HaveNoZeroLinks, Hub, HubName, HubRow, IfOk, Indexed, IsMisnamed, Key, Link, LinkRow, List, Mapping, None, Ok, Option, Ordering, Parent, Result, Rows, Some, Table}
+use Rattle.dv_restore.proofs.Vocabulary.{TableId, TableRows, Window, [], all_missing, ap, brought, bytes_eq, bytes_eq-Decides, compared_in, deliveries, delivery_kept, entry_here, entry_of, false, false≢true, find, found_member, get_or, hashed_by, hashed_in, hashes_of, hubs_of, inl, inr, is_some}
+use Rattle.dv_restore.proofs.Vocabulary.{key_eq, key_eq-Decides, key_with, keys_under, length, list_any, map, map_member, missing_in, missing_key, missing_refs, missing_table, not, not-false, not-true, one_list, option_map, parent_hubs, refl, same_Some, some_found, some_passes_at, stored}
+use Rattle.dv_restore.proofs.Vocabulary.{stored_keys, subst, sym, take, take_all, take_more, true, zero_key, ℕ, ◌++◌, ◌+◌, ◌<◌, ◌∙◌, ◌∷◌, ◌≡◌, ◌≤◌, ◌⊎◌}
+use Rattle.dv_restore.specs.Begins.{IsNamed}
 use Rattle.dv_restore.proofs.KnownLists.{never_less, single_clear}
-use Rattle.std.specs.declared.cmp.Ordering.{Ordering}
+use Rattle.dv_catalog.specs.declared.tables.TableId.TheVariants as ids
+use Rattle.dv_records.specs.declared.stores.Rows.TheVariants as of
+use Rattle.dv_vault.specs.declared.tables.Table.TheVariants as held_as
 use Rattle.std.specs.declared.cmp.Ordering.TheVariants as ordering
-use Rattle.dv_hub_link.proofs.Brought.{one_list}
-use Rattle.dv_hub_link.proofs.Hashables.{missing_table}
 
 -- the hash key of what is missing is the zero key
 pub missing_zero : (mapping : Mapping) (function : DigestFunction) (parent : Parent) → (hashes_of function).hash (missing_refs mapping parent) ≡ zero_key function.width

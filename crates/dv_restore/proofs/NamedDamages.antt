@@ -1,28 +1,8 @@
 -- Damage names a place and a rule that there may be, whatever is stored.
-use Rattle.dv_store_rules.proofs.Vocabulary.{Bool, first_of, if_broken}
-use Rattle.dv_store_rules.proofs.Vocabulary.{◌≡◌, ◌≤◌, ◌+◌, ◌&&◌, ℕ, true, List, [], ◌∷◌, ◌++◌, Option, Some, None, length, nat_le, option_or, option_map, made_of, arith, refl, subst}
-use Rattle.dv_store_rules.proofs.Vocabulary.{Known, Mapping, TableId, flaw_in, flaw_behind, first_flaw, first_along, codes, table_name, HubRow, LinkRow, StatusRow, inl, inr, Rows, Hubs, Links, Sats, Multis, Statuses, Effects}
-use Rattle.std.proofs.Common.{rules}
-use Rattle.std.specs.Prelude.{IfSome}
-use Rattle.dv_text.specs.declared.rows.WindowHead.{WindowHead}
-use Rattle.dv_catalog.specs.declared.tables.TableId.TheVariants.{Hub, Link, Sat, Multi, Status, Effect}
-use Rattle.dv_catalog.specs.TableLookups.{is_table_of}
-use Rattle.dv_records.specs.declared.answers.Damage.{Damage}
-use Rattle.dv_records.specs.declared.raw_rows.EffectRow.{EffectRow}
-use Rattle.dv_records.specs.declared.raw_rows.MultiRow.{MultiRow}
-use Rattle.dv_records.specs.declared.raw_rows.SatRow.{SatRow}
-use Rattle.dv_records.specs.declared.snapshots.SnapHead.{SnapHead}
-use Rattle.dv_records.specs.Stores.{is_of_kind}
-use Rattle.dv_store_rules.specs.declared.flaws.Flaw.{Flaw}
-use Rattle.dv_store_rules.specs.declared.pages.Read.{Read}
-use Rattle.dv_store_rules.specs.declared.pages.Read.TheVariants.{OtherKind, Rows as AllRows}
-use Rattle.dv_store_rules.specs.Damages.{damage_at}
-use Rattle.dv_store_rules.specs.Pages.{IsOfTable}
-use Rattle.dv_store_rules.specs.SnapshotHeads.{snapshot_flaw, snapshot_rule}
-use Rattle.dv_store_rules.specs.StoredHeads.{head_flaw, head_rule}
-use Rattle.dv_store_rules.specs.StoredRows.{effect_rule, hub_rule, link_rule, multi_rule, sat_rule, status_rule}
-use Rattle.dv_restore.specs.Damages.{IsBesideTables, IsFormRule, IsNamed}
-use Rattle.dv_restore.specs.Readings.{flaw_read}
+use Rattle.dv_restore.proofs.Vocabulary.{AllRows, Bool, Damage, Effect, EffectRow, Effects, Flaw, HubRow, Hubs, IfSome, IsBesideTables, IsFormRule, IsNamed, IsOfTable, Known, LinkRow, Links, List, Mapping, Multi, MultiRow, Multis, None, Option, OtherKind, Read, Rows, Sat, SatRow, Sats, SnapHead}
+use Rattle.dv_restore.proofs.Vocabulary.{Some, Status, StatusRow, Statuses, TableId, WindowHead, [], arith, codes, damage_at, effect_rule, first_along, first_flaw, first_of, flaw_behind, flaw_in, flaw_read, head_flaw, head_rule, hub_rule, if_broken, inl, inr, is_of_kind, is_table_of, length}
+use Rattle.dv_restore.proofs.Vocabulary.{link_rule, made_of, multi_rule, nat_le, option_map, option_or, refl, rules, sat_rule, snapshot_flaw, snapshot_rule, status_rule, subst, table_name, true, ℕ, ◌&&◌, ◌++◌, ◌+◌, ◌∷◌, ◌≡◌, ◌≤◌}
+use Rattle.dv_catalog.specs.declared.tables.TableId.TheVariants.{Hub, Link}
 
 -- ---- the numbers of rules
 

@@ -1,17 +1,10 @@
 -- The parts of an open window in a vault of which some first tables have its batches.
-use Rattle.std.proofs.Common.{rules}
-use Rattle.dv_vault.proofs.Vocabulary.{◌≡◌, ℕ, ◌+◌, true, List, [], ◌∷◌, ◌++◌, refl, sym, ◌∙◌, ap, arith, drop, map, suc, take, zero, sum_by, sum_by-cons, Hashes, Mapping, TableId, Rows, TableRows, Window, is_of_kind, row_count, rows_then, rows_weight, table_after, table_batch, table_entry, tables, tables_weight, vault, vault_weight}
-use Rattle.dv_vault.proofs.Vocabulary.{ArePartsOf, none_like, opened_in, parts_at, rest_in, tables_there, window_batches}
+use Rattle.dv_restore.proofs.Vocabulary.{ArePartsOf, Backwards, Hashes, List, Mapping, Part, Rows, TableId, TableRows, Window, [], all_lacking, ap, arith, backwards, batch_adds, drop, is_of_kind, map, none_like, opened_in, partial, parts_at, refl, rest_in, row_count, rows_then, rows_weight}
+use Rattle.dv_restore.proofs.Vocabulary.{rules, suc, sum_by, sum_by-cons, sym, table_after, table_after-newest, table_batch, table_entry, tables, tables_there, tables_weight, take, then_none, true, vault, vault_weight, weight_with_batches, window_batches, with_newest, zero, ℕ, ◌++◌, ◌+◌, ◌∙◌}
+use Rattle.dv_restore.proofs.Vocabulary.{◌∷◌, ◌≡◌}
+use Rattle.dv_restore.proofs.Completing.{same_behind}
 use Rattle.dv_catalog.specs.declared.tables.TableId.TheVariants as ids
 use Rattle.dv_records.specs.declared.stores.Rows.TheVariants as of
-use Rattle.dv_records.specs.Backwards.{Backwards, backwards, with_newest}
-use Rattle.dv_records.specs.Vault.{partial}
-use Rattle.dv_records.proofs.VaultSteps.{batch_adds, table_after-newest}
-use Rattle.dv_vault.proofs.Afterwards.{weight_with_batches}
-use Rattle.dv_vault.proofs.BegunParts.{all_lacking}
-use Rattle.dv_vault.proofs.Parts.{then_none}
-use Rattle.dv_restore.proofs.Completing.{same_behind}
-use Rattle.dv_vault.specs.declared.begun.Part.{Part}
 
 -- a table and its batch are of its kind
 after_kind : (mapping : Mapping) (hashes : Hashes) (older : Backwards) (id : TableId) → is_of_kind id (table_after mapping hashes older id) ≡ true

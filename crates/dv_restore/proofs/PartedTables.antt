@@ -1,10 +1,6 @@
 -- Tables in two by a load date, one table after the other, and what the two parts weigh.
-use Rattle.std.proofs.Common.{rules}
-use Rattle.dv_vault.proofs.Vocabulary.{All, All-head, All-nil, All-push, All-tail, List, Rows, TableRows, [], and_parts, ap, are_up_to, arith, entry_of, is_up_to, map, map-append, refl, rows_weight, subst, sum_by, sum_by-cons, sym, tables_weight, true, ℕ, ◌++◌, ◌+◌, ◌∙◌, ◌∷◌, ◌≡◌}
-use Rattle.dv_vault.specs.declared.tables.Table.{Table}
-use Rattle.dv_records.proofs.VaultSteps.{rows_add_up}
-use Rattle.dv_records.specs.RowViews.{are_of_one_kind}
-use Rattle.dv_restore.specs.Parts.{AreParted, EndsAt, IsParted, entry_before, rows_at, rows_before}
+use Rattle.dv_restore.proofs.Vocabulary.{All, All-head, All-nil, All-push, All-tail, AreParted, EndsAt, IsParted, List, Rows, Table, TableRows, [], and_parts, ap, are_of_one_kind, are_up_to, arith, entry_before, entry_of, is_up_to, map, map-append, refl, rows_add_up, rows_at, rows_before}
+use Rattle.dv_restore.proofs.Vocabulary.{rows_weight, rules, subst, sum_by, sum_by-cons, sym, tables_weight, true, ℕ, ◌++◌, ◌+◌, ◌∙◌, ◌∷◌, ◌≡◌}
 
 module _ (date : ℕ) where
   pub none_parted : AreParted date [] [] []

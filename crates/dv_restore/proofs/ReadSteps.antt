@@ -1,10 +1,6 @@
 -- Raw tables that are read one after the other: what one table more tells, and the first damage that is found.
-use Rattle.dv_store_rules.proofs.Vocabulary.{◌≡◌, ◌∙◌, List, [], ◌∷◌, ◌++◌, Option, Some, None, refl, sym, ap, inl, inr, append-nil, append_assoc, map-append, option_map, or_none, first_along, tables, table_name, flaw_in, rows_in, Known, Store, TableId, TableRows, Told}
-use Rattle.dv_store_rules.proofs.Flawless.{none_along}
-use Rattle.dv_store_rules.proofs.Splits.{no_split, split_append}
-use Rattle.dv_store_rules.specs.Damages.{damage_at, damage_in, known_before, stored_entries}
-use Rattle.dv_records.specs.declared.answers.Damage.{Damage}
-use Rattle.dv_restore.specs.Readings.{AreInForm, AreRead, HasHeads, IsRawDamage}
+use Rattle.dv_restore.proofs.Vocabulary.{AreInForm, AreRead, Damage, HasHeads, IsRawDamage, Known, List, None, Option, Some, Store, TableId, TableRows, Told, [], ap, append-nil, append_assoc, damage_at, damage_in, first_along, flaw_in, inl, inr, known_before, map-append, no_split, none_along}
+use Rattle.dv_restore.proofs.Vocabulary.{option_map, or_none, refl, rows_in, split_append, stored_entries, sym, table_name, tables, ◌++◌, ◌∙◌, ◌∷◌, ◌≡◌}
 
 -- ---- one table more
 

@@ -1,27 +1,11 @@
 -- The open window over the vault of the sealed ones: what its tables have of it, and what they lack.
-use Rattle.dv_vault.proofs.Vocabulary.{All, All-append, All-cons, All-head, All-nil, All-tail, AllZip, AreOfLoad, Bool, Follow, Hashes, List, Mapping, None, RawVault, Rows, Some, TableId, TableRows, Window, [], added_to, and_parts, ap, append_assoc, eqb-true, false, filter, is_of_kind, is_window, last_head, late_after, map, map-append, refl, row_count, rows_then}
-use Rattle.dv_vault.proofs.Vocabulary.{ArePartsOf, Fits, FollowAll, entries_with, opened_in, rest_in, rows_weight, subst, sum_by, sym, tables_there, tables_weight, tables_whole, true, weight_with, whole_in, ℕ, ◌+◌, ◌++◌, ◌==◌, ◌∙◌, ◌∷◌, ◌≡◌}
+use Rattle.dv_restore.proofs.Vocabulary.{All, All-append, All-cons, All-head, All-nil, All-tail, AllZip, AreOfLoad, AreParted, ArePartsOf, Begun, Bool, EndsAt, Fits, Follow, FollowAll, HasPlace, Hashes, IsBegunOf, IsStrictlySortedBy, List, Mapping, None, Part, RawVault, Rows, Some, TableId}
+use Rattle.dv_restore.proofs.Vocabulary.{TableRows, Window, WindowHead, [], added_to, and_parts, ap, append_assoc, are_hub_rows, are_link_rows, effect_order, entries_with, entry_before, eqb-true, false, filter, first_one, is_of_kind, is_window, last_head, late_after, map, map-append, multi_order}
+use Rattle.dv_restore.proofs.Vocabulary.{opened_in, refl, rest_in, row_count, rows_at, rows_before, rows_then, rows_there, rows_weight, sat_order, sealed_entry, sealed_vault, status_order, subst, sum_by, sym, tables_there, tables_weight, tables_whole, there_whole, true, vault_of, weight_grows}
+use Rattle.dv_restore.proofs.Vocabulary.{weight_with, whole_in, ℕ, ◌++◌, ◌+◌, ◌==◌, ◌∙◌, ◌∷◌, ◌≡◌}
+use Rattle.dv_restore.proofs.{Completing.added_kind, Completing.loaded_kind, RowLoads.are_of_kinds}
 use Rattle.dv_catalog.specs.declared.tables.TableId.TheVariants as ids
 use Rattle.dv_records.specs.declared.stores.Rows.TheVariants as of
-use Rattle.dv_text.specs.declared.rows.WindowHead.{WindowHead}
-use Rattle.dv_hub_link.specs.HubRows.{are_hub_rows}
-use Rattle.dv_hub_link.specs.LinkRows.{are_link_rows}
-use Rattle.dv_sat.specs.SatRows.{sat_order}
-use Rattle.dv_sat.specs.MultiRows.{multi_order}
-use Rattle.dv_track.specs.Tracks.{status_order}
-use Rattle.dv_track.specs.EffectRows.{effect_order}
-use Rattle.dv_vault.proofs.NewWindows.{first_one}
-use Rattle.dv_vault.proofs.Parts.{there_whole}
-use Rattle.dv_vault.proofs.Taken.{weight_grows}
-use Rattle.dv_restore.specs.Begins.{HasPlace}
-use Rattle.dv_restore.specs.Completions.{IsBegunOf, rows_there}
-use Rattle.dv_restore.specs.Parts.{AreParted, EndsAt, entry_before, rows_at, rows_before}
-use Rattle.dv_restore.specs.Sealed.{sealed_entry, sealed_vault, vault_of}
-use Rattle.dv_restore.proofs.Completing.{added_kind, loaded_kind}
-use Rattle.dv_restore.proofs.RowLoads.{are_of_kinds}
-use Rattle.std.specs.List.Sorted.{IsStrictlySortedBy}
-use Rattle.dv_vault.specs.declared.begun.Begun.{Begun}
-use Rattle.dv_vault.specs.declared.begun.Part.{Part}
 
 -- where no window is open, all rows are those of sealed ones
 pub all_sealed : (entries : List TableRows) → map (sealed_entry None) entries ≡ entries

@@ -1,13 +1,7 @@
 -- Rows whose load dates do not fall are those that are earlier than the last date, and behind them those of it.
-use Rattle.dv_records.proofs.Vocabulary.{AllByRecursion, Bool, Contains, IsStrictlySortedBy, List, None, Ordering, Place, Some, [], and_from, and_parts, ap, append-nil, are_in_load_order, arith, eq-eqb, eqb-true, false, false≢true, leb-true, length, list_all}
-use Rattle.dv_records.proofs.Vocabulary.{nat_le, not, passes_at, refl, slice_get, sym, true, ℕ, ◌++◌, ◌-◌, ◌==◌, ◌∙◌, ◌∷◌, ◌≡◌, ◌≤◌, Contains-cons_here, Contains-cons_there, drop, got_member, get_or, length-append, subst, take}
-use Rattle.std.proofs.lemmas.Option.{slice_get-get_or}
-use Rattle.std.proofs.lemmas.List.Folds.{list_all-map, list_any-append}
-use Rattle.std.specs.Prelude.{◌||◌, filter, map}
-use Rattle.std.specs.Str.{bytes_eq}
-use Rattle.dv_hub_link.specs.PlacedRows.{are_parents_apart, are_placed_rows, has_row_under}
-use Rattle.dv_records.proofs.DatedRows.{up_to_last}
-use Rattle.dv_restore.specs.Halves.{AreHalves, is_of_load, is_of_other}
+use Rattle.dv_restore.proofs.Vocabulary.{AllByRecursion, AreHalves, Bool, Contains, Contains-cons_here, Contains-cons_there, IsStrictlySortedBy, List, None, Ordering, Place, Some, [], and_from, and_parts, ap, append-nil, are_in_load_order, are_parents_apart, are_placed_rows, arith, bytes_eq}
+use Rattle.dv_restore.proofs.Vocabulary.{drop, eq-eqb, eqb-true, false, false≢true, filter, get_or, got_member, has_row_under, is_of_load, is_of_other, leb-true, length, length-append, list_all, list_all-map, list_any-append, map, nat_le, not, passes_at, refl, slice_get, slice_get-get_or, subst}
+use Rattle.dv_restore.proofs.Vocabulary.{sym, take, true, up_to_last, ℕ, ◌++◌, ◌-◌, ◌==◌, ◌||◌, ◌∙◌, ◌∷◌, ◌≡◌, ◌≤◌}
 
 take_exactly : {X : Type 0} (xs ys : List X) → take (length xs) (xs ++ ys) ≡ xs
 take_exactly [] ys = refl

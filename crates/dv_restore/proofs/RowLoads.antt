@@ -1,24 +1,8 @@
 -- The rows of tables in which no row breaks a rule have load dates of the heads that are known.
-use Rattle.std.proofs.Common.{rules}
-use Rattle.dv_store_rules.proofs.Vocabulary.{Bool, List, None, Option, [], and_from, and_parts, append_assoc, first_along, flaw_behind, list_all, list_any, map, none_before_map, or_none, refl, some_passes, some_passes_at, sym, true, ℕ}
-use Rattle.dv_store_rules.proofs.Vocabulary.{Contains-nil, Hashes, Mapping, Window, ap, bytes_eq, false, head_of, inl, inr, not, option_to_list, subst}
-use Rattle.dv_vault.proofs.Vocabulary.{Contains-cons_cases, not-true}
-use Rattle.dv_store_rules.specs.FormRules.{zero_key}
-use Rattle.dv_restore.specs.Begins.{HaveNoZeroLinks}
-use Rattle.dv_store_rules.proofs.Vocabulary.{Known, Rows, TableId, TableRows, flaw_in, is_delivered, is_loaded, is_of_kind, ◌&&◌, ◌++◌, ◌==◌, ◌∙◌, ◌∷◌, ◌≡◌}
-use Rattle.dv_text.specs.declared.rows.WindowHead.{WindowHead}
-use Rattle.dv_catalog.specs.declared.tables.TableId.TheVariants.{Hub, Link, Sat, Multi, Status, Effect}
-use Rattle.dv_records.specs.declared.raw_rows.EffectRow.{EffectRow}
-use Rattle.dv_records.specs.declared.raw_rows.HubRow.{HubRow}
-use Rattle.dv_records.specs.declared.raw_rows.LinkRow.{LinkRow}
-use Rattle.dv_records.specs.declared.raw_rows.MultiRow.{MultiRow}
-use Rattle.dv_records.specs.declared.raw_rows.SatRow.{SatRow}
-use Rattle.dv_records.specs.declared.raw_rows.StatusRow.{StatusRow}
-use Rattle.dv_records.specs.declared.stores.Rows.TheVariants.{Hubs, Links, Sats, Multis, Statuses, Effects}
-use Rattle.dv_records.specs.RowViews.{loads_of}
-use Rattle.dv_store_rules.specs.StoredRows.{hub_rule, link_rule, sat_rule, multi_rule, status_rule, effect_rule}
-use Rattle.dv_restore.specs.Parts.{are_loaded}
-use Rattle.dv_restore.specs.Readings.{AreInForm}
+use Rattle.dv_restore.proofs.Vocabulary.{AreInForm, Bool, Contains-cons_cases, Contains-nil, Effect, EffectRow, Effects, Hashes, HaveNoZeroLinks, HubRow, Hubs, Known, LinkRow, Links, List, Mapping, Multi, MultiRow, Multis, None, Option, Rows, Sat, SatRow, Sats, Status, StatusRow, Statuses}
+use Rattle.dv_restore.proofs.Vocabulary.{TableId, TableRows, Window, WindowHead, [], and_from, and_parts, ap, append_assoc, are_loaded, bytes_eq, effect_rule, false, first_along, flaw_behind, flaw_in, head_of, hub_rule, inl, inr, is_delivered, is_loaded, is_of_kind, link_rule, list_all, list_any}
+use Rattle.dv_restore.proofs.Vocabulary.{loads_of, map, multi_rule, none_before_map, not, not-true, option_to_list, or_none, refl, rules, sat_rule, some_passes, some_passes_at, status_rule, subst, sym, true, zero_key, ℕ, ◌&&◌, ◌++◌, ◌==◌, ◌∙◌, ◌∷◌, ◌≡◌}
+use Rattle.dv_catalog.specs.declared.tables.TableId.TheVariants.{Hub, Link}
 
 -- a window that has a feed is there
 delivered_loaded : (heads : List WindowHead) (feed load : ℕ) → is_delivered heads feed load ≡ true → is_loaded heads load ≡ true

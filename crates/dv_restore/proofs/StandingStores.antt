@@ -1,41 +1,11 @@
 -- A store that stands for a state of the warehouse: what is restored of it is of that state, and it is in form.
-use Rattle.dv_store_rules.proofs.Vocabulary.{Contains, Hashes, List, Mapping, None, Ok, Option, Some, Store, TableId, TableRows, Window, [], and_parts, ap, append-nil, are_windows_valid, arith, backwards, drop, hashes_of, head_of}
-use Rattle.dv_store_rules.proofs.Vocabulary.{is_window, length, length-append, length-map, map, map-append, map-map, map_member, most_weight, most_windows, nat_le, nat_lt, nat_tests, option_to_list, passes_at, refl, inl, inr, reverse, same_Some}
-use Rattle.dv_store_rules.proofs.Vocabulary.{false, load_order, reverse-append, reverse_member, subst, sym, table_entry, tables, take, take-append-drop, true, vault, vault_weight, ℕ, ◌++◌, ◌+◌, ◌<◌, ◌∙◌, ◌∷◌, ◌≡◌, ◌≤◌}
-use Rattle.dv_text.specs.Keys.{DigestFunction}
-use Rattle.dv_catalog.specs.MappingFiles.{read_mapping}
-use Rattle.dv_catalog.specs.Mappings.{is_valid}
-use Rattle.dv_mapfile.proofs.ReadMappings.{read_valid}
-use Rattle.dv_store_rules.proofs.FewerWindows.{fewer_valid, parts_of_valid}
-use Rattle.dv_store_rules.proofs.Splits.{item_in, last_in}
-use Rattle.dv_store_rules.proofs.Undamaged.{undamaged_if_valid}
-use Rattle.dv_store_rules.specs.Damages.{stored_entries}
-use Rattle.dv_store_rules.specs.SnapshotHeads.{snapshot_heads}
-use Rattle.dv_records.specs.declared.snapshots.Snap.{Snap}
-use Rattle.dv_records.specs.declared.snapshots.SnapHead.{SnapHead}
-use Rattle.dv_records.specs.Snapshots.{snapshot}
-use Rattle.dv_records.proofs.Reversing.{AllBefore, newest_first}
-use Rattle.dv_records.specs.Backwards.{Backwards, with_newest}
-use Rattle.dv_records.specs.Outcomes.{full_at, late_after}
-use Rattle.dv_records.specs.Standing.{HasTables, Stands, TablesStand}
-use Rattle.dv_records.specs.States.{State, all_windows, are_dates_valid, is_valid_state, last_load}
-use Rattle.dv_records.specs.Vault.{partial}
-use Rattle.dv_records.specs.declared.answers.Damage.{Damage}
-use Rattle.dv_vault.proofs.Afterwards.{loaded_batches, vault_with}
-use Rattle.dv_vault.proofs.BegunParts.{at_whole, same_parts}
-use Rattle.dv_vault.proofs.Vocabulary.{All, ArePartsOf, Fits, HasNoClash, HasSealed, IfSome, IsBegunBehind, RawVault, Rows, added_to, entries_with, hub_names, opened_in, parts_at, rest_in, row_count, rows_weight, sum_by, tables_there, tables_weight, weight_with, whole_in, window_batches}
-use Rattle.dv_restore.proofs.AllApart.{partly_apart}
-use Rattle.dv_restore.proofs.HeldBatches.{partly_added}
-use Rattle.dv_restore.proofs.LoadedRows.{rows_left}
-use Rattle.dv_restore.proofs.OpenParts.{all_counted, partly_opened, partly_weighs}
-use Rattle.dv_restore.proofs.StoredTables.{read_partial, read_vault}
-use Rattle.dv_restore.specs.Begins.{HasPlace, compared_in}
-use Rattle.dv_restore.specs.Completions.{IsBegunAs, IsBegunOf, IsOpenBehind, MayGoOn, rows_there}
-use Rattle.dv_restore.specs.Damages.{BreaksRule, IsInForm, IsNotRead, IsReadAs, KeepsF15}
-use Rattle.dv_restore.specs.Restored.{IsOfState, heads_of_state}
-use Rattle.dv_restore.specs.Sealed.{sealed_entry, sealed_of, stored_vault}
-use Rattle.dv_vault.specs.declared.begun.Begun.{Begun}
-use Rattle.dv_restore.proofs.Reopening.{all_sealed}
+use Rattle.dv_restore.proofs.Vocabulary.{All, AllBefore, ArePartsOf, Backwards, Begun, BreaksRule, Contains, Damage, DigestFunction, Fits, HasNoClash, HasPlace, HasSealed, HasTables, Hashes, IfSome, IsBegunAs, IsBegunBehind, IsBegunOf, IsInForm, IsNotRead, IsOfState, IsOpenBehind, IsReadAs}
+use Rattle.dv_restore.proofs.Vocabulary.{KeepsF15, List, Mapping, MayGoOn, None, Ok, Option, RawVault, Rows, Snap, SnapHead, Some, Stands, State, Store, TableId, TableRows, TablesStand, Window, [], added_to, all_windows, and_parts, ap, append-nil, are_dates_valid, are_windows_valid, arith}
+use Rattle.dv_restore.proofs.Vocabulary.{at_whole, backwards, compared_in, drop, entries_with, false, fewer_valid, full_at, hashes_of, head_of, heads_of_state, hub_names, inl, inr, is_valid, is_valid_state, is_window, item_in, last_in, last_load, late_after, length, length-append, length-map}
+use Rattle.dv_restore.proofs.Vocabulary.{load_order, loaded_batches, map, map-append, map-map, map_member, most_weight, most_windows, nat_le, nat_lt, nat_tests, newest_first, opened_in, option_to_list, partial, parts_at, parts_of_valid, passes_at, read_mapping, read_valid, refl, rest_in, reverse}
+use Rattle.dv_restore.proofs.Vocabulary.{reverse-append, reverse_member, row_count, rows_there, rows_weight, same_Some, same_parts, sealed_entry, sealed_of, snapshot, snapshot_heads, stored_entries, stored_vault, subst, sum_by, sym, table_entry, tables, tables_there, tables_weight, take}
+use Rattle.dv_restore.proofs.Vocabulary.{take-append-drop, true, undamaged_if_valid, vault, vault_weight, vault_with, weight_with, whole_in, window_batches, with_newest, ℕ, ◌++◌, ◌+◌, ◌<◌, ◌∙◌, ◌∷◌, ◌≡◌, ◌≤◌}
+use Rattle.dv_restore.proofs.{AllApart.partly_apart, HeldBatches.partly_added, LoadedRows.rows_left, OpenParts.all_counted, OpenParts.partly_opened, OpenParts.partly_weighs, StoredTables.read_partial, StoredTables.read_vault, Reopening.all_sealed}
 
 -- ---- the vault of the sealed windows
 

@@ -1,20 +1,6 @@
 -- What is read of a store before its raw tables, and with them, tells its first damage.
-use Rattle.dv_store_rules.proofs.Vocabulary.{List, None, Option, Some, ap, map, option_to_list, refl, sym, ℕ, ◌++◌, ◌∙◌, ◌≡◌}
-use Rattle.dv_store_rules.proofs.Vocabulary.{Hashes, Mapping, Store, Window, head_of}
-use Rattle.std.specs.Option.{option_map}
-use Rattle.dv_records.specs.declared.answers.Damage.{Damage}
-use Rattle.std.specs.Prelude.{IfSome, codes, true}
-use Rattle.dv_text.specs.declared.rows.WindowHead.{WindowHead}
-use Rattle.dv_catalog.specs.Tables.{tables}
-use Rattle.dv_records.specs.declared.stores.TableRows.{TableRows}
-use Rattle.dv_store_rules.specs.Damages.{damage_at, form_damage, head_damage, raw_damage, snapshot_damage, stage_damage, stage_damage_by, stored_entries}
-use Rattle.dv_store_rules.specs.Flaws.{if_broken}
-use Rattle.dv_store_rules.specs.StoredHeads.{head_flaw, is_stage}
-use Rattle.dv_vault.specs.Vaults.{RawVault}
-use Rattle.dv_restore.specs.Completions.{IsBegunAs, MayGoOn}
-use Rattle.dv_restore.specs.Damages.{KeepsF15}
-use Rattle.dv_restore.specs.Sealed.{sealed_of, sealed_vault, vault_of}
-use Rattle.dv_vault.specs.declared.begun.Begun.{Begun}
+use Rattle.dv_restore.proofs.Vocabulary.{Begun, Damage, Hashes, IfSome, IsBegunAs, KeepsF15, List, Mapping, MayGoOn, None, Option, RawVault, Some, Store, TableRows, Window, WindowHead, ap, codes, damage_at, form_damage, head_damage, head_flaw, head_of, if_broken, is_stage, map, option_map}
+use Rattle.dv_restore.proofs.Vocabulary.{option_to_list, raw_damage, refl, sealed_of, sealed_vault, snapshot_damage, stage_damage, stage_damage_by, stored_entries, sym, tables, true, vault_of, ℕ, ◌++◌, ◌∙◌, ◌≡◌}
 
 pub head_first : (mapping : Mapping) (hashes : Hashes) (width : ℕ) (store : Store) (damage : Damage) → head_damage mapping store ≡ Some damage → form_damage mapping hashes width store ≡ Some damage
 head_first mapping hashes width store damage e = rw e refl

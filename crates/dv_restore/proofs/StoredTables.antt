@@ -1,11 +1,7 @@
 -- The tables of a mapping as they are read of a store, which has the rows of tables.
-use Rattle.dv_vault.proofs.Vocabulary.{Bool, Contains, Contains-cons_cases, Contains-cons_here, Contains-cons_there, Contains-nil, HasTables, Hashes, IsVaultOf, List, Mapping, Store, TableId, TableRows, Window, [], and_parts, ap, are_apart}
-use Rattle.dv_vault.proofs.Vocabulary.{drop, false, false≢true, has_table, inl, inr, list_any, map, map-append, map-id, map-map, not, not-true, refl, rows_in, subst, same_table, some_passes_at, sym, table_entry, table_eq, table_eq-itself, tables, take}
-use Rattle.dv_vault.proofs.Vocabulary.{take-append-drop, true, vault, ℕ, ◌++◌, ◌∙◌, ◌∷◌, ◌≡◌, ◌||◌}
-use Rattle.dv_store_rules.specs.Damages.{stored_entries}
-use Rattle.dv_records.specs.Backwards.{Backwards, backwards, with_newest}
-use Rattle.dv_records.specs.Vault.{partial}
-use Rattle.dv_vault.proofs.TablesApart.{vault_apart}
+use Rattle.dv_restore.proofs.Vocabulary.{Backwards, Bool, Contains, Contains-cons_cases, Contains-cons_here, Contains-cons_there, Contains-nil, HasTables, Hashes, IsVaultOf, List, Mapping, Store, TableId, TableRows, Window, [], and_parts, ap, are_apart, backwards, drop, false, false≢true}
+use Rattle.dv_restore.proofs.Vocabulary.{has_table, inl, inr, list_any, map, map-append, map-id, map-map, not, not-true, partial, refl, rows_in, same_table, some_passes_at, stored_entries, subst, sym, table_entry, table_eq, table_eq-itself, tables, take, take-append-drop, true, vault}
+use Rattle.dv_restore.proofs.Vocabulary.{vault_apart, with_newest, ℕ, ◌++◌, ◌||◌, ◌∙◌, ◌∷◌, ◌≡◌}
 
 -- ---- entries
 

@@ -1,20 +1,9 @@
 -- The places of tables in table order, and how many tables of each kind stand before a place.
-use Rattle.std.proofs.Common.{rules}
-use Rattle.dv_store_rules.proofs.Vocabulary.{◌≡◌, ◌∙◌, ℕ, ◌+◌, ◌-◌, ◌<◌, ◌≤◌, true, false, List, [], ◌∷◌, ◌++◌, refl, sym, ap, subst, arith, inl, inr, cases_lt, get_or, length, length-append, list_all, list_any, map, map-append, passes_at, range_with_len, feed_tables, tables, is_of_feed, FeedDef}
-use Rattle.dv_store_rules.proofs.Vocabulary.{Mapping, TableId, TableRows, table_eq, no_rows, not, and_parts}
-use Rattle.dv_vault.proofs.Vocabulary.{all_pass_both, sat_tables, effect_tables, Contains-get_or, same_table, table_eq-itself, are_apart, not-true, none_passes, false≢true}
-use Rattle.dv_text.proofs.Vocabulary.{false_from_ne_true}
-use Rattle.dv_store_rules.proofs.Splits.{item_in}
-use Rattle.std.proofs.lemmas.List.FromFn.{get_or-map-range_with_len, length-map-range_with_len}
-use Rattle.std.proofs.lemmas.List.{get_or_append_left, get_or-append_right}
-use Rattle.dv_catalog.specs.declared.tables.TableId.TheVariants.{Hub as HubId, Link as LinkId, Sat, Multi, Status, Effect}
-use Rattle.dv_vault.proofs.TablesApart.{vault_apart}
-use Rattle.dv_vault.specs.declared.tables.Table.{Table}
-use Rattle.dv_vault.specs.declared.tables.Table.TheVariants as table
-use Rattle.dv_vault.specs.Vaults.{entry_of}
-use Rattle.dv_restore.specs.declared.gathered.Gathered.{Gathered}
-use Rattle.dv_restore.specs.Readings.{AreCounted, HasPut, IsPut}
+use Rattle.dv_restore.proofs.Vocabulary.{AreCounted, Contains-get_or, Effect, FeedDef, Gathered, HasPut, HubId, IsPut, LinkId, List, Mapping, Multi, Sat, Status, Table, TableId, TableRows, [], all_pass_both, and_parts, ap, are_apart, arith, cases_lt, effect_tables, entry_of, false}
+use Rattle.dv_restore.proofs.Vocabulary.{false_from_ne_true, false≢true, feed_tables, get_or, get_or-append_right, get_or-map-range_with_len, get_or_append_left, inl, inr, is_of_feed, item_in, length, length-append, length-map-range_with_len, list_all, list_any, map, map-append, no_rows}
+use Rattle.dv_restore.proofs.Vocabulary.{none_passes, not, not-true, passes_at, range_with_len, refl, rules, same_table, sat_tables, subst, sym, table_eq, table_eq-itself, tables, true, vault_apart, ℕ, ◌++◌, ◌+◌, ◌-◌, ◌<◌, ◌∙◌, ◌∷◌, ◌≡◌, ◌≤◌}
 use Rattle.dv_restore.proofs.GatheredEntries.{IsNext}
+use Rattle.dv_vault.specs.declared.tables.Table.TheVariants as table
 
 -- ---- the kind of a table by its place
 

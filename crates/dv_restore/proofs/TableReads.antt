@@ -1,17 +1,7 @@
 -- One raw table that is read: its rows are those that are stored, or its first flaw is theirs.
-use Rattle.dv_store_rules.proofs.Vocabulary.{◌≡◌, ◌∙◌, ℕ, Option, Some, None, refl, ap, subst, option_map, flaw_in, rows_in, tables_weight, table_name, Err, Ok, Result, Known, Mapping, Store, TableId, TellsRows, Told}
-use Rattle.dv_store_rules.specs.declared.pages.Read.{Read}
-use Rattle.dv_store_rules.specs.declared.pages.Read.TheVariants.{OtherKind, Rows as AllRows}
-use Rattle.dv_store_rules.proofs.Fronts.{clear_whole, read_tells}
+use Rattle.dv_restore.proofs.Vocabulary.{AllRows, Checked, Damage, Err, IfOk, Known, Mapping, None, Ok, Option, OtherKind, Read, Result, Some, Store, StoreFault, Table, TableId, TellsRows, Told, ap, clear_whole, damage_at, entry_of, flaw_in, flaw_read, option_map, read_tells, refl, rows_in}
+use Rattle.dv_restore.proofs.Vocabulary.{subst, table_name, tables_weight, ℕ, ◌∙◌, ◌≡◌}
 use Rattle.dv_store_rules.proofs.Fronts as fronts
-use Rattle.std.proofs.Common.{IfOk}
-use Rattle.dv_store_rules.specs.Damages.{damage_at}
-use Rattle.dv_store_rules.specs.declared.flaws.Checked.{Checked}
-use Rattle.dv_records.specs.declared.answers.Damage.{Damage}
-use Rattle.dv_vault.specs.declared.tables.Table.{Table}
-use Rattle.dv_vault.specs.Vaults.{entry_of}
-use Rattle.dv_restore.specs.declared.faults.StoreFault.{StoreFault}
-use Rattle.dv_restore.specs.Readings.{flaw_read}
 
 same_flaw : (before : Known) (id : TableId) (read : Read) → fronts.flaw_read before id read ≡ flaw_read before id read
 same_flaw before id (AllRows rows) = refl

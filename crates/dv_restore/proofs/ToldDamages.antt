@@ -1,12 +1,5 @@
 -- The damage of an open window, told from an error.
-use Rattle.dv_vault.proofs.Vocabulary.{ap, subst, sym, ◌≡◌}
-use Rattle.std.specs.Prelude.{Err}
-use Rattle.std.specs.Result.{IsErrAnd, IsErrOf}
-use Rattle.std.specs.declared.result.Result.{Result}
-use Rattle.dv_records.specs.declared.answers.Damage.{Damage}
-use Rattle.dv_restore.specs.Begins.{broken_window}
-use Rattle.dv_restore.specs.declared.faults.StoreFault.{StoreFault}
-use Rattle.dv_restore.specs.declared.faults.StoreFault.TheVariants.{Damaged}
+use Rattle.dv_restore.proofs.Vocabulary.{Damage, Damaged, Err, IsErrAnd, IsErrOf, Result, StoreFault, ap, broken_window, subst, sym, ◌≡◌}
 
 -- which damage an error tells of
 pub told_damage : {T : Type 0} (fault : StoreFault) (damage : Damage) → fault ≡ Damaged broken_window → IsErrOf {T = T} (Err fault) (Damaged damage) → damage ≡ broken_window

@@ -1,17 +1,9 @@
 -- Over the multi-active satellite of older extracts, what the newest one adds row by row is its batch.
-use Rattle.dv_sat.proofs.Vocabulary.{◌≡◌, ◌↔◌, ℕ, ◌==◌, ◌&&◌, Bool, true, false, Option, Some, None, List, [], ◌∷◌, refl, sym, ap, subst, arith, Contains, pointwise, Less, filter, filter_map, map, IsStrictlySortedBy, IsStrictlySortedBy-filter, Key, NRow, Hashes}
-use Rattle.dv_sat.proofs.Vocabulary.{refs_eq, row_eq, row_cmp, sorted_by, Contains-append_left, Contains-append_right, Contains-cons_here, Contains-cons_there, Contains-map, filtered_members, refs_total, row_total, tied_itself, nat_cmp_total, nat_list_cmp_total}
-use Rattle.dv_sat.proofs.Vocabulary.{bytes_eq, bytes_eq-Decides, and_parts, eqb-true, appended, IsApart, Extract, all_refs, delivers, lists_of, AreNewestFirst, is_changed, last_rows, rows_of, newest_first, none_loaded, all_up_to, batch_stamped}
-use Rattle.dv_sat.proofs.Vocabulary.{MultiRow, multi_batch, multi_change, multi_cmp, multi_delta, multi_order, multi_row}
+use Rattle.dv_sat.proofs.Vocabulary.{AllByRecursion, AreNewestFirst, Bool, Contains, Contains-append_left, Contains-append_right, Contains-cons_here, Contains-cons_there, Contains-map, Extract, Hashes, IsApart, IsNewestFirst, IsStrictlySortedBy, IsStrictlySortedBy-filter, IsTold, Key, Less, List}
+use Rattle.dv_sat.proofs.Vocabulary.{MultiRow, NRow, None, Option, Some, [], all_refs, all_up_to, all_valid_at, and_parts, ap, appended, arith, batch_stamped, bytes_eq, bytes_eq-Decides, delivers, described_row, eqb-true, false, filter, filter_map, filtered_members, has_load, is_changed}
+use Rattle.dv_sat.proofs.Vocabulary.{last_rows, lists_of, loaded_with, map, multi_batch, multi_change, multi_cmp, multi_delta, multi_order, multi_row, nat_cmp_total, nat_list_cmp_total, newest_first, none_loaded, pointwise, refl, refs_eq, refs_total, row_cmp, row_eq, row_total, rows_of}
+use Rattle.dv_sat.proofs.Vocabulary.{same_ascending, slice_cmp, sorted_by, subst, sym, tells, text_cmp, tied_itself, true, ℕ, ◌&&◌, ◌==◌, ◌↔◌, ◌∷◌, ◌≡◌}
 use Rattle.dv_sat.proofs.SatFollowing.{if_so}
-use Rattle.dv_records.proofs.MultiReconstruct.{tells}
-use Rattle.dv_records.specs.Reconstruction.{all_valid_at, described_row, loaded_with}
-use Rattle.dv_sat.specs.MultiRows.{has_load, IsTold}
-use Rattle.dv_text.proofs.SortedLists.{same_ascending}
-use Rattle.dv_records.proofs.Reversing.{IsNewestFirst}
-use Rattle.dv_text.specs.Orders.{text_cmp}
-use Rattle.std.specs.Cmp.Lexicographic.{slice_cmp}
-use Rattle.std.specs.List.{AllByRecursion}
 
 module _ (hashes : Hashes) (source : List ℕ) where
   -- a row of a batch has its extract's load date

@@ -1,8 +1,6 @@
 -- The rows that an extract's rows add to a multi-active satellite have the load date.
-use Rattle.dv_sat.proofs.Vocabulary.{◌≡◌, ℕ, List, sym, ap, Contains, NRow, Hashes, MultiRow, batch_of, batch_stamped, multi_cmp, multi_change}
+use Rattle.dv_sat.proofs.Vocabulary.{Contains, Hashes, List, MultiRow, NRow, all_valid_at, ap, are_same, batch_of, batch_stamped, multi_change, multi_cmp, sym, ℕ, ◌≡◌}
 use Rattle.dv_sat.proofs.SatFollowing.{if_not}
-use Rattle.dv_records.specs.Reconstruction.{all_valid_at}
-use Rattle.dv_sat.specs.MultiRows.{are_same}
 
 pub made_stamped : (hashes : Hashes) (source : List ℕ) (rows : List MultiRow) (load : ℕ) (staged things : List NRow) (row : MultiRow) → Contains (batch_of multi_cmp (multi_change hashes source rows load staged) things) row → row.load ≡ load
 made_stamped hashes source rows load staged =

@@ -1,11 +1,7 @@
 -- The multi-active satellite of extracts ascends, so what one more extract adds to it row by row is its batch.
-use Rattle.dv_sat.proofs.Vocabulary.{◌≡◌, ℕ, List, [], ◌∷◌, ◌++◌, subst, filter_map, Contains, Contains-append_right, Contains-cons_there, IsStrictlySortedBy, Hashes, ascending-sorted_by, all_refs, appended, IsApart, Extract, lists_of, AreNewestFirst, delta_follows}
-use Rattle.dv_sat.proofs.Vocabulary.{MultiRow, multi_batch, multi_change, multi_cmp, multi_delta, multi_order}
-use Rattle.dv_records.proofs.DatedRows.{none_later}
-use Rattle.dv_records.specs.Ranks.{multi_total}
-use Rattle.dv_sat.proofs.MultiDeltaBatch.{delta_is_batch, row_load}
-use Rattle.dv_sat.proofs.MultiFollowing.{made_stamped}
-use Rattle.dv_sat.specs.MultiRows.{IsTold}
+use Rattle.dv_sat.proofs.Vocabulary.{AreNewestFirst, Contains, Contains-append_right, Contains-cons_there, Extract, Hashes, IsApart, IsStrictlySortedBy, IsTold, List, MultiRow, [], all_refs, appended, ascending-sorted_by, delta_follows, filter_map, lists_of, multi_batch, multi_change, multi_cmp}
+use Rattle.dv_sat.proofs.Vocabulary.{multi_delta, multi_order, multi_total, none_later, subst, ℕ, ◌++◌, ◌∷◌, ◌≡◌}
+use Rattle.dv_sat.proofs.{MultiDeltaBatch.delta_is_batch, MultiDeltaBatch.row_load, MultiFollowing.made_stamped}
 
 module _ (hashes : Hashes) (source : List ℕ) where
   abbrev AreTold : List Extract → Type 0

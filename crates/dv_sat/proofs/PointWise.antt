@@ -1,6 +1,5 @@
 -- Whether lists are alike element by element.
-use Rattle.dv_sat.proofs.Vocabulary.{◌≡◌, ◌&&◌, Bool, true, false, List, [], ◌∷◌, length, refl, ap, arith, map, list_all, pointwise}
-use Rattle.std.specs.List.{zip}
+use Rattle.dv_sat.proofs.Vocabulary.{Bool, List, [], ap, arith, false, length, list_all, map, pointwise, refl, true, zip, ◌&&◌, ◌∷◌, ◌≡◌}
 
 module _ {X Y : Type 0} (same : Y → Y → Bool) (f : X → Y) where
   pub zipped : (xs : List X) (ys : List Y) → length xs ≡ length ys → pointwise same (map f xs) ys ≡ list_all (λ (x, y). same (f x) y) (zip xs ys)

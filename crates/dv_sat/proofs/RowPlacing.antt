@@ -1,10 +1,7 @@
 -- Where rows of a multi-active satellite stand: by load date, then by parent.
-use Rattle.dv_sat.proofs.Vocabulary.{◌≡◌, ◌==◌, ◌&&◌, ◌∙◌, ℕ, true, List, refl, Ordering, Less, Equal, Greater, is_lt, ordering_then, IsTotalOrder, IsSortedBy, IsStrictlySortedBy, then_total, on_total, nat_cmp, nat_cmp_total, nat_list_cmp_total, nat_cmp-IsAntisymmetric}
-use Rattle.dv_sat.proofs.Vocabulary.{slice_cmp-IsAntisymmetric, bytes_eq, bytes_eq-Decides, and_from, and_parts, eq-eqb, eqb-true, both_tied, tied_itself, digest_cmp, MultiRow, Place, multi_place, multi_order}
+use Rattle.dv_sat.proofs.Vocabulary.{Equal, Greater, IsSortedBy, IsStrictlySortedBy, IsTotalOrder, Less, List, MultiRow, Ordering, Place, and_from, and_parts, both_tied, bytes_eq, bytes_eq-Decides, digest_cmp, eq-eqb, eqb-true, is_lt, multi_order, multi_place, nat_cmp, nat_cmp-IsAntisymmetric}
+use Rattle.dv_sat.proofs.Vocabulary.{nat_cmp_total, nat_list_cmp_total, on_total, ordering_then, place_cmp, refl, slice_cmp, slice_cmp-IsAntisymmetric, text_cmp, then_total, tied_itself, true, ℕ, ◌&&◌, ◌==◌, ◌∙◌, ◌≡◌}
 use Rattle.dv_sat.proofs.Together.{not_less, sorted_by_key}
-use Rattle.dv_text.specs.Orders.{text_cmp}
-use Rattle.std.specs.Cmp.Lexicographic.{slice_cmp}
-use Rattle.dv_sat.specs.RowPlaces.{place_cmp}
 
 abbrev pub place_order : Place → Place → Ordering
 place_order a b = ordering_then (nat_cmp a.load b.load) (digest_cmp a.parent b.parent)

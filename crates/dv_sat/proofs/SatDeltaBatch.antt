@@ -1,8 +1,9 @@
 -- Over the satellite of older extracts, what the newest one adds row by row is its batch.
-use Rattle.dv_sat.proofs.Vocabulary.{◌≡◌, ◌⊎◌, inl, inr, ℕ, Bool, true, false, List, [], ◌∷◌, Option, Some, None, refl, sym, ◌∙◌, ap, subst, arith, Contains, not, ◌&&◌, pointwise, Less, filter_map, IsStrictlySortedBy, option_map}
-use Rattle.dv_sat.proofs.Vocabulary.{Contains-append_left, Contains-append_right, IsStrictlySortedBy-filter, Key, NRow, Hashes, refs_eq, row_eq, texts_eq, row_cmp, sorted_by, Contains-cons_here, Contains-cons_there, Contains-map}
-use Rattle.dv_sat.proofs.Vocabulary.{Contains-nil, filtered_members, refs_eq-Decides, row_total, texts_eq-Decides, irreflexive, some_passes, SatRow, appended, IsApart, Extract, all_refs, delivers, lists_of, AreNewestFirst, first_attrs}
-use Rattle.dv_sat.proofs.Vocabulary.{valid_at, is_changed, last_rows, rows_of, sat_batch, sat_cmp, sat_row, newest_first, none_loaded, tells, all_up_to, has_attrs, has_load, sat_change, sat_delta, IsPlain, batch_stamped}
+use Rattle.dv_sat.proofs.Vocabulary.{AreNewestFirst, Bool, Contains, Contains-append_left, Contains-append_right, Contains-cons_here, Contains-cons_there, Contains-map, Contains-nil, Extract, Hashes, IsApart, IsPlain, IsStrictlySortedBy, IsStrictlySortedBy-filter, Key, Less, List, NRow, None}
+use Rattle.dv_sat.proofs.Vocabulary.{Option, SatRow, Some, [], all_refs, all_up_to, ap, appended, arith, batch_stamped, delivers, false, filter_map, filtered_members, first_attrs, has_attrs, inl, inr, irreflexive, is_changed, last_rows, lists_of, newest_first, none_loaded, not, option_map}
+use Rattle.dv_sat.proofs.Vocabulary.{pointwise, refl, refs_eq, refs_eq-Decides, row_cmp, row_eq, row_total, rows_of, sat_batch, sat_change, sat_cmp, sat_delta, sat_row, some_passes, sorted_by, subst, sym, texts_eq, texts_eq-Decides, true, valid_at, ℕ, ◌&&◌, ◌∙◌, ◌∷◌, ◌≡◌, ◌⊎◌}
+use Rattle.dv_records.proofs.SatReconstruct.{tells}
+use Rattle.dv_sat.specs.SatRows.{has_load}
 use Rattle.dv_sat.proofs.SatFollowing.{if_so}
 
 module _ (hashes : Hashes) (source : List ℕ) where

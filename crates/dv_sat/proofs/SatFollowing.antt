@@ -1,5 +1,5 @@
 -- The row that an extract's row adds to a satellite has the load date.
-use Rattle.dv_sat.proofs.Vocabulary.{◌≡◌, if◌then◌else◌, ℕ, Bool, true, false, List, Some, None, sym, ap, Contains, IsTotalOrder, on_total, nat_list_cmp_total, NRow, Hashes, SatRow, batch_of, valid_at, sat_cmp, batch_stamped, has_attrs, sat_change}
+use Rattle.dv_sat.proofs.Vocabulary.{Bool, Contains, Hashes, IsTotalOrder, List, NRow, None, SatRow, Some, ap, batch_of, batch_stamped, false, has_attrs, if◌then◌else◌, nat_list_cmp_total, on_total, sat_change, sat_cmp, sym, true, valid_at, ℕ, ◌≡◌}
 
 pub sat_total : IsTotalOrder sat_cmp
 sat_total = on_total (λ (row : SatRow). row.parent) nat_list_cmp_total

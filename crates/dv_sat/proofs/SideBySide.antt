@@ -1,12 +1,5 @@
 -- Three lists side by side: where a loop over them ends.
-use Rattle.dv_sat.proofs.Vocabulary.{◌≡◌, ◌∙◌, ◌⊎◌, inl, inr, [], Option, None, refl, sym, ap, subst, length, length-map, map, nil_from_length}
-use Rattle.std.specs.Borrow.{Bor}
-use Rattle.std.specs.declared.iter.Zip.{Zip}
-use Rattle.std.specs.declared.slice.Iter.{Iter}
-use Rattle.std.specs.Iterator.Adapters.{zip_first, zip_second}
-use Rattle.std.specs.Slice.Iter.{iter_rest}
-use Rattle.std.proofs.lemmas.Fn.{fronts}
-use Rattle.std.proofs.lemmas.Iterator.{empty_from_Zip, zips}
+use Rattle.dv_sat.proofs.Vocabulary.{Bor, Iter, None, Option, Zip, [], ap, empty_from_Zip, fronts, inl, inr, iter_rest, length, length-map, map, nil_from_length, refl, subst, sym, zip_first, zip_second, zips, ◌∙◌, ◌≡◌, ◌⊎◌}
 
 -- none of the first is left, where the others tell something of each of it
 pub all_ended : {A B C D : Type 0} (key : A → B) (shown : C → D) (found : B → D) (s t : Zip (Zip (Iter A) (Iter B)) (Iter C)) (r : Option ((Bor A × Bor B) × Bor C)) → r ≡ None → zips (zips fronts fronts) fronts s r t

@@ -1,12 +1,7 @@
 -- Elements that stand together in a list: those that are neither before nor behind.
-use Rattle.dv_sat.proofs.Vocabulary.{◌≡◌, ◌∙◌, ◌++◌, ◌+◌, ◌≤◌, ◌<◌, ℕ, Bool, true, false, not, List, length, take, drop, sym, ap, subst, arith, append-nil, filter, get_or, refl, false≢true, Contains, Contains-append_left, filter-all, filter-none, filter-append, IsTotalOrder}
-use Rattle.dv_sat.proofs.Vocabulary.{Ordering, Less, Equal, Greater, is_lt, IsPartitionPoint, IsPartitionedBy, IsSortedBy, length-drop, IsStrictlySortedBy, Less-from_sorted, ordering_reverse, ordering_then}
-use Rattle.std.proofs.Common.{rules}
-use Rattle.std.specs.List.{AllWithin}
-use Rattle.std.specs.List.Sorted.{IsNonDecreasingBy}
-use Rattle.std.specs.Ordering.{is_gt, ordering_index}
-use Rattle.std.proofs.lemmas.List.{get_or-drop, get_or-take, length-take-le, take-append-drop}
-use Rattle.std.proofs.lemmas.List.Sorted.{searchable_from_sorted}
+use Rattle.dv_sat.proofs.Vocabulary.{AllWithin, Bool, Contains, Contains-append_left, Equal, Greater, IsNonDecreasingBy, IsPartitionPoint, IsPartitionedBy, IsSortedBy, IsStrictlySortedBy, IsTotalOrder, Less, Less-from_sorted, List, Ordering, ap, append-nil, arith, drop, false, false≢true, filter}
+use Rattle.dv_sat.proofs.Vocabulary.{filter-all, filter-append, filter-none, get_or, get_or-drop, get_or-take, is_gt, is_lt, length, length-drop, length-take-le, not, ordering_index, ordering_reverse, ordering_then, refl, rules, searchable_from_sorted, subst, sym, take, take-append-drop, true, ℕ}
+use Rattle.dv_sat.proofs.Vocabulary.{◌++◌, ◌+◌, ◌<◌, ◌∙◌, ◌≡◌, ◌≤◌}
 
 module _ {X : Type 0} (P : X → Type 0) (xs : List X) (n : ℕ) where
   among_first : n ≤ length xs → AllWithin P xs 0 n → (x : X) → Contains (take n xs) x → P x

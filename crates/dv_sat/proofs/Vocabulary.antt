@@ -1,51 +1,21 @@
 -- What the proofs of this crate, and of those above it, take from elsewhere.
-pub use Rattle.dv_text.proofs.Vocabulary.{Bool, Contains, Contains-append_cases, Contains-append_left, Contains-append_right, IsTotalOrder, List, None, Option, Some, [], ap, arith, false, filter_map, inl, inr, is_eq, is_lt, list_all, map, nat_le, nat_list_cmp_total, option_map, refl, refs_eq}
-pub use Rattle.dv_text.proofs.Vocabulary.{reverse, row_cmp}
-pub use Rattle.dv_text.proofs.Vocabulary.{row_eq, sorted_by, subst, sym, take, texts_eq, true, ℕ, ◌++◌, ◌<◌, ◌==◌, ◌∙◌, ◌∷◌, ◌≡◌, ◌⊎◌}
-pub use Rattle.dv_digest.specs.Fits.{attrs_fit}
-pub use Rattle.dv_index.proofs.Vocabulary.{Contains-cons_cases, Contains-cons_here, Contains-cons_there, always_returns_same, ascending-sorted_by, filter_map_member, find, list_all-map, not, ranks_by, rules}
-pub use Rattle.dv_records.proofs.Vocabulary.{AreNewestFirst, Contains-map, Contains-nil, Extract, Hashes, IsApart, IsOnePerList, all_refs, appended, batch_of, delivers, filtered_members, first_attrs, irreflexive, is_changed, last_rows, lists_of, member_before_sort, on_total, refs_eq-Decides}
-pub use Rattle.dv_records.proofs.Vocabulary.{if◌then◌else◌, row_total, rows_of, sat_batch, sat_cmp, sat_row, some_passes, source, texts_eq-Decides, up_to, valid_at, ◌&&◌}
-pub use Rattle.dv_catalog.proofs.Vocabulary.{bytes_eq, pointwise}
-pub use Rattle.dv_records.proofs.DatedRows.{batch_stamped, delta_follows, delta_stamped, found_up_to_last, in_load_order, last_load, newest_first, none_loaded}
-pub use Rattle.dv_records.proofs.LastChange.{all_up_to}
-pub use Rattle.dv_records.proofs.SatReconstruct.{tells}
-pub use Rattle.dv_records.specs.SatPlaces.{sat_place}
-pub use Rattle.dv_records.specs.declared.raw_rows.SatRow.{SatRow}
-pub use Rattle.dv_sat.specs.SatRows.{IsPlain, has_attrs, has_load, sat_change, sat_delta}
-pub use Rattle.dv_text.proofs.Members.{filter_map_more}
-pub use Rattle.dv_text.proofs.StableSorts.{firsts-sort_dedup}
-pub use Rattle.dv_text.specs.Keys.{hashes_of}
-pub use Rattle.dv_text.specs.declared.rows.Key.{Key}
-pub use Rattle.dv_text.specs.declared.rows.NRow.{NRow}
-pub use Rattle.std.proofs.lemmas.Fn.{dedup_same}
-pub use Rattle.std.proofs.lemmas.List.Elements.{All-map}
-pub use Rattle.std.proofs.lemmas.List.Kept.{IsStrictlySortedBy-filter}
+pub use Rattle.dv_catalog.proofs.Vocabulary.{zip}
+pub use Rattle.dv_digest.proofs.Vocabulary.{attrs_fit, hashes_of}
+pub use Rattle.dv_index.proofs.Vocabulary.{IsPartitionPoint, IsPartitionPoint-from_clause, IsPartitionedBy, IsSortedBy, get_or-drop, get_or-take, length-drop, length-map, length-take-le, list_all-map, nat_cmp_total, not, take-append-drop, text_cmp, then_total, tied_itself}
+pub use Rattle.dv_records.proofs.Vocabulary.{AllByRecursion, AreNewestFirst, Bool, Contains, Contains-append_left, Contains-append_right, Contains-cons_here, Contains-cons_there, Contains-map, Contains-nil, Extract, Hashes, IsApart, IsTotalOrder, List, None, Option, Place, Some, [], all_refs}
+pub use Rattle.dv_records.proofs.Vocabulary.{all_valid_at, and_from, and_parts, ap, append-nil, appended, arith, ascending-sorted_by, batch_of, both_tied, bytes_eq, bytes_eq-Decides, delivers, described_row, digest_cmp, drop, eq-eqb, eqb-true, false, false≢true, filter-all, filter-append}
+pub use Rattle.dv_records.proofs.Vocabulary.{filter-none, filter_map, filtered_members, find, first_attrs, get_or, if◌then◌else◌, inl, inr, irreflexive, is_changed, is_lt, last_rows, length, list_all, lists_of, loaded_with, map, multi_batch, multi_cmp, multi_row, multi_total, nat_cmp}
+pub use Rattle.dv_records.proofs.Vocabulary.{nat_cmp-IsAntisymmetric, nat_le, nat_list_cmp_total, nil_from_length, on_total, option_map, ordering_then, pointwise, refl, refs_cmp, refs_eq, refs_eq-Decides, refs_exact, refs_total, reverse, row_cmp, row_eq, row_total, rows_of, rules, same_ascending}
+pub use Rattle.dv_records.proofs.Vocabulary.{sat_batch, sat_cmp, sat_row, slice_cmp-IsAntisymmetric, some_passes, sorted_by, source, subst, sym, take, texts_eq, texts_eq-Decides, true, valid_at, ℕ, ◌&&◌, ◌++◌, ◌+◌, ◌<◌, ◌==◌, ◌↔◌, ◌∙◌, ◌∷◌, ◌≡◌, ◌≤◌, ◌⊎◌}
+pub use Rattle.dv_text.proofs.Vocabulary.{Less-from_sorted, filter, ordering_reverse, slice_cmp}
+pub use Rattle.dv_digest.proofs.Lengths.{attrs_text_fits}
+pub use Rattle.dv_records.proofs.{DatedRows.batch_stamped, DatedRows.delta_follows, DatedRows.delta_stamped, DatedRows.found_up_to_last, DatedRows.in_load_order, DatedRows.last_load, DatedRows.newest_first, DatedRows.none_later, DatedRows.none_loaded, LastChange.all_up_to, MultiReconstruct.tells}
+pub use Rattle.dv_records.proofs.{Reversing.IsNewestFirst}
+pub use Rattle.dv_records.specs.{MultiPlaces.multi_place, SatPlaces.sat_place}
+pub use Rattle.dv_records.specs.declared.{raw_rows.MultiRow.MultiRow, raw_rows.SatRow.SatRow}
+pub use Rattle.dv_sat.specs.{MultiRows.IsTold, MultiRows.are_same, MultiRows.has_load, MultiRows.multi_change, MultiRows.multi_delta, MultiRows.multi_order, RowPlaces.place_cmp, SatRows.IsPlain, SatRows.has_attrs, SatRows.sat_change, SatRows.sat_delta}
+pub use Rattle.dv_text.specs.declared.{rows.Key.Key, rows.NRow.NRow}
+pub use Rattle.std.proofs.{lemmas.Fn.fronts, lemmas.Iterator.empty_from_Zip, lemmas.Iterator.zips, lemmas.List.take_rest, lemmas.List.Elements.All-map, lemmas.List.Kept.IsStrictlySortedBy-filter, lemmas.List.Sorted.searchable_from_sorted}
+pub use Rattle.std.specs.{Borrow.Bor, Iterator.Adapters.zip_first, Iterator.Adapters.zip_second, List.AllWithin, List.Sorted.IsNonDecreasingBy, Ordering.is_gt, Ordering.ordering_index, Slice.Iter.iter_rest}
+pub use Rattle.std.specs.declared.{cmp.Ordering.Ordering, cmp.Ordering.TheVariants.Equal, cmp.Ordering.TheVariants.Greater, cmp.Ordering.TheVariants.Less, iter.Zip.Zip, slice.Iter.Iter}
 unfoldable pub use Rattle.std.specs.List.Sorted.{IsStrictlySortedBy}
-pub use Rattle.std.specs.declared.cmp.Ordering.TheVariants.{Less}
-pub use Rattle.std.proofs.Common.{◌+◌, ◌≤◌, length, drop, append-nil, filter}
-pub use Rattle.dv_text.proofs.Passing.{filter-all, filter-none}
-pub use Rattle.std.proofs.lemmas.List.Elements.{filter-append}
-pub use Rattle.dv_index.proofs.Vocabulary.{IsPartitionPoint, IsPartitionedBy, IsSortedBy, length-drop}
-pub use Rattle.std.proofs.Common.{◌<◌}
-pub use Rattle.std.specs.declared.cmp.Ordering.{Ordering}
-pub use Rattle.std.specs.declared.cmp.Ordering.TheVariants.{Equal, Greater}
-pub use Rattle.dv_records.proofs.Vocabulary.{false≢true, ordering_then}
-pub use Rattle.std.proofs.lemmas.Map.Keys.{Less-from_sorted}
-pub use Rattle.std.specs.Ordering.{ordering_reverse}
-pub use Rattle.std.proofs.Common.{get_or}
-pub use Rattle.dv_records.proofs.Vocabulary.{refs_cmp, refs_exact, refs_total}
-pub use Rattle.std.proofs.lemmas.Cmp.{tied_itself}
-pub use Rattle.std.proofs.lemmas.Cmp.{nat_cmp_total, then_total}
-pub use Rattle.dv_records.proofs.Vocabulary.{and_from, and_parts, both_tied, bytes_eq-Decides, eq-eqb, eqb-true, nat_cmp, nat_cmp-IsAntisymmetric, slice_cmp-IsAntisymmetric}
-pub use Rattle.dv_records.specs.MultiPlaces.{multi_place}
-pub use Rattle.dv_sat.specs.MultiRows.{multi_order}
-pub use Rattle.dv_records.specs.declared.raw_rows.MultiRow.{MultiRow}
-pub use Rattle.dv_index.specs.Places.{Place}
-pub use Rattle.dv_records.proofs.Vocabulary.{digest_cmp}
-pub use Rattle.dv_sat.specs.MultiRows.{multi_change, multi_delta}
-pub use Rattle.dv_records.specs.Satellites.{multi_batch, multi_cmp, multi_row}
-pub use Rattle.std.proofs.Common.{map}
-pub use Rattle.dv_records.proofs.Vocabulary.{◌↔◌}
-pub use Rattle.dv_text.proofs.Vocabulary.{length-map}
-pub use Rattle.std.proofs.lemmas.List.{nil_from_length}

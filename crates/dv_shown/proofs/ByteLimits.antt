@@ -1,5 +1,5 @@
 -- A mapping file within the limit of its bytes, and one past it.
-use Rattle.dv_shown.proofs.Vocabulary.{◌≡◌, ◌<◌, ◌≤◌, ℕ, nat_le, nat_lt, true, false, List, length, None, refl, arith, Err, codes, nat_tests, document_of, mapping_document, manifest_in, manifest_or_text}
+use Rattle.dv_shown.proofs.Vocabulary.{Err, List, None, arith, codes, document_of, false, length, manifest_in, manifest_or_text, mapping_document, nat_le, nat_lt, nat_tests, refl, true, ℕ, ◌<◌, ◌≡◌, ◌≤◌}
 
 at_most : (n most : ℕ) → n ≤ most → nat_le n most ≡ true
 at_most n most h = grind (arith, nat_tests)

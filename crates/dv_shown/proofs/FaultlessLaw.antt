@@ -1,13 +1,11 @@
 -- An outline whose mapping is valid has its form, and no check refuses it.
-use Rattle.dv_shown.proofs.Vocabulary.{◌≡◌, ◌⊎◌, inl, inr, ℕ, zero, suc, ◌+◌, ◌<◌, ◌≤◌, Bool, true, false, not, ◌&&◌, ◌||◌, ◌==◌, List, [], ◌∷◌, ◌++◌, find, get_or, length, map, nat_eq, nat_lt, Option, Some, None, refl, sym, ◌∙◌, ap, subst}
-use Rattle.dv_shown.proofs.Vocabulary.{arith, if◌then◌else◌, Contains, is_none, is_some, option_and_then, slice_get, filter_map, flat_map, list_all, list_any, position_or_len, range_with_len, option_map, option_map_or, option_or, bytes_eq}
-use Rattle.dv_shown.proofs.Vocabulary.{and_from, and_parts, eq-eqb, eqb-true, ltb-true, le-leb, not-true, or_parts, nat_tests, length-map, map-append, list_any-append, Contains-append_cases, Contains-get_or, get_or-range_with_len}
-use Rattle.dv_shown.proofs.Vocabulary.{length-range_with_len, slice_get_read, map-map, bytes_eq-Decides, Contains-cons_cases, Contains-cons_here, Contains-cons_there, Contains-map, Contains-nil, filter_map_member, flat_map_member}
-use Rattle.dv_shown.proofs.Vocabulary.{map_member, none_from, or_none, all_pass, find_none, found_member, list_any-map, none_pass, passes_at, some_passes, some_passes_at, MapError, FeedOutline, HubOutline, LinkOutline, Outline, ParentName}
-use Rattle.dv_shown.proofs.Vocabulary.{Hub, Link, PathOutline, first_of, has_column_form, has_name_form, is_within, most_columns, most_ignored, most_parts, most_references, most_steps, again, again_after, is_among, number_twice, text_twice}
-use Rattle.dv_shown.proofs.Vocabulary.{are_joined_by, are_some_places, feed_def, feed_place, has_number, has_shape, hub_def, hub_place, is_declared, is_hub, is_link, is_link_feed, is_of_link, is_place_of_step, is_valid, link_def}
-use Rattle.dv_shown.proofs.Vocabulary.{link_place, mapping_of, parent_def, path_def, reference_place, valid_feed, valid_hub, valid_link, valid_parts, valid_path, ValidFeed, ValidHub, ValidLink, ValidPath, passes_at_place, place_under}
-use Rattle.dv_shown.proofs.Vocabulary.{same_place, columns_fit, hubs_of_parent, is_step, places_of_step, rules, common_steps}
+use Rattle.dv_shown.proofs.Vocabulary.{Bool, Contains, Contains-append_cases, Contains-cons_cases, Contains-cons_here, Contains-cons_there, Contains-get_or, Contains-map, Contains-nil, FeedOutline, Hub, HubOutline, Link, LinkOutline, List, MapError, None, Option, Outline, ParentName, PathOutline}
+use Rattle.dv_shown.proofs.Vocabulary.{Some, ValidFeed, ValidHub, ValidLink, ValidPath, [], again, again_after, all_pass, and_from, and_parts, ap, are_joined_by, are_some_places, arith, bytes_eq, bytes_eq-Decides, columns_fit, common_steps, eq-eqb, eqb-true, false, feed_def, feed_place}
+use Rattle.dv_shown.proofs.Vocabulary.{filter_map, filter_map_member, find, find_none, first_of, flat_map, flat_map_member, found_member, get_or, get_or-range_with_len, has_column_form, has_name_form, has_number, has_shape, hub_def, hub_place, hubs_of_parent, if◌then◌else◌, inl, inr, is_among}
+use Rattle.dv_shown.proofs.Vocabulary.{is_declared, is_hub, is_link, is_link_feed, is_none, is_of_link, is_place_of_step, is_some, is_step, is_valid, is_within, le-leb, length, length-map, length-range_with_len, link_def, link_place, list_all, list_any, list_any-append, list_any-map, ltb-true}
+use Rattle.dv_shown.proofs.Vocabulary.{map, map-append, map-map, map_member, mapping_of, most_columns, most_ignored, most_parts, most_references, most_steps, nat_eq, nat_lt, nat_tests, none_from, none_pass, not, not-true, number_twice, option_and_then, option_map, option_map_or, option_or}
+use Rattle.dv_shown.proofs.Vocabulary.{or_none, or_parts, parent_def, passes_at, passes_at_place, path_def, place_under, places_of_step, position_or_len, range_with_len, reference_place, refl, rules, same_place, slice_get, slice_get_read, some_passes, some_passes_at, subst, suc, sym, text_twice}
+use Rattle.dv_shown.proofs.Vocabulary.{true, valid_feed, valid_hub, valid_link, valid_parts, valid_path, zero, ℕ, ◌&&◌, ◌++◌, ◌+◌, ◌<◌, ◌==◌, ◌||◌, ◌∙◌, ◌∷◌, ◌≡◌, ◌≤◌, ◌⊎◌}
 use Rattle.dv_catalog.specs.Checks as spec
 
 -- ---- tests

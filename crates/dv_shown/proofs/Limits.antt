@@ -1,5 +1,5 @@
 -- Numbers at a limit and past it, and the weight of snapshots with one more.
-use Rattle.dv_shown.proofs.Vocabulary.{◌≡◌, ◌<◌, ◌≤◌, ℕ, nat_le, nat_lt, true, false, [], ◌∷◌, ◌++◌, arith, nat_tests, sum_by-append, Hashes, Mapping, State, snapshots_weight, weight_with, rules}
+use Rattle.dv_shown.proofs.Vocabulary.{Hashes, Mapping, State, [], arith, false, nat_le, nat_lt, nat_tests, rules, snapshots_weight, sum_by-append, true, weight_with, ℕ, ◌++◌, ◌<◌, ◌∷◌, ◌≡◌, ◌≤◌}
 
 pub at_most : (n most : ℕ) → n ≤ most → nat_le n most ≡ true
 at_most n most h = grind (arith, nat_tests)

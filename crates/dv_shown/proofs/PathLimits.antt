@@ -1,15 +1,8 @@
 -- A path's rows at their limit and past it.
-use Rattle.dv_shown.proofs.Vocabulary.{◌≡◌, ◌∙◌, ℕ, ◌+◌, ◌<◌, ◌≤◌, Bool, true, false, List, [], ◌∷◌, Option, Some, Ok, Err, Result, ap, arith, get_or, get_or-range_with_len, length, length-range_with_len, list_any, nat_lt, nat_tests, range_with_len, refl, slice_get, subst, sym}
-use Rattle.dv_catalog.specs.declared.entries.PathDef.{PathDef}
-use Rattle.dv_mart.specs.MartTexts.{bridge_text_by, if_not_too_large, mart_text, path_text_by}
-use Rattle.dv_mart.specs.declared.query_rules.QueryRule.{QueryRule}
-use Rattle.dv_mart.specs.declared.query_rules.QueryRule.TheVariants.{TooLarge}
-use Rattle.dv_mart.specs.declared.whats.What.TheVariants.{Bridge, Path}
-use Rattle.dv_records.specs.Steps.{is_too_large}
+use Rattle.dv_shown.proofs.Vocabulary.{Asked, Bool, Bridge, Err, List, Ok, Option, Path, PathDef, PathLimitsHold, QueryRule, Result, Some, TooLarge, [], ap, arith, bridge_text_by, cond, false, get_or, get_or-range_with_len, if_not_too_large, is_too_large, length, length-range_with_len, list_any}
+use Rattle.dv_shown.proofs.Vocabulary.{list_any_at, mart_text, nat_lt, nat_tests, path_text_by, range_with_len, refl, slice_get, subst, sym, true, ℕ, ◌+◌, ◌<◌, ◌∙◌, ◌∷◌, ◌≡◌, ◌≤◌}
 use Rattle.dv_shown.proofs.Limits.{is_above, not_above}
-use Rattle.dv_shown.specs.PathLimits.{Asked, PathLimitsHold, row_count}
-use Rattle.std.proofs.lemmas.List.Folds.{list_any_at}
-use Rattle.std.specs.Prelude.{cond}
+use Rattle.dv_shown.specs.PathLimits.{row_count}
 
 none_passes : {X : Type 0} (test : X → Bool) → ((x : X) → test x ≡ false) → (xs : List X) → list_any test xs ≡ false
 none_passes test none [] = refl

@@ -1,6 +1,6 @@
 -- The rule of records is that of the least record that breaks one.
-use Rattle.dv_shown.proofs.Vocabulary.{◌≡◌, ℕ, zero, suc, ◌+◌, ◌<◌, ◌≤◌, List, [], ◌∷◌, ◌++◌, length, map, take, Option, Some, None, refl, ap, subst, arith, append_assoc, append-nil, option_and_then, slice_get, option_or, cases_lt}
-use Rattle.dv_shown.proofs.Vocabulary.{length-append, length_push, map-append, FeedDef, first_of, record_rule, records_rule, row_of, rule_at, IsAtLeast, rules}
+use Rattle.dv_shown.proofs.Vocabulary.{FeedDef, IsAtLeast, List, None, Option, Some, [], ap, append-nil, append_assoc, arith, cases_lt, first_of, length, length-append, length_push, map, map-append, option_and_then, option_or, record_rule, records_rule, refl, row_of, rule_at, rules, slice_get}
+use Rattle.dv_shown.proofs.Vocabulary.{subst, suc, take, zero, ℕ, ◌++◌, ◌+◌, ◌<◌, ◌∷◌, ◌≡◌, ◌≤◌}
 
 -- the same from a place on
 abbrev LeastFrom : {R : Type 0} → (ℕ → Option R) → ℕ → ℕ → Option R → Type 0

@@ -9,7 +9,7 @@ use Rattle.dv_records.specs.Marts.{contents, path_mart, prefix_rows}
 use Rattle.dv_records.specs.Snapshots.{bridge}
 use Rattle.dv_mart.specs.MartTexts.{mart_text}
 use Rattle.dv_print.specs.Texts.{bridge_text, path_text}
-use Rattle.dv_mart.specs.declared.query_rules.QueryRule.TheVariants.{TooLarge}
+use Rattle.dv_print.specs.declared.query_rules.QueryRule.TheVariants.{TooLarge}
 use Rattle.dv_mart.specs.declared.whats.What.TheVariants.{Bridge, Path}
 
 -- a path of a mapping, what it is asked of, and at which date

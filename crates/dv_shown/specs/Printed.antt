@@ -2,8 +2,8 @@
 use Rattle.std.specs.Prelude.{◌≡◌, [], ◌∷◌, Some, None, codes}
 use Rattle.dv_catalog.specs.declared.rules.Rule.TheVariants as rule
 use Rattle.dv_catalog.specs.RuleTexts.{rule_text}
-use Rattle.dv_mart.specs.declared.query_rules.QueryRule.TheVariants as query
-use Rattle.dv_mart.specs.QueryTexts.{query_text}
+use Rattle.dv_print.specs.declared.query_rules.QueryRule.TheVariants as query
+use Rattle.dv_print.specs.QueryTexts.{query_text}
 use Rattle.dv_shown.specs.Answered.{site}
 use Rattle.dv_shown.specs.Words.{day, key}
 

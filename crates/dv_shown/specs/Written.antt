@@ -7,7 +7,7 @@ use Rattle.dv_records.specs.Vault.{partial, vault}
 use Rattle.dv_mart.specs.MartTexts.{mart_text}
 use Rattle.dv_print.specs.Texts.{windows_text}
 use Rattle.dv_mart.specs.Whats.{what_of, offered_mart}
-use Rattle.dv_mart.specs.declared.query_rules.QueryRule.{QueryRule}
+use Rattle.dv_print.specs.declared.query_rules.QueryRule.{QueryRule}
 use Rattle.dv_mart.specs.declared.whats.What.{What}
 use Rattle.dv_mart.specs.declared.whats.What.TheVariants.{Feed, Hub, Path, Period, Table, Pit, Bridge}
 use Rattle.dv_shown.specs.Digested.{md5_hashes}

@@ -1,5 +1,5 @@
 -- Columns among names: the mapped columns are those of the keys, then the sub, then the attributes.
-use Rattle.dv_stage.proofs.Vocabulary.{◌≡◌, ◌+◌, ◌∷◌, ◌++◌, ◌||◌, ℕ, List, [], Some, Bool, drop, refl, ap, ◌∙◌, find, flat_map, bytes_eq, list_any, slice_get, option_or, find-append, list_any-append, FeedDef, known_columns, mapped_columns, is_among, drop_got}
+use Rattle.dv_stage.proofs.Vocabulary.{Bool, FeedDef, List, Some, [], ap, bytes_eq, drop, drop_got, find, find-append, flat_map, is_among, known_columns, list_any, list_any-append, mapped_columns, option_or, refl, slice_get, ℕ, ◌++◌, ◌+◌, ◌||◌, ◌∙◌, ◌∷◌, ◌≡◌}
 
 pub list_any-flat_map : {X : Type 0} (test : X → Bool) (lists : List (List X)) → list_any test (flat_map (λ xs. xs) lists) ≡ list_any (λ xs. list_any test xs) lists
 list_any-flat_map test [] = refl

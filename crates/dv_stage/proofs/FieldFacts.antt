@@ -1,5 +1,5 @@
 -- The fields of a record by their places.
-use Rattle.dv_stage.proofs.Vocabulary.{◌≡◌, ◌∷◌, ℕ, zero, suc, List, [], refl, slice_get, field_at}
+use Rattle.dv_stage.proofs.Vocabulary.{List, [], field_at, refl, slice_get, suc, zero, ℕ, ◌∷◌, ◌≡◌}
 
 pub field_at-slice_get : (fields : List (List ℕ)) (i : ℕ) → field_at fields i ≡ slice_get fields i
 unfolding field_at

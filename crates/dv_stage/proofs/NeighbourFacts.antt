@@ -1,8 +1,7 @@
 -- Rows in order, none of which has the name of the one before it, have no rivals.
-use Rattle.dv_stage.proofs.Vocabulary.{◌≡◌, ◌<◌, ℕ, List, Option, Some, None, true, false, length, get_or, refl, sym, Contains, is_some, slice_cmp, IsStrictlySortedBy, ordering_then, Less, and_parts, false_from_ne_true, refs_eq, texts_eq, row_cmp, text_cmp, NRow, refs_eq-Decides, refs_exact}
-use Rattle.dv_stage.proofs.Vocabulary.{refs_total, texts_eq-Decides, texts_exact, texts_total, are_rivals, first_neighbour, HasNoRivals, repeats_name, share_name}
-use Rattle.dv_stage.proofs.Neighbouring.{by_places, none_pass, tied}
-use Rattle.dv_stage.proofs.RivalFacts.{no_rival_of_itself, rival_parts, rivals-turned}
+use Rattle.dv_stage.proofs.Vocabulary.{Contains, HasNoRivals, IsStrictlySortedBy, Less, List, NRow, None, Option, Some, and_parts, are_rivals, false, false_from_ne_true, first_neighbour, get_or, is_some, length, ordering_then, refl, refs_eq, refs_eq-Decides, refs_exact, refs_total, repeats_name}
+use Rattle.dv_stage.proofs.Vocabulary.{row_cmp, share_name, slice_cmp, sym, text_cmp, texts_eq, texts_eq-Decides, texts_exact, texts_total, true, ℕ, ◌<◌, ◌≡◌}
+use Rattle.dv_stage.proofs.{Neighbouring.by_places, Neighbouring.none_pass, Neighbouring.tied, RivalFacts.no_rival_of_itself, RivalFacts.rival_parts, RivalFacts.rivals-turned}
 
 -- rows of one name have the same references and the same sub
 one_name : (a b : NRow) → a.refs ≡ b.refs → a.sub ≡ b.sub → share_name a b ≡ true

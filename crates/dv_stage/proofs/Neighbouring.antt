@@ -1,6 +1,6 @@
 -- Neighbours that pass a test, and what they say of a list in order.
-use Rattle.dv_stage.proofs.Vocabulary.{◌≡◌, ℕ, zero, suc, ◌+◌, ◌-◌, ◌<◌, ◌≤◌, ◌⊎◌, inl, inr, Bool, true, false, cond, List, [], ◌∷◌, Some, None, length, get_or, drop, refl, sym, ◌∙◌, ap, subst, arith, length-drop, Contains, Ordering, Less, Equal, IsTotalOrder, tied_back, IsStrictlySortedBy}
-use Rattle.dv_stage.proofs.Vocabulary.{ordering_then, both_ways, cases_eq, cases_order, get_or_default, Less-from_sorted, same_Some, slice_get_read, asymmetric, less_equal, then_less, first_neighbour, drop_got}
+use Rattle.dv_stage.proofs.Vocabulary.{Bool, Contains, Equal, IsStrictlySortedBy, IsTotalOrder, Less, Less-from_sorted, List, None, Ordering, Some, [], ap, arith, asymmetric, both_ways, cases_eq, cases_order, cond, drop, drop_got, false, first_neighbour, get_or, get_or_default, inl, inr, length}
+use Rattle.dv_stage.proofs.Vocabulary.{length-drop, less_equal, ordering_then, refl, same_Some, slice_get_read, subst, suc, sym, then_less, tied_back, true, zero, ℕ, ◌+◌, ◌-◌, ◌<◌, ◌∙◌, ◌∷◌, ◌≡◌, ◌≤◌, ◌⊎◌}
 
 module _ {X : Type 0} (test : X → X → Bool) where
   -- a loop's step, at the places h and i

@@ -1,8 +1,8 @@
 -- Driving keys that stand beside themselves in a list in order.
-use Rattle.dv_stage.proofs.Vocabulary.{◌≡◌, ◌<◌, ◌∷◌, ℕ, suc, get_or, List, [], Some, None, Bool, true, false, length, refl, sym, ap, ◌∙◌, subst, inl, inr, ◌⊎◌, ◌↔◌, not, arith, map, Contains, filter, slice_get, list_any, IsTotalOrder, tied_itself, IsAntisymmetric, IsStrictlySortedBy}
-use Rattle.dv_stage.proofs.Vocabulary.{ordering_reverse, ordering_then, Ordering, Less, Equal, Greater, and_parts, both_ways, cases_order, false_from_ne_true, not-true, Contains-get_or, Less-from_sorted, made_of, none_before_map, refs_eq, refs_cmp, sorted_by, Key, NRow, refs_eq-Decides}
-use Rattle.dv_stage.proofs.Vocabulary.{refs_exact, refs_total, Contains-cons_cases, Contains-cons_here, Contains-map, filtered_members, map_member, member_of_all, greater_equal, less_equal, less_greater, then_less, some_passes, some_passes_at, filter-none, ascending-sorted_by, member_after_sort}
-use Rattle.dv_stage.proofs.Vocabulary.{member_before_sort, FeedDef, driver_keys, part_ways, shared_drivers, Partner, first_pair, partner_cmp, partner_of, share_driver, first_neighbour}
+use Rattle.dv_stage.proofs.Vocabulary.{Bool, Contains, Contains-cons_cases, Contains-cons_here, Contains-get_or, Contains-map, Equal, FeedDef, Greater, IsAntisymmetric, IsStrictlySortedBy, IsTotalOrder, Key, Less, Less-from_sorted, List, NRow, None, Ordering, Partner, Some, [], and_parts, ap}
+use Rattle.dv_stage.proofs.Vocabulary.{arith, ascending-sorted_by, both_ways, cases_order, driver_keys, false, false_from_ne_true, filter, filter-none, filtered_members, first_neighbour, first_pair, get_or, greater_equal, inl, inr, length, less_equal, less_greater, list_any, made_of, map}
+use Rattle.dv_stage.proofs.Vocabulary.{map_member, member_after_sort, member_before_sort, member_of_all, none_before_map, not, not-true, ordering_reverse, ordering_then, part_ways, partner_cmp, partner_of, refl, refs_cmp, refs_eq, refs_eq-Decides, refs_exact, refs_total, share_driver}
+use Rattle.dv_stage.proofs.Vocabulary.{shared_drivers, slice_get, some_passes, some_passes_at, sorted_by, subst, suc, sym, then_less, tied_itself, true, ℕ, ◌<◌, ◌↔◌, ◌∙◌, ◌∷◌, ◌≡◌, ◌⊎◌}
 use Rattle.dv_stage.proofs.Neighbouring.{by_places, first_neighbour-is, IsFirstNeighbour, none_pass, passes_next, tied}
 
 refs_cmp-same : (a b : List Key) → a ≡ b → refs_cmp a b ≡ Equal

@@ -1,6 +1,6 @@
 -- The list of all records of a text, from its records one by one.
-use Rattle.dv_stage.proofs.Vocabulary.{◌≡◌, ◌≤◌, ◌-◌, ◌∷◌, ◌++◌, ℕ, List, [], length, Some, None, true, false, Bool, refl, subst, arith, ◌&&◌, ◌==◌, if◌then◌else◌, same_Some, Read, next_record, ends_at_end, is_end, step, fields_after, field_after}
-use Rattle.dv_stage.proofs.Vocabulary.{is_byte, ends_with, after_end, in_field, start_field, start_record, carriage_return, line_feed, Config, Terminator, State, Action}
+use Rattle.dv_stage.proofs.Vocabulary.{Action, Bool, Config, List, None, Read, Some, State, Terminator, [], after_end, arith, carriage_return, ends_at_end, ends_with, false, field_after, fields_after, if◌then◌else◌, in_field, is_byte, is_end, length, line_feed, next_record, refl, same_Some}
+use Rattle.dv_stage.proofs.Vocabulary.{start_field, start_record, step, subst, true, ℕ, ◌&&◌, ◌++◌, ◌-◌, ◌==◌, ◌∷◌, ◌≡◌, ◌≤◌}
 use Rattle.csv.specs.declared.parser.Terminator.TheVariants as term
 use Rattle.csv.specs.declared.parser.State.TheVariants as st
 use Rattle.csv.specs.declared.parser.Action.TheVariants as act

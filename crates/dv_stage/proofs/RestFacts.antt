@@ -1,6 +1,6 @@
 -- The records that are left, one by one: what a loop over a reader's records goes by.
-use Rattle.dv_stage.proofs.Vocabulary.{Bor, ◌≡◌, ◌<◌, ◌∷◌, ℕ, zero, suc, List, [], length, Option, Some, None, true, false, refl, sym, ap, arith, ◌∙◌, inl, Read, next_record, ends_at_end, ReadRecord, Reached, default_config, records_from, records_next, source_of, Config}
-use Rattle.dv_stage.proofs.Vocabulary.{State, Reader, rows-end, rows-more, none-some, IsSome, IsExtractReader, bytes_left, records_left, rest_records}
+use Rattle.dv_stage.proofs.Vocabulary.{Bor, Config, IsExtractReader, IsSome, List, None, Option, Reached, Read, ReadRecord, Reader, Some, State, [], ap, arith, bytes_left, default_config, ends_at_end, false, inl, length, next_record, none-some, records_from, records_left, records_next, refl}
+use Rattle.dv_stage.proofs.Vocabulary.{rest_records, rows-end, rows-more, source_of, suc, sym, true, zero, ℕ, ◌<◌, ◌∙◌, ◌∷◌, ◌≡◌}
 use Rattle.dv_stage.proofs.RecordsFacts.{next_record-takes}
 
 has_byte : (cfg : Config) (s : State) (xs : List ℕ) (p : Read) → ends_at_end s ≡ false → next_record cfg s [] [] xs ≡ Some p → 0 < length xs

@@ -1,7 +1,7 @@
 -- Names of rows, the first row of each name, and the first rival of a row.
-use Rattle.dv_stage.proofs.Vocabulary.{◌≡◌, ◌∷◌, ◌++◌, ℕ, List, [], Some, None, Bool, true, false, length, refl, sym, ap, ◌∙◌, subst, inl, inr, ◌⊎◌, ◌&&◌, not, cond, Contains, position, BTreeMap, Updates, get, tied_then, slice_cmp, slice_get, option_or, is_eq, and_parts, both_ways}
-use Rattle.dv_stage.proofs.Vocabulary.{false_from_ne_true, not-true, Contains-push_cases, same_Some, refs_eq, texts_eq, refs_cmp, text_cmp, NRow, refs_eq-Decides, refs-tie, texts_eq-Decides, texts-tie, option_or-none, are_rivals, RowName, TakenRows, HasNoRivals, IsFirsts, IsTakenRows, is_named}
-use Rattle.dv_stage.proofs.Vocabulary.{name_cmp, name_of, found_at, none_placed, placed_narrower, position-last, unplaced}
+use Rattle.dv_stage.proofs.Vocabulary.{BTreeMap, Bool, Contains, Contains-push_cases, HasNoRivals, IsFirsts, IsTakenRows, List, NRow, None, RowName, Some, TakenRows, Updates, [], and_parts, ap, are_rivals, both_ways, cond, false, false_from_ne_true, found_at, get, inl, inr, is_eq, is_named}
+use Rattle.dv_stage.proofs.Vocabulary.{length, name_cmp, name_of, none_placed, not, not-true, option_or, option_or-none, placed_narrower, position, position-last, refl, refs-tie, refs_cmp, refs_eq, refs_eq-Decides, same_Some, slice_cmp, slice_get, subst, sym, text_cmp, texts-tie, texts_eq}
+use Rattle.dv_stage.proofs.Vocabulary.{texts_eq-Decides, tied_then, true, unplaced, ℕ, ◌&&◌, ◌++◌, ◌∙◌, ◌∷◌, ◌≡◌, ◌⊎◌}
 
 -- a row has a name where its own name ties with it
 named-tie : (row : NRow) (name : RowName) → is_eq (name_cmp (name_of row) name) ≡ is_named name row

@@ -1,7 +1,6 @@
 -- The fields at places: one place more, and the row by the places of a feed's columns.
-use Rattle.dv_stage.proofs.Vocabulary.{IfOk-weaker, ◌≡◌, ◌+◌, ◌<◌, ◌∷◌, ◌++◌, ℕ, List, [], Option, Some, None, length, take, map, get_or, refl, ap, ◌∙◌, filter_map, option_and_then, option_to_list, cons_option, slice_get, map-append, norm_field, norm_key, filter_map_more, FeedDef, fields_under}
-use Rattle.dv_stage.proofs.Vocabulary.{key_under}
-use Rattle.dv_stage.proofs.Vocabulary.{place_of, row_of, Layout, IsLayoutOf, fields_at, key_at, places_of, row_at}
+use Rattle.dv_stage.proofs.Vocabulary.{FeedDef, IfOk-weaker, IsLayoutOf, Layout, List, None, Option, Some, [], ap, cons_option, fields_at, fields_under, filter_map, filter_map_more, get_or, key_at, key_under, length, map, map-append, norm_field, norm_key, option_and_then, option_to_list}
+use Rattle.dv_stage.proofs.Vocabulary.{place_of, places_of, refl, row_at, row_of, slice_get, take, ℕ, ◌++◌, ◌+◌, ◌<◌, ◌∙◌, ◌∷◌, ◌≡◌}
 
 -- what stands at one place more
 pub map-filter_map-more : {X Y Z : Type 0} (g : Y → Z) (f : X → Option Y) (xs : List X) (i : ℕ) (d : X) → i < length xs

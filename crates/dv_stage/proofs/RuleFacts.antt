@@ -1,6 +1,6 @@
 -- The rules of a record in their order.
-use Rattle.dv_stage.proofs.Vocabulary.{◌≡◌, ℕ, List, [], ◌∷◌, Option, Some, None, Bool, false, ◌||◌, refl, ap, filter_map, slice_get, list_any, cons_option, option_map_or, option_or, is_missing, NRow, option_or-none, FeedDef, Rule, driver_keys, empty_key, field_long, not_utf8, ragged}
-use Rattle.dv_stage.proofs.Vocabulary.{record_rule, row_of, too_many_rows, two_rows, own_rule}
+use Rattle.dv_stage.proofs.Vocabulary.{Bool, FeedDef, List, NRow, None, Option, Rule, Some, [], ap, cons_option, driver_keys, empty_key, false, field_long, filter_map, is_missing, list_any, not_utf8, option_map_or, option_or, option_or-none, own_rule, ragged, record_rule, refl, row_of, slice_get}
+use Rattle.dv_stage.proofs.Vocabulary.{too_many_rows, two_rows, ℕ, ◌||◌, ◌∷◌, ◌≡◌}
 
 list_any-filter_map : {X Y : Type 0} (test : Y → Bool) (f : X → Option Y) (xs : List X) → list_any test (filter_map f xs) ≡ list_any (λ x. option_map_or test (f x) false) xs
 list_any-filter_map test f [] = refl

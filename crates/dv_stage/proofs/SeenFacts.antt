@@ -1,5 +1,5 @@
 -- Names that were seen, held in a set.
-use Rattle.dv_stage.proofs.Vocabulary.{◌≡◌, ◌+◌, [], ◌∷◌, ◌++◌, ◌||◌, ℕ, List, drop, Some, Bool, true, false, cond, refl, ◌∙◌, bytes_eq, nat_cmp, slice_cmp, BTreeSet, contains, is_eq-slice_cmp, slice_get, list_any-append, again_after, is_among, drop_got}
+use Rattle.dv_stage.proofs.Vocabulary.{BTreeSet, Bool, List, Some, [], again_after, bytes_eq, cond, contains, drop, drop_got, false, is_among, is_eq-slice_cmp, list_any-append, nat_cmp, refl, slice_cmp, slice_get, true, ℕ, ◌++◌, ◌+◌, ◌||◌, ◌∙◌, ◌∷◌, ◌≡◌}
 use Rattle.std.specs.BTreeSet.{Updates}
 
 cond-or : (a b : Bool) → cond a true b ≡ (b || (a || false))

@@ -1,5 +1,5 @@
 -- Whether bytes are text, as a test.
-use Rattle.dv_stage.proofs.Vocabulary.{◌≡◌, ℕ, List, Bool, true, false, Result, Ok, Err, MatchResult, refl, sym, IsUtf8, is_ok, is_utf8, IsUtf8-from_is_utf8, is_utf8-from_IsUtf8}
+use Rattle.dv_stage.proofs.Vocabulary.{Bool, Err, IsUtf8, IsUtf8-from_is_utf8, List, MatchResult, Ok, Result, false, is_ok, is_utf8, is_utf8-from_IsUtf8, refl, sym, true, ℕ, ◌≡◌}
 
 not_text : (bytes : List ℕ) → ¬ (IsUtf8 bytes) → (b : Bool) → is_utf8 bytes ≡ b → false ≡ is_utf8 bytes
 not_text bytes h true e = absurd (h (IsUtf8-from_is_utf8 bytes e))

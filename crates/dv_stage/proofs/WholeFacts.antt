@@ -1,8 +1,7 @@
 -- Records that break no rule by themselves, whose rows have no rivals, break none.
-use Rattle.dv_stage.proofs.Vocabulary.{◌≡◌, ◌↔◌, ◌≤◌, ◌+◌, ◌∷◌, ◌++◌, ℕ, List, [], None, Bool, true, false, length, map, refl, sym, ap, ◌∙◌, subst, if◌then◌else◌, nat_lt, Contains, position, IsStrictlySortedBy, le-ltb, append_assoc, length-map, Contains-append_left, Contains-append_right}
-use Rattle.dv_stage.proofs.Vocabulary.{row_cmp, sorted_by, NRow, Contains-cons_here, FeedDef, header_names, header_rule, behind_header, two_drivers, Taken, are_rivals, record_rule, records_rule, row_of, own_rule, HasNoRivals, repeats_name, unplaced}
-use Rattle.dv_stage.proofs.NeighbourFacts.{apart_among, names_apart}
-use Rattle.dv_stage.proofs.RuleFacts.{record_rule-parts}
+use Rattle.dv_stage.proofs.Vocabulary.{Bool, Contains, Contains-append_left, Contains-append_right, Contains-cons_here, FeedDef, HasNoRivals, IsStrictlySortedBy, List, NRow, None, Taken, [], ap, append_assoc, are_rivals, behind_header, false, header_names, header_rule, if◌then◌else◌, le-ltb}
+use Rattle.dv_stage.proofs.Vocabulary.{length, length-map, map, nat_lt, own_rule, position, record_rule, records_rule, refl, repeats_name, row_cmp, row_of, sorted_by, subst, sym, true, two_drivers, unplaced, ℕ, ◌++◌, ◌+◌, ◌↔◌, ◌∙◌, ◌∷◌, ◌≡◌, ◌≤◌}
+use Rattle.dv_stage.proofs.{NeighbourFacts.apart_among, NeighbourFacts.names_apart, RuleFacts.record_rule-parts}
 
 -- a row among rows without rivals has none before it
 none_before : (earlier later : List NRow) (row : NRow) → HasNoRivals (earlier ++ row ∷ later) → position (λ other. are_rivals other row) earlier ≡ None

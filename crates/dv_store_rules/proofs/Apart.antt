@@ -1,8 +1,7 @@
 -- Rows of which each has no row of its parent before it: their parents stand once.
-use Rattle.dv_store_rules.proofs.Vocabulary.{◌≡◌, ℕ, suc, Bool, true, false, List, [], ◌∷◌, Some, length, take, slice_get, refl, sym, ◌∙◌, ap, is_none, list_any, bytes_eq, bytes_eq-Decides, and_from, false_from_ne_true, false≢true, not-true, not_from_false, or_parts, none_pass, slice_get-get_or, slice_get_within}
-use Rattle.dv_store_rules.proofs.Vocabulary.{AreClear, Place, are_in_load_order, last_of, turn_rule}
+use Rattle.dv_store_rules.proofs.Vocabulary.{AreClear, Bool, List, Place, Some, [], and_from, ap, are_in_load_order, are_parents_apart, are_placed_rows, bytes_eq, bytes_eq-Decides, false, false_from_ne_true, false≢true, has_row_under, is_none, last_of, length, list_any, none_pass, not-true}
+use Rattle.dv_store_rules.proofs.Vocabulary.{not_from_false, or_parts, refl, slice_get, slice_get-get_or, slice_get_within, suc, sym, take, true, turn_rule, ℕ, ◌∙◌, ◌∷◌, ◌≡◌}
 use Rattle.dv_store_rules.proofs.RuleParts.{held, none_found}
-use Rattle.dv_hub_link.specs.PlacedRows.{are_parents_apart, are_placed_rows, has_row_under}
 
 flipped : (a b : List ℕ) → bytes_eq a b ≡ false → bytes_eq b a ≡ false
 flipped a b differ = false_from_ne_true (bytes_eq b a) (λ same. false≢true (sym differ ∙ (bytes_eq-Decides a b).1 (sym ((bytes_eq-Decides b a).0 same))))

@@ -1,13 +1,8 @@
 -- What is known before a table that is that of valid windows, and what follows of the load dates, sources, texts and
 -- weights of the table's rows.
-use Rattle.dv_store_rules.proofs.Vocabulary.{Contains, Contains-map, Extract, FeedDef, Hub, Key, Link, List, Mapping, None, Some, Staged, TableId, Window, [], all_pass_weaker, and_from, ap, are_windows_valid, backwards, bytes_eq, bytes_eq-Decides, eq-eqb}
-use Rattle.dv_store_rules.proofs.Vocabulary.{extract_of, got_member, head_of, is_field, is_key_part, is_known, is_valid, length, list_all, list_any, map, most_field_bytes, most_weight, nat_le, reverse, rows_weight, slice_get, some_passes_at, source, sym}
-use Rattle.dv_store_rules.proofs.Vocabulary.{table_after, tables_weight, true, ℕ, ◌&&◌, ◌+◌, ◌<◌, ◌==◌, ◌∙◌, ◌∷◌, ◌≡◌, ◌≤◌}
-use Rattle.dv_store_rules.specs.FormRules.{Known, are_texts, is_delivered, is_digest, is_in_hub, is_in_link, is_loaded, is_source}
-use Rattle.dv_store_rules.specs.StoredRows.{flaw_in}
-use Rattle.dv_catalog.specs.Feeds.{source_by}
-use Rattle.dv_records.proofs.Reversing.{extract-load}
-use Rattle.dv_records.proofs.WindowRows.{field_text, key_part, staged_of}
+use Rattle.dv_store_rules.proofs.Vocabulary.{Contains, Contains-map, Extract, FeedDef, Hub, Key, Known, Link, List, Mapping, None, Some, Staged, TableId, Window, [], all_pass_weaker, and_from, ap, are_texts, are_windows_valid, backwards, bytes_eq, bytes_eq-Decides, eq-eqb, extract-load}
+use Rattle.dv_store_rules.proofs.Vocabulary.{extract_of, field_text, flaw_in, got_member, head_of, is_delivered, is_digest, is_field, is_in_hub, is_in_link, is_key_part, is_known, is_loaded, is_source, is_valid, key_part, length, list_all, list_any, map, most_field_bytes, most_weight, nat_le}
+use Rattle.dv_store_rules.proofs.Vocabulary.{reverse, rows_weight, slice_get, some_passes_at, source, source_by, staged_of, sym, table_after, tables_weight, true, ℕ, ◌&&◌, ◌+◌, ◌<◌, ◌==◌, ◌∙◌, ◌∷◌, ◌≡◌, ◌≤◌}
 use Rattle.dv_store_rules.proofs.Widths.{AreOfWidth}
 
 -- the mapping and the windows are valid, digests have the width, and the heads of the windows are known

@@ -1,5 +1,5 @@
 -- Numbers of which each is greater than the one before it ascend.
-use Rattle.dv_store_rules.proofs.Vocabulary.{◌≡◌, ℕ, ◌+◌, ◌-◌, ◌<◌, ◌≤◌, true, List, [], ◌∷◌, length, drop, drop_more, length-drop, get_or, list_all, nat_lt, refl, sym, ◌∙◌, ap, arith, ascends, nat_tests}
+use Rattle.dv_store_rules.proofs.Vocabulary.{List, [], ap, arith, ascends, drop, drop_more, get_or, length, length-drop, list_all, nat_lt, nat_tests, refl, sym, true, ℕ, ◌+◌, ◌-◌, ◌<◌, ◌∙◌, ◌∷◌, ◌≡◌, ◌≤◌}
 
 -- numbers above a lesser one
 all_above : (low high : ℕ) (xs : List ℕ) → low < high → list_all (nat_lt high) xs ≡ true → list_all (nat_lt low) xs ≡ true

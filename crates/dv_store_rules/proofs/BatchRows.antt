@@ -1,10 +1,7 @@
 -- A row of a table that is made of batches: the batch that it is of, and the rows before it, which are those of the batches
 -- before and the ones before it in its own.
-use Rattle.dv_store_rules.proofs.Vocabulary.{Contains, Contains-append_cases, Contains-append_left, Contains-append_right, Contains-cons_here, Contains-cons_there, Contains-nil, IsNewestFirst, IsStrictlySortedBy, Less, List, None, Option, Ordering, Some, [], ap}
-use Rattle.dv_store_rules.proofs.Vocabulary.{appended, equal_first, inl, inr, is_lt, last_or, less_first, option_map_or, refl, subst, sym, true, ℕ, ◌++◌, ◌<◌, ◌∙◌, ◌∷◌, ◌≡◌}
-use Rattle.dv_store_rules.specs.FormRules.{follows, is_behind}
-use Rattle.dv_records.proofs.DatedRows.{dated}
-use Rattle.dv_records.proofs.Reversing.{AllBefore}
+use Rattle.dv_store_rules.proofs.Vocabulary.{AllBefore, Contains, Contains-append_cases, Contains-append_left, Contains-append_right, Contains-cons_here, Contains-cons_there, Contains-nil, IsNewestFirst, IsStrictlySortedBy, Less, List, None, Option, Ordering, Some, [], ap, appended, dated}
+use Rattle.dv_store_rules.proofs.Vocabulary.{equal_first, follows, inl, inr, is_behind, is_lt, last_or, less_first, option_map_or, refl, subst, sym, true, ℕ, ◌++◌, ◌<◌, ◌∙◌, ◌∷◌, ◌≡◌}
 use Rattle.dv_store_rules.proofs.Splits.{item_in, last_in, less_before, no_split, split_append}
 
 -- the row is of the batch of one of the events, of which the newest stands first

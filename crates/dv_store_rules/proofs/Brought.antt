@@ -1,11 +1,8 @@
 -- What a window brings to a hub or a link is of a row of one of its extracts, which has the feed's form.
-use Rattle.dv_store_rules.proofs.Vocabulary.{Bool, Contains, Contains-cons_cases, Contains-cons_here, Contains-cons_there, Contains-flat_map, Contains-map, Contains-nil, Delivery, FeedDef, HasForm, Hub, Key, Link, List, Mapping, NRow, None, Option, Parent, Some}
-use Rattle.dv_store_rules.proofs.Vocabulary.{Staged, Window, [], all_refs, and_parts, ap, cond, deliveries, eqb-true, false, false≢true, feed_hubs, filtered_members, fit_hubs, fits_hub, flat_map, flat_map_member, inl, inr, is_declared, is_fed_by, is_hub}
-use Rattle.dv_store_rules.proofs.Vocabulary.{is_missing, is_offered, is_offered-member, is_staged, is_valid, is_window, keys_at, length, link_hubs, list_all, ltb-true, map, map_member, not, not-true, offers, offers_of, parent_hubs, passes_at, refl, refs_from}
-use Rattle.dv_store_rules.proofs.Vocabulary.{slice_get, staged_rows, subst, sym, table_of, true, valid_feed, valid_link, window_parts, ℕ, ◌<◌, ◌==◌, ◌∷◌, ◌≡◌}
-use Rattle.dv_catalog.specs.Feeds.{parent_eq}
-use Rattle.dv_catalog.specs.declared.entries.LinkDef.{LinkDef}
-use Rattle.dv_records.proofs.Delivered.{deliveries_member, first_offer-member}
+use Rattle.dv_store_rules.proofs.Vocabulary.{Bool, Contains, Contains-cons_cases, Contains-cons_here, Contains-cons_there, Contains-flat_map, Contains-map, Contains-nil, Delivery, FeedDef, HasForm, Hub, Key, Link, LinkDef, List, Mapping, NRow, None, Option, Parent, Some, Staged, Window, []}
+use Rattle.dv_store_rules.proofs.Vocabulary.{all_refs, and_parts, ap, cond, deliveries, deliveries_member, eqb-true, false, false≢true, feed_hubs, filtered_members, first_offer-member, fit_hubs, fits_hub, flat_map, flat_map_member, inl, inr, is_declared, is_fed_by, is_hub, is_missing, is_offered}
+use Rattle.dv_store_rules.proofs.Vocabulary.{is_offered-member, is_staged, is_valid, is_window, keys_at, length, link_hubs, list_all, ltb-true, map, map_member, not, not-true, offers, offers_of, parent_eq, parent_hubs, passes_at, refl, refs_from, slice_get, staged_rows, subst, sym, table_of}
+use Rattle.dv_store_rules.proofs.Vocabulary.{true, valid_feed, valid_link, window_parts, ℕ, ◌<◌, ◌==◌, ◌∷◌, ◌≡◌}
 
 -- ---- the keys of a hub among references
 

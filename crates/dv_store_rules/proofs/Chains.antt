@@ -1,6 +1,6 @@
 -- Rows of which each stands behind the one before it are in load order, and ascend.
-use Rattle.dv_store_rules.proofs.Vocabulary.{◌≡◌, ℕ, suc, ◌<◌, ◌≤◌, Bool, true, List, [], ◌∷◌, Option, Some, None, length, take, slice_get, refl, arith, nat_le, nat_cmp, ordering_then, is_less, list_all, and_from, le-leb, le_from_cmp, last_or, option_map_or, IsTotalOrder, then_total, on_total, nat_cmp_total, take-take, length-take-le}
-use Rattle.dv_store_rules.proofs.Vocabulary.{AllByRecursion, AreClear, IsStrictlySortedBy, Less, Ordering, Place, are_in_load_order, is_behind, own_rule, take_all}
+use Rattle.dv_store_rules.proofs.Vocabulary.{AllByRecursion, AreClear, Bool, IsStrictlySortedBy, IsTotalOrder, Less, List, None, Option, Ordering, Place, Some, [], and_from, are_in_load_order, arith, is_behind, is_less, last_or, le-leb, le_from_cmp, length, length-take-le, list_all, nat_cmp}
+use Rattle.dv_store_rules.proofs.Vocabulary.{nat_cmp_total, nat_le, on_total, option_map_or, ordering_then, own_rule, refl, slice_get, suc, take, take-take, take_all, then_total, true, ℕ, ◌<◌, ◌∷◌, ◌≡◌, ◌≤◌}
 use Rattle.dv_store_rules.proofs.FirstFlaws.{got_taken}
 
 module _ {R : Type 0} (place : R → Place) (order : R → R → Ordering) where

@@ -1,12 +1,7 @@
 -- The codes of a status table take turns: the last code before a row is told by the extract before its own.
-use Rattle.dv_store_rules.proofs.Vocabulary.{Bool, Contains, Contains-cons_there, Contains-flat_map, Extract, Hashes, IsApart, IsNewestFirst, Key, List, None, Option, Some, StatusRow, all_refs, ap, appended, arith, batch_made, bytes_eq, bytes_eq-Decides}
-use Rattle.dv_store_rules.proofs.Vocabulary.{code_between, code_of, delivers, false, find, find-append, find_same, flat_map_member, is_appearance, le-leb, lists_of, made_of, nat_le, newest_rows, option_map, option_or, refl, reverse, reverse-append}
-use Rattle.dv_store_rules.proofs.Vocabulary.{reverse_member, rules, says_present, status_batch, status_cmp, status_row, subst, sym, true, up_to, ℕ, ◌&&◌, ◌++◌, ◌∙◌, ◌∷◌, ◌≡◌}
-use Rattle.dv_store_rules.specs.FormRules.{last_code, takes_turn}
-use Rattle.dv_records.proofs.LastChange.{all_up_to}
-use Rattle.dv_records.proofs.StatusReconstruct.{tells}
-use Rattle.dv_records.specs.declared.raw_rows.Code.{Code}
-use Rattle.dv_text.proofs.Passing.{find_none}
+use Rattle.dv_store_rules.proofs.Vocabulary.{Bool, Code, Contains, Contains-cons_there, Contains-flat_map, Extract, Hashes, IsApart, IsNewestFirst, Key, List, None, Option, Some, StatusRow, all_refs, all_up_to, ap, appended, arith, batch_made, bytes_eq, bytes_eq-Decides, code_between, code_of}
+use Rattle.dv_store_rules.proofs.Vocabulary.{delivers, false, find, find-append, find_none, find_same, flat_map_member, is_appearance, last_code, le-leb, lists_of, made_of, nat_le, newest_rows, option_map, option_or, refl, reverse, reverse-append, reverse_member, rules, says_present}
+use Rattle.dv_store_rules.proofs.Vocabulary.{status_batch, status_cmp, status_row, subst, sym, takes_turn, tells, true, up_to, ℕ, ◌&&◌, ◌++◌, ◌∙◌, ◌∷◌, ◌≡◌}
 use Rattle.dv_store_rules.proofs.BatchRows.{earlier_rows}
 
 -- what the last code of a parent says of it

@@ -1,6 +1,6 @@
 -- A binary search among numbers in order finds one exactly where it is among them.
-use Rattle.dv_store_rules.proofs.Vocabulary.{◌≡◌, ℕ, ◌<◌, ◌≤◌, false, List, length, get_or, sym, ◌∙◌, arith, ◌==◌, is_lt, nat_cmp, has_number, cases_lt, inl, inr, Contains, get_or_default, none_pass, eq-eqb, eqb-true, false_from_ne_true, list_any_at}
-use Rattle.dv_store_rules.proofs.Vocabulary.{Result, Ok, Err, is_ok, MatchResult, IsBinarySearchResult, IsSorted, searched, sorted_far, ranks_by, nat_cmp_total, le_from_not_lt}
+use Rattle.dv_store_rules.proofs.Vocabulary.{Contains, Err, IsBinarySearchResult, IsSorted, List, MatchResult, Ok, Result, arith, cases_lt, eq-eqb, eqb-true, false, false_from_ne_true, get_or, get_or_default, has_number, inl, inr, is_lt, is_ok, le_from_not_lt, length, list_any_at, nat_cmp}
+use Rattle.dv_store_rules.proofs.Vocabulary.{nat_cmp_total, none_pass, ranks_by, searched, sorted_far, sym, ℕ, ◌<◌, ◌==◌, ◌∙◌, ◌≡◌, ◌≤◌}
 
 other_number : (n x : ℕ) → (n ≡ x → ⊥) → (n == x) ≡ false
 other_number n x differs = false_from_ne_true (n == x) (λ same. differs (eqb-true n x same))

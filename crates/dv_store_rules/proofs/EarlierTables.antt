@@ -1,6 +1,5 @@
 -- Hubs stand before links in table order, and both before the tables of feeds.
-use Rattle.dv_store_rules.proofs.Vocabulary.{Contains, Contains-append_cases, Contains-append_right, Contains-map, Contains-range, List, Mapping, TableId, append_assoc, feed_tables, inl, inr, length, map, map_member, range_with_len, refl, ℕ, ◌++◌, ◌<◌, ◌≡◌}
-use Rattle.dv_catalog.specs.declared.tables.TableId.TheVariants.{Hub as HubTable, Link as LinkTable}
+use Rattle.dv_store_rules.proofs.Vocabulary.{Contains, Contains-append_cases, Contains-append_right, Contains-map, Contains-range, HubTable, LinkTable, List, Mapping, TableId, append_assoc, feed_tables, inl, inr, length, map, map_member, range_with_len, refl, ℕ, ◌++◌, ◌<◌, ◌≡◌}
 use Rattle.dv_store_rules.proofs.Reached.{IsEarlier}
 
 abbrev hub_tables : Mapping → List TableId

@@ -1,12 +1,7 @@
 -- The rules of a row of an effectivity table are those of a row by itself, and of the weight.
-use Rattle.dv_store_rules.proofs.Vocabulary.{rules}
-use Rattle.dv_store_rules.proofs.Vocabulary.{◌≡◌, ℕ, ◌+◌, Bool, List, Option, length, or_none, on_total, is_digest}
-use Rattle.dv_store_rules.proofs.Vocabulary.{AreClear, Hashes, IsKnown, IsStrictlySortedBy, Known, KnownTables, EffectRow, nat_list_cmp_total, own_of, plain_rule, effect_cmp, effect_place, effect_rule, text_weight}
-use Rattle.dv_store_rules.proofs.Chains.{all_ascend}
-use Rattle.dv_store_rules.proofs.FeedForms.{LooksUp}
-use Rattle.dv_store_rules.proofs.RuleParts.{plain_owns_clear}
-use Rattle.dv_store_rules.specs.OwnRules.{effect_early, effect_late, first_stands, none_asked}
-use Rattle.dv_track.specs.EffectRows.{effect_order}
+use Rattle.dv_store_rules.proofs.Vocabulary.{AreClear, Bool, EffectRow, Hashes, IsKnown, IsStrictlySortedBy, Known, KnownTables, List, Option, effect_cmp, effect_early, effect_late, effect_order, effect_place, effect_rule, first_stands, is_digest, length, nat_list_cmp_total, none_asked, on_total}
+use Rattle.dv_store_rules.proofs.Vocabulary.{or_none, own_of, plain_rule, rules, text_weight, ℕ, ◌+◌, ◌≡◌}
+use Rattle.dv_store_rules.proofs.{Chains.all_ascend, FeedForms.LooksUp, RuleParts.plain_owns_clear}
 
 -- what a row weighs
 abbrev pub effect_weight : EffectRow → ℕ

@@ -1,11 +1,7 @@
 -- What the rules of a feed's rows look up is what is read of a store.
-use Rattle.dv_store_rules.proofs.Vocabulary.{◌∙◌}
-use Rattle.dv_store_rules.proofs.Vocabulary.{Bool}
-use Rattle.dv_store_rules.proofs.Vocabulary.{◌≡◌, ℕ, false, List, Option, Some, None, map, refl, sym, option_map, option_map_or, slice_get, has_number, is_delivered, is_source, has_parent, source_by, list_any, bytes_eq, Hashes, FeedDef, Parent, Known, KnownTables, IsKnown, is_under, is_in_parent}
-use Rattle.dv_store_rules.proofs.Vocabulary.{◌==◌, ◌+◌, ◌≤◌, Mapping, true, and_from, and_parts, are_texts, arith, attrs_fit, eqb-true, is_valid, le-leb, length, sum_by, valid_feed}
+use Rattle.dv_store_rules.proofs.Vocabulary.{Bool, FeedDef, Hashes, Hub, IsKnown, Known, KnownTables, Link, List, Mapping, None, Option, Parent, Some, and_from, and_parts, are_texts, arith, attrs_fit, bytes_eq, eqb-true, false, has_number, has_parent, is_among, is_delivered, is_in_parent}
+use Rattle.dv_store_rules.proofs.Vocabulary.{is_source, is_under, is_valid, le-leb, length, list_any, map, option_map, option_map_or, refl, slice_get, source_by, sum_by, sym, true, valid_feed, ℕ, ◌+◌, ◌==◌, ◌∙◌, ◌≡◌, ◌≤◌}
 use Rattle.dv_store_rules.proofs.RuleParts.{source_told}
-use Rattle.dv_store_rules.specs.OwnRules.{is_among}
-use Rattle.dv_catalog.specs.declared.entries.Parent.TheVariants.{Hub, Link}
 
 -- what the rules of a feed's rows look up is what was read
 pub record LooksUp (read : Known) (feed : ℕ) (loads : List ℕ) (sources : List (List ℕ)) (under : List ℕ → Bool) : Type 0 where

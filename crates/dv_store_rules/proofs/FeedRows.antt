@@ -1,15 +1,9 @@
 -- The rows of a feed's tables after valid windows, whatever their kind: each is of an extract of the feed, so that its load
 -- date, its source and its parent are known.
-use Rattle.dv_store_rules.proofs.Vocabulary.{Contains, Contains-append_cases, Contains-append_right, Contains-cons_here, Contains-cons_there, Contains-nil, Extract, FeedDef, HasForm, Hub, IsNewestFirst, IsTotalOrder, Key, Link, List, NRow, Option, Ordering}
-use Rattle.dv_store_rules.proofs.Vocabulary.{Parent, Place, Some, Window, [], all_refs, ap, ascending-sorted_by, batch_made, batch_of, extract_of, filter_map, filter_map_member, fit_hubs, history, inl, inr, is_known, is_window, length, load_order, map_member}
-use Rattle.dv_store_rules.proofs.Vocabulary.{newest_rows, parent_hubs, passes_at, refl, reverse, reverse_member, slice_get, source, staged_rows, subst, sym, true, whole, ℕ, ◌++◌, ◌∙◌, ◌∷◌, ◌≡◌}
-use Rattle.dv_store_rules.specs.FormRules.{Known, follows, has_parent, is_delivered, is_digest, is_in_hub, is_in_parent, is_source}
-use Rattle.dv_records.proofs.KnownLists.{row_known}
-use Rattle.dv_records.proofs.Reversing.{history-newest_first}
-use Rattle.dv_records.proofs.WindowRows.{one_key, rows_at, staged_at}
-use Rattle.dv_store_rules.proofs.Around.{Around, HaveParents, delivered_with, is_wide, sourced_from}
-use Rattle.dv_store_rules.proofs.BatchRows.{IsOfBatch, event_in, follows_them, in_batch, later_event}
-use Rattle.dv_store_rules.proofs.Brought.{hub_declared, link_declared}
+use Rattle.dv_store_rules.proofs.Vocabulary.{Contains, Contains-append_cases, Contains-append_right, Contains-cons_here, Contains-cons_there, Contains-nil, Extract, FeedDef, HasForm, Hub, IsNewestFirst, IsTotalOrder, Key, Known, Link, List, NRow, Option, Ordering, Parent, Place, Some, Window, []}
+use Rattle.dv_store_rules.proofs.Vocabulary.{all_refs, ap, ascending-sorted_by, batch_made, batch_of, extract_of, filter_map, filter_map_member, fit_hubs, follows, has_parent, history, history-newest_first, inl, inr, is_delivered, is_digest, is_in_hub, is_in_parent, is_known, is_source}
+use Rattle.dv_store_rules.proofs.Vocabulary.{is_window, length, load_order, map_member, newest_rows, one_key, parent_hubs, passes_at, refl, reverse, reverse_member, row_known, rows_at, slice_get, source, staged_at, staged_rows, subst, sym, true, whole, ℕ, ◌++◌, ◌∙◌, ◌∷◌, ◌≡◌}
+use Rattle.dv_store_rules.proofs.{Around.Around, Around.HaveParents, Around.delivered_with, Around.is_wide, Around.sourced_from, BatchRows.IsOfBatch, BatchRows.event_in, BatchRows.follows_them, BatchRows.in_batch, BatchRows.later_event, Brought.hub_declared, Brought.link_declared}
 
 module _ (known : Known) (windows : List Window) (around : Around known windows) (feed : ℕ) (extract : Extract) (has : Contains (history feed (reverse windows)) extract) where
   -- the window that the extract is of

@@ -1,11 +1,7 @@
 -- Windows before a last one of valid windows are valid.
-use Rattle.dv_store_rules.proofs.Vocabulary.{rules}
-use Rattle.dv_store_rules.proofs.Vocabulary.{All-weaker, Contains, Contains-append_left, Contains-cons_cases, Contains-cons_here, Contains-cons_there, Contains-flat_map, Hashes, IsApart, Key, List, Mapping, None, Parent, Window, [], all_pass, and_from}
-use Rattle.dv_store_rules.proofs.Vocabulary.{and_parts, ap, are_windows_valid, arith, ascends, collision, collision_in, flat_map, flat_map_member, hashed_refs, inl, inr, is_known, is_none, is_offered, is_window, le-leb, leb-true, length, length-append, list_all}
-use Rattle.dv_store_rules.proofs.Vocabulary.{map, map-append, missing_refs, most_weight, most_windows, nat_lt, none_from, offered_refs, parents, passes_at, refl, some_passes, some_passes_at, subst, sym, true, vault_weight, ℕ, ◌++◌, ◌∙◌, ◌∷◌, ◌≡◌, ◌≤◌}
-use Rattle.dv_records.proofs.CollisionTies.{collision_free, none_collide}
-use Rattle.dv_records.proofs.VaultSteps.{weight-push}
-use Rattle.dv_records.specs.Deltas.{brought}
+use Rattle.dv_store_rules.proofs.Vocabulary.{All-weaker, Contains, Contains-append_left, Contains-cons_cases, Contains-cons_here, Contains-cons_there, Contains-flat_map, Hashes, IsApart, Key, List, Mapping, None, Parent, Window, [], all_pass, and_from, and_parts, ap, are_windows_valid, arith}
+use Rattle.dv_store_rules.proofs.Vocabulary.{ascends, brought, collision, collision_free, collision_in, flat_map, flat_map_member, hashed_refs, inl, inr, is_known, is_none, is_offered, is_window, le-leb, leb-true, length, length-append, list_all, map, map-append, missing_refs, most_weight}
+use Rattle.dv_store_rules.proofs.Vocabulary.{most_windows, nat_lt, none_collide, none_from, offered_refs, parents, passes_at, refl, rules, some_passes, some_passes_at, subst, sym, true, vault_weight, weight-push, ℕ, ◌++◌, ◌∙◌, ◌∷◌, ◌≡◌, ◌≤◌}
 
 -- the first of numbers that ascend ascend
 ascends_first : (xs ys : List ℕ) → ascends (xs ++ ys) ≡ true → ascends xs ≡ true

@@ -1,6 +1,6 @@
 -- The first flaw of rows, told from a place that breaks a rule and the rows before it, which break none.
-use Rattle.dv_store_rules.proofs.Vocabulary.{◌≡◌, ℕ, zero, suc, ◌+◌, ◌<◌, ◌≤◌, List, [], ◌∷◌, ◌++◌, Option, Some, None, length, take, slice_get, refl, sym, ◌∙◌, ap, arith, append_assoc, append-nil, length-append, length-take-le, take-take, get_or-take, get_or_from_slice_get, slice_get-get_or, slice_get_within, same_Some, cases_lt, inl, inr}
-use Rattle.dv_store_rules.proofs.Vocabulary.{AreClear, Breaks, Fault, Flaw, IsFirst, TellsFlaw, first_along, first_flaw, flaw_behind, subst}
+use Rattle.dv_store_rules.proofs.Vocabulary.{AreClear, Breaks, Fault, Flaw, IsFirst, List, None, Option, Some, TellsFlaw, [], ap, append-nil, append_assoc, arith, cases_lt, first_along, first_flaw, flaw_behind, get_or-take, get_or_from_slice_get, inl, inr, length, length-append, length-take-le}
+use Rattle.dv_store_rules.proofs.Vocabulary.{refl, same_Some, slice_get, slice_get-get_or, slice_get_within, subst, suc, sym, take, take-take, zero, ℕ, ◌++◌, ◌+◌, ◌<◌, ◌∙◌, ◌∷◌, ◌≡◌, ◌≤◌}
 
 -- a row of first rows is there
 pub got_taken : {R : Type 0} (rows : List R) (count place : ℕ) (row : R) → place < count → slice_get (take count rows) place ≡ Some row → slice_get rows place ≡ Some row

@@ -1,7 +1,5 @@
 -- Where no row breaks a rule behind the rows before it, no flaw is found.
-use Rattle.dv_store_rules.proofs.Vocabulary.{List, None, Option, [], ap, append-nil, append_assoc, refl, ℕ, ◌++◌, ◌∷◌, ◌≡◌}
-use Rattle.dv_store_rules.specs.Flaws.{first_flaw, flaw_behind}
-use Rattle.dv_catalog.specs.FirstOf.{first_along}
+use Rattle.dv_store_rules.proofs.Vocabulary.{List, None, Option, [], ap, append-nil, append_assoc, first_along, first_flaw, flaw_behind, refl, ℕ, ◌++◌, ◌∷◌, ◌≡◌}
 
 -- a test that no item answers behind the items before it answers nothing along the list
 pub none_along : {X R : Type 0} (test : List X → X → Option R) (xs before : List X) → ((between : List X) (x : X) (after : List X) → xs ≡ between ++ x ∷ after → test (before ++ between) x ≡ None) → first_along test before xs ≡ None

@@ -1,10 +1,8 @@
 -- The first flaw of a table, told by what was read of it.
-use Rattle.dv_store_rules.proofs.Vocabulary.{first_of, if_broken}
-use Rattle.dv_store_rules.proofs.Vocabulary.{◌≡◌, ◌∙◌, ℕ, ◌+◌, ◌<◌, ◌≤◌, Bool, true, false, List, [], ◌∷◌, ◌++◌, Option, Some, None, refl, sym, ap, arith, rules, subst, inl, inr, eqb-true, ◌==◌, length, take, drop, sum_by, leb-true, or_none, none_before_map, append_assoc, first_along, take-append-drop}
-use Rattle.dv_store_rules.proofs.Vocabulary.{Flaw, IsHeavyFront, Known, Read, AllRows, OtherKind, Rows, TableId, TellsRows, first_flaw, flaw_behind, flaw_in, is_light, is_of_kind, most_weight, of_other_kind, page, row_count, rows_weight, tables_weight}
-use Rattle.dv_store_rules.proofs.Vocabulary.{hub_rule, link_rule, sat_rule, multi_rule, status_rule, effect_rule}
-use Rattle.dv_catalog.specs.declared.tables.TableId.TheVariants.{Hub, Link, Sat, Multi, Status, Effect}
-use Rattle.dv_records.specs.declared.stores.Rows.TheVariants.{Hubs, Links, Sats, Multis, Statuses, Effects}
+use Rattle.dv_store_rules.proofs.Vocabulary.{AllRows, Bool, Effect, Effects, Flaw, Hubs, IsHeavyFront, Known, Links, List, Multi, Multis, None, Option, OtherKind, Read, Rows, Sat, Sats, Some, Status, Statuses, TableId, TellsRows, [], ap, append_assoc, arith, drop, effect_rule, eqb-true, false}
+use Rattle.dv_store_rules.proofs.Vocabulary.{first_along, first_flaw, first_of, flaw_behind, flaw_in, hub_rule, if_broken, inl, inr, is_light, is_of_kind, leb-true, length, link_rule, most_weight, multi_rule, none_before_map, of_other_kind, or_none, page, refl, row_count, rows_weight, rules}
+use Rattle.dv_store_rules.proofs.Vocabulary.{sat_rule, status_rule, subst, sum_by, sym, tables_weight, take, take-append-drop, true, ℕ, ◌++◌, ◌+◌, ◌<◌, ◌==◌, ◌∙◌, ◌∷◌, ◌≡◌, ◌≤◌}
+use Rattle.dv_catalog.specs.declared.tables.TableId.TheVariants.{Hub, Link}
 
 -- ---- tests along a list
 

@@ -1,14 +1,8 @@
 -- The rules of a hub's row are those of a row by itself, of hash keys that stand once, and of the weight.
-use Rattle.dv_store_rules.proofs.Vocabulary.{rules}
-use Rattle.dv_store_rules.proofs.Vocabulary.{◌≡◌, ◌==◌, ℕ, ◌+◌, ◌≤◌, Bool, true, List, [], ◌∷◌, Option, Some, None, length, map, refl, sym, arith, is_none, source_by, slice_get, is_loaded, has_number, bytes_eq}
-use Rattle.dv_store_rules.proofs.Vocabulary.{HubRow, Known, has_key_hash, is_digest, are_texts, hub_cmp, hub_place, hub_rule, parts_of, turning_rule, KnownTables, Hashes, IsKnown}
-use Rattle.dv_store_rules.proofs.Vocabulary.{AreClear, or_none, text_weight, texts_weight, HubDef, Mapping, is_valid, valid_hub, Key, refs_fit, and_from, and_parts, eqb-true, le-leb}
-use Rattle.dv_store_rules.proofs.RuleParts.{none_found, owns_clear, source_told, turns_clear}
-use Rattle.dv_store_rules.proofs.Apart.{once_placed}
-use Rattle.dv_store_rules.proofs.Chains.{all_in_order}
-use Rattle.dv_hub_link.specs.HubRows.{are_hub_rows}
-use Rattle.dv_store_rules.specs.OwnRules.{hub_early, hub_late, first_stands, unbroken}
-use Rattle.dv_store_rules.specs.RowWalks.{own_of}
+use Rattle.dv_store_rules.proofs.Vocabulary.{AreClear, Bool, Hashes, HubDef, HubRow, IsKnown, Key, Known, KnownTables, List, Mapping, None, Option, Some, [], and_from, and_parts, are_hub_rows, are_texts, arith, bytes_eq, eqb-true, first_stands, has_key_hash, has_number, hub_cmp, hub_early}
+use Rattle.dv_store_rules.proofs.Vocabulary.{hub_late, hub_place, hub_rule, is_digest, is_loaded, is_none, is_valid, le-leb, length, map, or_none, own_of, parts_of, refl, refs_fit, rules, slice_get, source_by, sym, text_weight, texts_weight, true, turning_rule, unbroken, valid_hub, ℕ, ◌+◌, ◌==◌}
+use Rattle.dv_store_rules.proofs.Vocabulary.{◌∷◌, ◌≡◌, ◌≤◌}
+use Rattle.dv_store_rules.proofs.{RuleParts.none_found, RuleParts.owns_clear, RuleParts.source_told, RuleParts.turns_clear, Apart.once_placed, Chains.all_in_order}
 
 -- the text of a key in form fits a room
 pub key_fits : (parts : ℕ) (key : Key) → parts ≤ 4 → are_texts parts key.parts ≡ true → refs_fit (key ∷ []) ≡ true

@@ -1,19 +1,10 @@
 -- The rows of the table of a hub or a link, for any kind of row that is made of a delivery: their load dates, sources and
 -- order, and that no two have one hash key.
-use Rattle.dv_store_rules.proofs.Vocabulary.{Place}
-use Rattle.dv_store_rules.proofs.Vocabulary.{Bool, Contains, Contains-append_cases, Delivery, Hub, IsApart, IsStrictlySortedBy, IsTotalOrder, Less, Link, List, Option, Ordering, Parent, Some, Window, ap, appended, ascending-sorted_by, batch_made, batch_of}
-use Rattle.dv_store_rules.proofs.Vocabulary.{bytes_eq, bytes_eq-Decides, deliveries, digest_cmp, false, false≢true, filter_map, hashed_refs, hub_apart, inl, inr, irreflexive, is_known, is_offered, is_offered-member, is_window, length, link_apart}
-use Rattle.dv_store_rules.proofs.Vocabulary.{load_order, nat_list_cmp_total, not, on_total, parent_hubs, passes_at, refl, reverse, reverse_member, some_passes_at, source, subst, sym, true, whole, ℕ, ◌∙◌, ◌≡◌}
-use Rattle.dv_store_rules.specs.FormRules.{Known, follows, is_digest, is_loaded, is_new_digest, is_source}
-use Rattle.dv_records.proofs.Delivered.{delivery-offered}
-use Rattle.dv_records.proofs.KnownRefs.{known_apart}
-use Rattle.dv_records.proofs.Reversing.{newest_first}
-use Rattle.dv_text.proofs.Passing.{none_pass}
-use Rattle.dv_store_rules.proofs.Around.{Around, is_wide, loaded_with, sourced_from}
-use Rattle.dv_store_rules.proofs.BatchRows.{IsOfBatch, event_in, follows_them, in_batch, of_batch, older_in}
-use Rattle.dv_store_rules.proofs.Brought.{IsFrom, IsOfRow, delivery_from, hub_declared, keys_of_hubs, link_declared}
-use Rattle.dv_store_rules.proofs.FewerWindows.{known_more}
-use Rattle.dv_store_rules.proofs.Splits.{less_before, parted_at}
+use Rattle.dv_store_rules.proofs.Vocabulary.{Bool, Contains, Contains-append_cases, Delivery, Hub, IsApart, IsStrictlySortedBy, IsTotalOrder, Known, Less, Link, List, Option, Ordering, Parent, Place, Some, Window, ap, appended, ascending-sorted_by, batch_made, batch_of, bytes_eq}
+use Rattle.dv_store_rules.proofs.Vocabulary.{bytes_eq-Decides, deliveries, delivery-offered, digest_cmp, false, false≢true, filter_map, follows, hashed_refs, hub_apart, inl, inr, irreflexive, is_digest, is_known, is_loaded, is_new_digest, is_offered, is_offered-member, is_source, is_window}
+use Rattle.dv_store_rules.proofs.Vocabulary.{known_apart, length, link_apart, load_order, nat_list_cmp_total, newest_first, none_pass, not, on_total, parent_hubs, passes_at, refl, reverse, reverse_member, some_passes_at, source, subst, sym, true, whole, ℕ, ◌∙◌, ◌≡◌}
+use Rattle.dv_store_rules.proofs.{Around.Around, Around.is_wide, Around.loaded_with, Around.sourced_from, BatchRows.IsOfBatch, BatchRows.event_in, BatchRows.follows_them, BatchRows.in_batch, BatchRows.of_batch, BatchRows.older_in, Brought.IsFrom, Brought.IsOfRow, Brought.delivery_from}
+use Rattle.dv_store_rules.proofs.{Brought.hub_declared, Brought.keys_of_hubs, Brought.link_declared, FewerWindows.known_more, Splits.less_before, Splits.parted_at}
 
 -- each row of a table is of a batch
 in_some_batch : {E R : Type 0} (batch : List E → E → List R) (events : List E) (row : R) → Contains (appended batch events) row → (newest : E) × (older : List E) × Contains events newest × Contains (batch older newest) row

@@ -1,6 +1,7 @@
 -- What the code knows of a store, with one table more.
-use Rattle.dv_store_rules.proofs.Vocabulary.{rules}
-use Rattle.dv_store_rules.proofs.Vocabulary.{◌≡◌, ◌==◌, ◌+◌, ℕ, zero, suc, inl, inr, true, false, List, [], ◌∷◌, ◌++◌, length, list_any, refl, sym, ◌∙◌, ap, arith, cases_eq, eq-eqb, eqb-true, false_from_ne_true, or_parts, sum_by_push, Hashes, HubRow, Hubs, Indexed, IsKnown, Known, KnownTables, LinkRow, Links, Rows, if◌then◌else◌, TableId, TableRows, is_of_feed, rows_at, rows_in, rows_weight, table_eq, hub_rows, link_rows}
+use Rattle.dv_store_rules.proofs.Vocabulary.{Hashes, HubRow, Hubs, Indexed, IsKnown, Known, KnownTables, LinkRow, Links, List, Rows, TableId, TableRows, [], ap, arith, cases_eq, eq-eqb, eqb-true, false, false_from_ne_true, hub_rows, if◌then◌else◌, inl, inr, is_of_feed, length, link_rows}
+use Rattle.dv_store_rules.proofs.Vocabulary.{list_any, or_parts, refl, rows_in, rows_weight, rules, suc, sum_by_push, sym, table_eq, true, zero, ℕ, ◌++◌, ◌+◌, ◌==◌, ◌∙◌, ◌∷◌, ◌≡◌}
+use Rattle.dv_store_rules.specs.KnownTables.{rows_at}
 use Rattle.dv_catalog.specs.declared.tables.TableId.TheVariants.{Hub, Link}
 
 -- ---- one entry more

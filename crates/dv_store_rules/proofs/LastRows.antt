@@ -1,6 +1,5 @@
 -- The last item of a list.
-use Rattle.dv_store_rules.proofs.Vocabulary.{◌≡◌, ◌-◌, List, [], ◌∷◌, Option, Some, length, last_or, map, refl, arith, ◌∙◌, ap, sym, option_map, slice_get, ℕ, None, is_lt, nat_cmp, nat_lt, nat_tests, option_map_or, true}
-use Rattle.dv_text.proofs.Members.{last_got}
+use Rattle.dv_store_rules.proofs.Vocabulary.{List, None, Option, Some, [], ap, arith, is_lt, last_got, last_or, length, map, nat_cmp, nat_lt, nat_tests, option_map, option_map_or, refl, slice_get, sym, true, ℕ, ◌-◌, ◌∙◌, ◌∷◌, ◌≡◌}
 
 pub last_is : {X : Type 0} (o : Option X) (xs : List X) (x : X) → Some x ≡ slice_get xs (length xs - 1) → last_or o xs ≡ Some x
 last_is o [] x there = cc

@@ -1,11 +1,6 @@
 -- Heads of snapshots in which no flaw is found keep the limits of all.
-use Rattle.dv_store_rules.proofs.Vocabulary.{Bool, List, None, [], and_parts, append-nil, append_assoc, arith, false, first_along, flaw_behind, leb-true, length, length-append, ltb-true, nat_le, nat_lt, not, option_map, option_or, refl, sum_by-append, sum_by-cons, true, ◌&&◌, ◌++◌, ◌+◌, ◌∷◌, ◌≡◌, ◌≤◌}
-use Rattle.dv_store_rules.specs.Flaws.{if_broken}
-use Rattle.dv_store_rules.specs.SnapshotHeads.{KeepLimits, heads_weight, is_after, is_snapshot, snapshot_flaw, snapshot_rule}
-use Rattle.dv_records.specs.declared.snapshots.SnapHead.{SnapHead}
-use Rattle.dv_records.specs.Limits.{most_snapshot_weight, most_snapshots}
-use Rattle.dv_store_rules.specs.StoredHeads.{is_later}
-use Rattle.dv_text.specs.declared.rows.WindowHead.{WindowHead}
+use Rattle.dv_store_rules.proofs.Vocabulary.{Bool, KeepLimits, List, None, SnapHead, WindowHead, [], and_parts, append-nil, append_assoc, arith, false, first_along, flaw_behind, heads_weight, if_broken, is_after, is_later, is_snapshot, leb-true, length, length-append, ltb-true}
+use Rattle.dv_store_rules.proofs.Vocabulary.{most_snapshot_weight, most_snapshots, nat_le, nat_lt, not, option_map, option_or, refl, snapshot_flaw, snapshot_rule, sum_by-append, sum_by-cons, true, ◌&&◌, ◌++◌, ◌+◌, ◌∷◌, ◌≡◌, ◌≤◌}
 
 module _ (windows : List WindowHead) where
   -- a head that breaks no rule weighs no more than all may, with those before it

@@ -1,15 +1,9 @@
 -- The rules of a link's row are those of a row by itself, of hash keys that stand once, and of the weight.
-use Rattle.dv_store_rules.proofs.Vocabulary.{rules}
-use Rattle.dv_store_rules.proofs.Vocabulary.{◌≡◌, ℕ, ◌+◌, ◌*◌, ◌||◌, Bool, true, List, Option, Some, length, list_all, list_any, map, sym, ◌∙◌, is_none, source_by, or_none, has_number, is_loaded, bytes_eq, zip}
-use Rattle.dv_store_rules.proofs.Vocabulary.{AreClear, Hashes, HubRow, Indexed, IsKnown, Known, KnownTables, LinkRow, link_cmp, link_place, link_rule, own_of, parent_hubs, text_weight, turning_rule}
-use Rattle.dv_store_rules.proofs.RuleParts.{none_found, owns_clear, source_told, turns_clear}
-use Rattle.dv_store_rules.proofs.Apart.{once_placed}
-use Rattle.dv_store_rules.proofs.Chains.{all_in_order}
-use Rattle.dv_catalog.specs.declared.entries.Parent.TheVariants as parents
+use Rattle.dv_store_rules.proofs.Vocabulary.{AreClear, Bool, Hashes, HubRow, Indexed, IsKnown, Known, KnownTables, LinkRow, List, Option, Some, are_link_rows, are_named, are_references, bytes_eq, first_stands, has_number, is_loaded, is_none, length, link_cmp, link_early, link_form, link_late}
+use Rattle.dv_store_rules.proofs.Vocabulary.{link_place, link_rule, list_all, list_any, map, none_asked, or_none, own_of, parent_hubs, rules, source_by, sym, text_weight, true, turning_rule, zero_key, zip, ℕ, ◌*◌, ◌+◌, ◌||◌, ◌∙◌, ◌≡◌}
+use Rattle.dv_store_rules.proofs.{RuleParts.none_found, RuleParts.owns_clear, RuleParts.source_told, RuleParts.turns_clear, Apart.once_placed, Chains.all_in_order}
 use Rattle.dv_catalog.specs.declared.tables.TableId.TheVariants.{Link}
-use Rattle.dv_hub_link.specs.LinkRows.{are_link_rows}
-use Rattle.dv_store_rules.specs.FormRules.{are_references, zero_key}
-use Rattle.dv_store_rules.specs.OwnRules.{are_named, first_stands, link_early, link_form, link_late, none_asked}
+use Rattle.dv_catalog.specs.declared.entries.Parent.TheVariants as parents
 
 -- what a row weighs
 abbrev pub link_weight : LinkRow → ℕ

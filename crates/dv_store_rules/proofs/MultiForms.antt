@@ -1,16 +1,7 @@
 -- The rules of a row of a multi-active satellite are those of a row by itself, and of the weight.
-use Rattle.dv_store_rules.proofs.Vocabulary.{[], first_of, if_broken, option_or, ◌∷◌}
-use Rattle.dv_store_rules.proofs.Vocabulary.{rules}
-use Rattle.dv_store_rules.proofs.Vocabulary.{◌≡◌, ℕ, ◌+◌, ◌≤◌, Bool, true, List, Option, None, length, or_none, on_total}
-use Rattle.dv_store_rules.proofs.Vocabulary.{AreClear, Hashes, IsKnown, IsStrictlySortedBy, Known, KnownTables, MultiRow, nat_list_cmp_total, own_of, plain_rule, multi_cmp, multi_place, multi_rule, text_weight, texts_weight}
-use Rattle.dv_store_rules.proofs.Chains.{all_ascend}
-use Rattle.dv_store_rules.proofs.FeedForms.{LooksUp}
-use Rattle.dv_store_rules.proofs.RuleParts.{plain_owns_clear}
-use Rattle.dv_store_rules.proofs.FeedForms.{texts_fit}
-use Rattle.dv_store_rules.specs.FormRules.{are_texts, attr_count, sub_count}
-use Rattle.dv_store_rules.specs.OwnRules.{first_stands, multi_early, multi_form, multi_hashed, multi_late, unbroken}
-use Rattle.dv_store_rules.proofs.Vocabulary.{and_parts, attrs_fit, texts_total, then_total}
-use Rattle.dv_sat.specs.MultiRows.{multi_order}
+use Rattle.dv_store_rules.proofs.Vocabulary.{AreClear, Bool, Hashes, IsKnown, IsStrictlySortedBy, Known, KnownTables, List, MultiRow, None, Option, [], and_parts, are_texts, attr_count, attrs_fit, first_of, first_stands, if_broken, length, multi_cmp, multi_early, multi_form, multi_hashed}
+use Rattle.dv_store_rules.proofs.Vocabulary.{multi_late, multi_order, multi_place, multi_rule, nat_list_cmp_total, on_total, option_or, or_none, own_of, plain_rule, rules, sub_count, text_weight, texts_total, texts_weight, then_total, true, unbroken, ℕ, ◌+◌, ◌∷◌, ◌≡◌, ◌≤◌}
+use Rattle.dv_store_rules.proofs.{Chains.all_ascend, FeedForms.LooksUp, FeedForms.texts_fit, RuleParts.plain_owns_clear}
 
 -- the attributes of a row that breaks none of the first rules fit a room
 pub row_fits : (sub attrs : ℕ) (loads : List ℕ) (width : ℕ) (row : MultiRow) (behind : Bool) → attrs ≤ 32 → multi_early sub attrs loads width row behind ≡ None → attrs_fit row.attrs ≡ true

@@ -1,6 +1,6 @@
 -- What a page tells of the rows of a table, behind those that were read before it.
-use Rattle.dv_store_rules.proofs.Vocabulary.{rules}
-use Rattle.dv_store_rules.proofs.Vocabulary.{IsGrown, Some, None, Store, if◌then◌else◌, nat_le, leb-true, leb-false, and_parts, ◌&&◌, are_snapshots_in_order, are_apart, have_kinds, is_well_formed, ◌≡◌, ◌∙◌, ℕ, ◌+◌, ◌≤◌, ◌<◌, Bool, true, false, refl, sym, ap, arith, subst, false≢true, inl, inr, Rows, TableId, is_of_kind, most_weight, page, row_count, rows_then, rows_weight, AreFirst, TellsPage, Foreign, Last, More}
+use Rattle.dv_store_rules.proofs.Vocabulary.{AreFirst, Bool, Foreign, IsGrown, Last, More, None, Rows, Some, Store, TableId, TellsPage, and_parts, ap, are_apart, are_snapshots_in_order, arith, false, false≢true, have_kinds, if◌then◌else◌, inl, inr, is_of_kind, is_well_formed, leb-false, leb-true}
+use Rattle.dv_store_rules.proofs.Vocabulary.{most_weight, nat_le, page, refl, row_count, rows_then, rows_weight, rules, subst, sym, true, ℕ, ◌&&◌, ◌+◌, ◌<◌, ◌∙◌, ◌≡◌, ◌≤◌}
 use Rattle.dv_store_rules.proofs.RowPages.{weight_least, count_then, page_count, page_exact, page_kind, then_page, weight_then, whole_page}
 
 module _ (table : TableId) (stored rows more : Rows) (weight most : ℕ) (first : AreFirst table stored rows) (is : more ≡ page (row_count rows) most stored) where

@@ -1,15 +1,9 @@
 -- What each table of a store that stands for a state holds: it is the table after some first windows of all that are
 -- sealed or open, and a table that stands before it in table order is as far on at least.
-use Rattle.dv_store_rules.proofs.Vocabulary.{Bool, Contains, Contains-append_cases, Contains-append_left, Hashes, List, Mapping, Store, TableId, TableRows, Window, [], ap, append_assoc, are_windows_valid, arith, backwards, cond, drop, false, false≢true, inl}
-use Rattle.dv_store_rules.proofs.Vocabulary.{inr, list_any, map, refl, reverse, reverse-append, rows_in, rows_weight, same_table, some_passes, some_passes_at, subst, sym, table_after, table_entry, table_eq, table_eq-itself, tables, take, take-append-drop, true}
-use Rattle.dv_store_rules.proofs.Vocabulary.{vault, ℕ, ◌++◌, ◌∙◌, ◌∷◌, ◌≡◌, ◌≤◌}
-use Rattle.dv_records.proofs.VaultRows.{rows_in-entries}
-use Rattle.dv_records.proofs.VaultSteps.{batch_adds, table_after-newest}
-use Rattle.dv_records.specs.Backwards.{with_newest}
-use Rattle.dv_records.specs.Standing.{HasTables}
-use Rattle.dv_records.specs.Vault.{partial}
-use Rattle.dv_store_rules.proofs.FewerWindows.{fewer_valid}
-use Rattle.dv_store_rules.proofs.Splits.{parted_at, stands_before}
+use Rattle.dv_store_rules.proofs.Vocabulary.{Bool, Contains, Contains-append_cases, Contains-append_left, HasTables, Hashes, List, Mapping, Store, TableId, TableRows, Window, [], ap, append_assoc, are_windows_valid, arith, backwards, batch_adds, cond, drop, false, false≢true, inl, inr, list_any}
+use Rattle.dv_store_rules.proofs.Vocabulary.{map, partial, refl, reverse, reverse-append, rows_in, rows_in-entries, rows_weight, same_table, some_passes, some_passes_at, subst, sym, table_after, table_after-newest, table_entry, table_eq, table_eq-itself, tables, take, take-append-drop, true}
+use Rattle.dv_store_rules.proofs.Vocabulary.{vault, with_newest, ℕ, ◌++◌, ◌∙◌, ◌∷◌, ◌≡◌, ◌≤◌}
+use Rattle.dv_store_rules.proofs.{FewerWindows.fewer_valid, Splits.parted_at, Splits.stands_before}
 
 -- ---- earlier tables
 

@@ -1,18 +1,9 @@
 -- What is read of a store before a table: the rows of the tables before it, and what these weigh.
-use Rattle.dv_store_rules.proofs.Vocabulary.{Bool, Contains, Contains-cons_cases, Contains-cons_here, Contains-cons_there, Contains-nil, Hashes, Hub, HubRow, Key, Link, LinkRow, List, Mapping, Parent, Store, TableId, TableRows, Window, [], ap, appended, arith}
-use Rattle.dv_store_rules.proofs.Vocabulary.{backwards, bytes_eq, bytes_eq-Decides, false, false≢true, hub_apart, hub_batch, hub_rows, hub_rows_in, inl, inr, is_known, length, link_apart, link_batch, link_rows, link_rows_in, list_any, map, map-append}
-use Rattle.dv_store_rules.proofs.Vocabulary.{most_weight, refl, reverse, reverse_member, rows_in, rows_weight, same_table, some_passes_at, subst, sum_by, sum_by-append, sum_by-cons, sym, table_after, table_entry, table_eq, table_eq-itself, tables, tables_weight}
+use Rattle.dv_store_rules.proofs.Vocabulary.{Bool, Contains, Contains-cons_cases, Contains-cons_here, Contains-cons_there, Contains-nil, Hashes, Hub, HubRow, HubTable, Key, Link, LinkRow, LinkTable, List, Mapping, Parent, Store, TableId, TableRows, Window, [], ap, appended, arith, backwards}
+use Rattle.dv_store_rules.proofs.Vocabulary.{bytes_eq, bytes_eq-Decides, false, false≢true, has_hub, has_link, hub_apart, hub_batch, hub_has, hub_rows, hub_rows_in, inl, inr, is_known, known_before, length, link_apart, link_batch, link_has, link_rows, link_rows_in, list_any, map, map-append}
+use Rattle.dv_store_rules.proofs.Vocabulary.{most_weight, offers_apart, refl, reverse, reverse_member, rows_in, rows_weight, same_table, some_passes_at, stored_entries, subst, sum_by, sum_by-append, sum_by-cons, sym, table_after, table_entry, table_eq, table_eq-itself, tables, tables_weight}
 use Rattle.dv_store_rules.proofs.Vocabulary.{true, vault_weight, ℕ, ◌++◌, ◌+◌, ◌<◌, ◌∙◌, ◌∷◌, ◌≡◌, ◌≤◌}
-use Rattle.dv_store_rules.specs.Damages.{known_before, stored_entries}
-use Rattle.dv_catalog.specs.declared.tables.TableId.TheVariants.{Hub as HubTable, Link as LinkTable}
-use Rattle.dv_records.proofs.HubTables.{table_has as hub_has}
-use Rattle.dv_records.proofs.KnownRefs.{offers_apart}
-use Rattle.dv_records.proofs.LinkTables.{table_has as link_has}
-use Rattle.dv_records.proofs.VaultRows.{has_hub, has_link}
-use Rattle.dv_store_rules.proofs.Around.{HaveHubs, HaveLinks}
-use Rattle.dv_store_rules.proofs.FewerWindows.{known_more}
-use Rattle.dv_store_rules.proofs.Reached.{Holds, IsEarlier, earlier_in}
-use Rattle.dv_store_rules.proofs.Splits.{item_in}
+use Rattle.dv_store_rules.proofs.{Around.HaveHubs, Around.HaveLinks, FewerWindows.known_more, Reached.Holds, Reached.IsEarlier, Reached.earlier_in, Splits.item_in}
 
 -- the rows of a table that was read before are those of the store
 read_before : (store : Store) (before : List TableId) (id : TableId) → Contains before id → rows_in id (stored_entries store before) ≡ rows_in id store.tables

@@ -1,6 +1,6 @@
 -- Rows of any kind: their pages, and rows behind others.
-use Rattle.dv_store_rules.proofs.Vocabulary.{◌≡◌, ◌∙◌, Bool, ℕ, zero, suc, ◌+◌, ◌-◌, ◌≤◌, ◌<◌, true, false, List, [], ◌∷◌, ◌++◌, refl, sym, ap, arith, rules, length, take, drop, min, length-take, length-drop, length-append, take_all, take_min, take-nil, sum_by, sum_by-append, sum_by-cons}
-use Rattle.dv_store_rules.proofs.Vocabulary.{TableId, Rows, TableRows, and_parts, has_kind, have_kinds, is_of_kind, no_rows, page, row_count, rows_in, rows_then, rows_weight, same_table, table_eq}
+use Rattle.dv_store_rules.proofs.Vocabulary.{Bool, List, Rows, TableId, TableRows, [], and_parts, ap, arith, drop, false, has_kind, have_kinds, is_of_kind, length, length-append, length-drop, length-take, min, no_rows, page, refl, row_count, rows_in, rows_then, rows_weight, rules, same_table}
+use Rattle.dv_store_rules.proofs.Vocabulary.{suc, sum_by, sum_by-append, sum_by-cons, sym, table_eq, take, take-nil, take_all, take_min, true, zero, ℕ, ◌++◌, ◌+◌, ◌-◌, ◌<◌, ◌∙◌, ◌∷◌, ◌≡◌, ◌≤◌}
 
 -- ---- lists
 

@@ -1,7 +1,6 @@
 -- The rules of a row in their parts: those for a row by itself, that of the turns, and that of the weight.
-use Rattle.dv_store_rules.proofs.Vocabulary.{◌≡◌, ℕ, Bool, true, false, not, List, Option, Some, None, map, refl, sym, ◌∙◌, or_none, find, reverse, is_none, list_any, list_any-map, bytes_eq, if_broken, source_by, false≢true, found_member, none_found_at, none_passes, reverse_member, some_passes}
-use Rattle.dv_store_rules.proofs.Vocabulary.{AreClear, FeedDef, Mapping, Ordering, Place, is_source, own_rule, plain_rule, turn_rule, turning_rule}
-use Rattle.dv_store_rules.specs.OwnRules.{is_among}
+use Rattle.dv_store_rules.proofs.Vocabulary.{AreClear, Bool, FeedDef, List, Mapping, None, Option, Ordering, Place, Some, bytes_eq, false, false≢true, find, found_member, if_broken, is_among, is_none, is_source, list_any, list_any-map, map, none_found_at, none_passes, not, or_none, own_rule}
+use Rattle.dv_store_rules.proofs.Vocabulary.{plain_rule, refl, reverse, reverse_member, some_passes, source_by, sym, true, turn_rule, turning_rule, ℕ, ◌∙◌, ◌≡◌}
 
 -- ---- record sources
 

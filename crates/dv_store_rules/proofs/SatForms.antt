@@ -1,15 +1,7 @@
 -- The rules of a row of a satellite are those of a row by itself, and of the weight.
-use Rattle.dv_store_rules.proofs.Vocabulary.{rules}
-use Rattle.dv_store_rules.proofs.Vocabulary.{◌≡◌, ℕ, ◌+◌, ◌≤◌, Bool, true, List, Option, None, length, or_none, on_total}
-use Rattle.dv_store_rules.proofs.Vocabulary.{AreClear, Hashes, IsKnown, IsStrictlySortedBy, Known, KnownTables, SatRow, nat_list_cmp_total, own_of, plain_rule, sat_cmp, sat_place, sat_rule, text_weight, texts_weight}
-use Rattle.dv_store_rules.proofs.Chains.{all_ascend}
-use Rattle.dv_store_rules.proofs.FeedForms.{LooksUp}
-use Rattle.dv_store_rules.proofs.RuleParts.{plain_owns_clear}
-use Rattle.dv_store_rules.proofs.FeedForms.{texts_fit}
-use Rattle.dv_store_rules.specs.FormRules.{are_texts, attr_count}
-use Rattle.dv_store_rules.specs.OwnRules.{first_stands, sat_early, sat_form, sat_hashed, sat_late, unbroken}
-use Rattle.dv_store_rules.proofs.Vocabulary.{and_parts, attrs_fit}
-use Rattle.dv_sat.specs.SatRows.{sat_order}
+use Rattle.dv_store_rules.proofs.Vocabulary.{AreClear, Bool, Hashes, IsKnown, IsStrictlySortedBy, Known, KnownTables, List, None, Option, SatRow, and_parts, are_texts, attr_count, attrs_fit, first_stands, length, nat_list_cmp_total, on_total, or_none, own_of, plain_rule, rules, sat_cmp}
+use Rattle.dv_store_rules.proofs.Vocabulary.{sat_early, sat_form, sat_hashed, sat_late, sat_order, sat_place, sat_rule, text_weight, texts_weight, true, unbroken, ℕ, ◌+◌, ◌≡◌, ◌≤◌}
+use Rattle.dv_store_rules.proofs.{Chains.all_ascend, FeedForms.LooksUp, FeedForms.texts_fit, RuleParts.plain_owns_clear}
 
 -- the attributes of a row that breaks none of the first rules fit a room
 pub row_fits : (attrs : ℕ) (loads : List ℕ) (width : ℕ) (row : SatRow) (behind : Bool) → attrs ≤ 32 → sat_early attrs loads width row behind ≡ None → attrs_fit row.attrs ≡ true

@@ -1,18 +1,7 @@
 -- The rows of a feed's effectivity table after valid windows break no rule of form.
-use Rattle.dv_store_rules.proofs.Vocabulary.{effect_place}
-use Rattle.dv_store_rules.proofs.Vocabulary.{Bool, Effect, Extract, Key, List, None, Option, Some, Window, [], all_refs, and_from, ap, appended-history, arith, delivers, eq-eqb, false, history, lt-ltb, made_of}
-use Rattle.dv_store_rules.proofs.Vocabulary.{nat_list_cmp_total, nat_lt, newest_rows, on_total, open_end, or_left, or_right, refl, reverse, source, sym, true, ℕ, ◌&&◌, ◌++◌, ◌+◌, ◌<◌, ◌==◌, ◌∙◌, ◌∷◌, ◌≡◌}
-use Rattle.dv_store_rules.specs.FormRules.{Known, is_light, is_span}
-use Rattle.dv_store_rules.specs.StoredRows.{effect_rule}
-use Rattle.dv_records.proofs.EffectTies.{begins_before}
-use Rattle.dv_records.specs.Effects.{effect_batch, effect_cmp, effect_row, span_between}
-use Rattle.dv_records.specs.Runs.{Span, run_begin}
-use Rattle.dv_records.specs.declared.raw_rows.EffectRow.{EffectRow}
-use Rattle.dv_records.specs.declared.stores.Rows.TheVariants.{Effects}
-use Rattle.dv_store_rules.proofs.Around.{Around, HaveParents, IsFlawless}
-use Rattle.dv_store_rules.proofs.BatchRows.{IsOfBatch}
-use Rattle.dv_store_rules.proofs.FeedRows.{IsFeedMade, feed_facts}
-use Rattle.dv_store_rules.proofs.SoundRows.{sound_rows}
+use Rattle.dv_store_rules.proofs.Vocabulary.{Bool, Effect, EffectRow, Effects, Extract, Key, Known, List, None, Option, Some, Span, Window, [], all_refs, and_from, ap, appended-history, arith, begins_before, delivers, effect_batch, effect_cmp, effect_place, effect_row, effect_rule, eq-eqb, false}
+use Rattle.dv_store_rules.proofs.Vocabulary.{history, is_light, is_span, lt-ltb, made_of, nat_list_cmp_total, nat_lt, newest_rows, on_total, open_end, or_left, or_right, refl, reverse, run_begin, source, span_between, sym, true, ℕ, ◌&&◌, ◌++◌, ◌+◌, ◌<◌, ◌==◌, ◌∙◌, ◌∷◌, ◌≡◌}
+use Rattle.dv_store_rules.proofs.{Around.Around, Around.HaveParents, Around.IsFlawless, BatchRows.IsOfBatch, FeedRows.IsFeedMade, FeedRows.feed_facts, SoundRows.sound_rows}
 
 -- a span between an earlier begin, if there is one, and a load date is a span of a row of this load date
 spans : (load : ℕ) (was : Option ℕ) (now : Bool) (row : EffectRow) → ((begin : ℕ) → was ≡ Some begin → begin < load) → span_between load was now ≡ Some (record { begin = row.begin; end = row.end }) → row.load ≡ load → is_span row ≡ true

@@ -1,11 +1,7 @@
 -- The heads of valid windows, and a window that is open behind them, break no rule of form.
-use Rattle.dv_store_rules.proofs.Vocabulary.{Contains, IsStrictlySortedBy, Less, List, Mapping, None, Staged, Window, [], all_pass, and_from, ap, arith, ascends, head_of, is_staged, is_window, length, length-append, length-map, list_all, lt-ltb}
-use Rattle.dv_store_rules.proofs.Vocabulary.{map, map-append, map-map, map_member, most_windows, nat_cmp, nat_lt, passes_at, ranked, refl, slice_get_within, staged_rows, subst, suc, sym, true, window_parts, ℕ, ◌++◌, ◌+◌, ◌<◌, ◌∙◌, ◌∷◌, ◌≡◌, ◌≤◌}
-use Rattle.dv_store_rules.specs.StoredHeads.{are_feeds, head_flaw, head_rule, is_head, is_stage}
-use Rattle.dv_records.proofs.WindowRows.{in_order}
-use Rattle.dv_text.specs.declared.rows.WindowHead.{WindowHead}
-use Rattle.dv_store_rules.proofs.Flawless.{flawless}
-use Rattle.dv_store_rules.proofs.Splits.{item_in, last_less, less_before}
+use Rattle.dv_store_rules.proofs.Vocabulary.{Contains, IsStrictlySortedBy, Less, List, Mapping, None, Staged, Window, WindowHead, [], all_pass, and_from, ap, are_feeds, arith, ascends, head_flaw, head_of, head_rule, in_order, is_head, is_stage, is_staged, is_window, length, length-append}
+use Rattle.dv_store_rules.proofs.Vocabulary.{length-map, list_all, lt-ltb, map, map-append, map-map, map_member, most_windows, nat_cmp, nat_lt, passes_at, ranked, refl, slice_get_within, staged_rows, subst, suc, sym, true, window_parts, ℕ, ◌++◌, ◌+◌, ◌<◌, ◌∙◌, ◌∷◌, ◌≡◌, ◌≤◌}
+use Rattle.dv_store_rules.proofs.{Flawless.flawless, Splits.item_in, Splits.last_less, Splits.less_before}
 
 -- ---- sealed windows
 

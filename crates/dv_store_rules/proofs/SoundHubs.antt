@@ -1,19 +1,7 @@
 -- The rows of a hub's table after valid windows break no rule of form.
-use Rattle.dv_store_rules.proofs.Vocabulary.{hub_place}
-use Rattle.dv_store_rules.proofs.Vocabulary.{Bool, Delivery, Hub, HubRow, Key, List, None, Option, Some, Window, [], and_from, ap, bytes_eq-Decides, false, fits_hub, hub_batch, hub_row, is_known, made_of, parent_hubs, parts_of, refl}
-use Rattle.dv_store_rules.proofs.Vocabulary.{reverse, slice_get, subst, sym, true, ℕ, ◌++◌, ◌+◌, ◌∙◌, ◌∷◌, ◌≡◌}
-use Rattle.dv_store_rules.specs.FormRules.{Known, has_key_hash, is_hub_row, is_light}
-use Rattle.dv_store_rules.specs.StoredRows.{hub_rule}
-use Rattle.dv_catalog.specs.declared.tables.TableId.TheVariants.{Hub as HubTable}
-use Rattle.dv_records.proofs.WindowRows.{key_form}
-use Rattle.dv_records.specs.Hubs.{only_key}
-use Rattle.dv_records.specs.declared.stores.Rows.TheVariants.{Hubs}
-use Rattle.dv_store_rules.proofs.Around.{Around, IsFlawless, parts_fit}
-use Rattle.dv_store_rules.proofs.BatchRows.{IsOfBatch}
-use Rattle.dv_store_rules.proofs.Brought.{key_fits}
-use Rattle.dv_store_rules.proofs.KeyRows.{IsMade, key_facts}
-use Rattle.dv_store_rules.proofs.SoundRows.{sound_rows}
-use Rattle.dv_records.proofs.HubTables.{the_only}
+use Rattle.dv_store_rules.proofs.Vocabulary.{Bool, Delivery, Hub, HubRow, HubTable, Hubs, Key, Known, List, None, Option, Some, Window, [], and_from, ap, bytes_eq-Decides, false, fits_hub, has_key_hash, hub_batch, hub_place, hub_row, hub_rule, is_hub_row, is_known, is_light, key_form, made_of}
+use Rattle.dv_store_rules.proofs.Vocabulary.{only_key, parent_hubs, parts_of, refl, reverse, slice_get, subst, sym, the_only, true, ℕ, ◌++◌, ◌+◌, ◌∙◌, ◌∷◌, ◌≡◌}
+use Rattle.dv_store_rules.proofs.{Around.Around, Around.IsFlawless, Around.parts_fit, BatchRows.IsOfBatch, Brought.key_fits, KeyRows.IsMade, KeyRows.key_facts, SoundRows.sound_rows}
 
 -- the key of a reference that is one key alone
 single_key : (a b : Key) → a ∷ [] ≡ b ∷ [] → a ≡ b

@@ -1,23 +1,10 @@
 -- The rows of a link's table after valid windows break no rule of form.
-use Rattle.dv_store_rules.proofs.Vocabulary.{link_place}
-use Rattle.dv_sat.proofs.SatFollowing.{if_not}
-use Rattle.dv_store_rules.proofs.Vocabulary.{Bool, Contains, Contains-cons_here, Contains-cons_there, Delivery, Hub, Key, Link, LinkRow, List, Mapping, None, Option, Parent, Some, Window, [], all_pass, all_pass_replicate, and_from, and_parts, ap}
-use Rattle.dv_store_rules.proofs.Vocabulary.{bytes_eq, bytes_eq-Decides, each_hash, eq-eqb, false, false≢true, fit_hubs, fits_hub, flat_map, is_known, is_missing, is_offered, keys_at, length, length-map, link_batch, link_row, list_all, map, map_member}
-use Rattle.dv_store_rules.proofs.Vocabulary.{missing_refs, not, offered_refs, or_left, or_right, parent_hubs, parts_of, refl, replicate, reverse, slice_get, some_passes_at, source, subst, sym, true, zip, ℕ}
-use Rattle.dv_store_rules.proofs.Vocabulary.{◌++◌, ◌+◌, ◌==◌, ◌∙◌, ◌∷◌, ◌≡◌}
-use Rattle.dv_store_rules.specs.FormRules.{Known, are_references, is_digest, is_in_hub, is_light, is_link_row, is_reference, zero_key}
-use Rattle.dv_store_rules.specs.StoredRows.{link_rule}
-use Rattle.dv_catalog.specs.declared.tables.TableId.TheVariants.{Link as LinkTable}
-use Rattle.dv_records.proofs.KnownLists.{key_at_first}
-use Rattle.dv_records.proofs.KnownRefs.{known_hashed}
-use Rattle.dv_records.specs.declared.stores.Rows.TheVariants.{Links}
-use Rattle.dv_store_rules.proofs.Around.{Around, HaveHubs, IsFlawless, is_wide}
-use Rattle.dv_store_rules.proofs.BatchRows.{IsOfBatch, event_in}
-use Rattle.dv_store_rules.proofs.Brought.{hub_of_link, key_brought, offered_from}
-use Rattle.dv_store_rules.proofs.KeyRows.{IsMade, KeyFacts, key_facts}
-use Rattle.dv_store_rules.proofs.SoundRows.{sound_rows}
-use Rattle.dv_store_rules.proofs.Widths.{AreOfWidth}
-use Rattle.dv_records.proofs.FeedRefs.{as_many, key_at_later}
+use Rattle.dv_store_rules.proofs.Vocabulary.{Bool, Contains, Contains-cons_here, Contains-cons_there, Delivery, Hub, Key, Known, Link, LinkRow, LinkTable, Links, List, Mapping, None, Option, Parent, Some, Window, [], all_pass, all_pass_replicate, and_from, and_parts, ap, are_references, as_many}
+use Rattle.dv_store_rules.proofs.Vocabulary.{bytes_eq, bytes_eq-Decides, each_hash, eq-eqb, false, false≢true, fit_hubs, fits_hub, flat_map, if_not, is_digest, is_in_hub, is_known, is_light, is_link_row, is_missing, is_offered, is_reference, key_at_first, key_at_later, keys_at, known_hashed}
+use Rattle.dv_store_rules.proofs.Vocabulary.{length, length-map, link_batch, link_place, link_row, link_rule, list_all, map, map_member, missing_refs, not, offered_refs, or_left, or_right, parent_hubs, parts_of, refl, replicate, reverse, slice_get, some_passes_at, source, subst, sym, true}
+use Rattle.dv_store_rules.proofs.Vocabulary.{zero_key, zip, ℕ, ◌++◌, ◌+◌, ◌==◌, ◌∙◌, ◌∷◌, ◌≡◌}
+use Rattle.dv_store_rules.proofs.{Around.Around, Around.HaveHubs, Around.IsFlawless, Around.is_wide, BatchRows.IsOfBatch, BatchRows.event_in, Brought.hub_of_link, Brought.key_brought, Brought.offered_from, KeyRows.IsMade, KeyRows.KeyFacts, KeyRows.key_facts, SoundRows.sound_rows}
+use Rattle.dv_store_rules.proofs.{Widths.AreOfWidth}
 
 -- ---- references
 

@@ -1,18 +1,7 @@
 -- The rows of a feed's multi-active satellite after valid windows break no rule of form.
-use Rattle.dv_store_rules.proofs.Vocabulary.{FeedDef, option_map_or}
-use Rattle.dv_store_rules.proofs.Vocabulary.{multi_place}
-use Rattle.dv_sat.proofs.SatFollowing.{if_so}
-use Rattle.dv_store_rules.proofs.Vocabulary.{Contains, Contains-append_right, Contains-map, Extract, List, Multi, NRow, None, Option, Some, Window, [], all_refs, and_from, ap, appended-history, bytes_eq-Decides, history}
-use Rattle.dv_store_rules.proofs.Vocabulary.{is_changed, length, multi_batch, multi_cmp, multi_row, newest_rows, refl, reverse, source, subst, sym, true, ℕ, ◌++◌, ◌+◌, ◌∙◌, ◌∷◌, ◌≡◌}
-use Rattle.dv_store_rules.specs.FormRules.{Known, are_texts, attr_count, is_diff_of, is_light, is_multi_row, sub_count}
-use Rattle.dv_store_rules.specs.StoredRows.{multi_rule}
-use Rattle.dv_records.specs.Ranks.{multi_total}
-use Rattle.dv_records.specs.declared.raw_rows.MultiRow.{MultiRow}
-use Rattle.dv_records.specs.declared.stores.Rows.TheVariants.{Multis}
-use Rattle.dv_store_rules.proofs.Around.{Around, HaveParents, IsFlawless, fields_fit, is_wide}
-use Rattle.dv_store_rules.proofs.BatchRows.{IsOfBatch}
-use Rattle.dv_store_rules.proofs.FeedRows.{IsFeedMade, feed_facts, its_feed, rows_formed}
-use Rattle.dv_store_rules.proofs.SoundRows.{sound_rows}
+use Rattle.dv_store_rules.proofs.Vocabulary.{Contains, Contains-append_right, Contains-map, Extract, FeedDef, Known, List, Multi, MultiRow, Multis, NRow, None, Option, Some, Window, [], all_refs, and_from, ap, appended-history, are_texts, attr_count, bytes_eq-Decides, history, if_so, is_changed}
+use Rattle.dv_store_rules.proofs.Vocabulary.{is_diff_of, is_light, is_multi_row, length, multi_batch, multi_cmp, multi_place, multi_row, multi_rule, multi_total, newest_rows, option_map_or, refl, reverse, source, sub_count, subst, sym, true, ℕ, ◌++◌, ◌+◌, ◌∙◌, ◌∷◌, ◌≡◌}
+use Rattle.dv_store_rules.proofs.{Around.Around, Around.HaveParents, Around.IsFlawless, Around.fields_fit, Around.is_wide, BatchRows.IsOfBatch, FeedRows.IsFeedMade, FeedRows.feed_facts, FeedRows.its_feed, FeedRows.rows_formed, SoundRows.sound_rows}
 
 module _ (known : Known) (feed : ℕ) where
   abbrev row_of : List Extract → Extract → NRow → Option MultiRow

@@ -1,8 +1,6 @@
 -- The rows of a table that is made of batches break no rule where each, behind those before it, breaks none.
-use Rattle.dv_store_rules.proofs.Vocabulary.{List, None, Option, [], appended, arith, le-leb, nat_le, refl, subst, sum_by, sum_by-append, sum_by-cons, sym, true, ℕ, ◌++◌, ◌+◌, ◌∙◌, ◌∷◌, ◌≡◌, ◌≤◌}
-use Rattle.dv_store_rules.specs.Flaws.{first_flaw}
-use Rattle.dv_store_rules.proofs.BatchRows.{IsOfBatch, of_batch}
-use Rattle.dv_store_rules.proofs.Flawless.{flawless}
+use Rattle.dv_store_rules.proofs.Vocabulary.{List, None, Option, [], appended, arith, first_flaw, le-leb, nat_le, refl, subst, sum_by, sum_by-append, sum_by-cons, sym, true, ℕ, ◌++◌, ◌+◌, ◌∙◌, ◌∷◌, ◌≡◌, ◌≤◌}
+use Rattle.dv_store_rules.proofs.{BatchRows.IsOfBatch, BatchRows.of_batch, Flawless.flawless}
 
 -- rows up to one weigh no more than all rows
 light_up_to : {R : Type 0} (weight : R → ℕ) (before : List R) (row : R) (after : List R) (tables most : ℕ) → tables + sum_by weight (before ++ row ∷ after) ≤ most → nat_le (tables + sum_by weight (before ++ row ∷ [])) most ≡ true

@@ -1,18 +1,7 @@
 -- The rows of a feed's satellite after valid windows break no rule of form.
-use Rattle.dv_store_rules.proofs.Vocabulary.{FeedDef, option_map_or}
-use Rattle.dv_store_rules.proofs.Vocabulary.{sat_place}
-use Rattle.dv_sat.proofs.SatFollowing.{if_so}
-use Rattle.dv_store_rules.proofs.Vocabulary.{Contains, Contains-append_right, Contains-map, Extract, List, NRow, None, Option, Sat, Some, Window, [], all_refs, and_from, ap, appended-history, bytes_eq-Decides}
-use Rattle.dv_store_rules.proofs.Vocabulary.{history, is_changed, length, nat_list_cmp_total, newest_rows, on_total, refl, reverse, sat_batch, sat_cmp, sat_row, source, subst, sym, true, ℕ, ◌++◌}
-use Rattle.dv_store_rules.proofs.Vocabulary.{◌+◌, ◌∙◌, ◌∷◌, ◌≡◌}
-use Rattle.dv_store_rules.specs.FormRules.{Known, are_texts, attr_count, is_diff_of, is_light, is_sat_row}
-use Rattle.dv_store_rules.specs.StoredRows.{sat_rule}
-use Rattle.dv_records.specs.declared.raw_rows.SatRow.{SatRow}
-use Rattle.dv_records.specs.declared.stores.Rows.TheVariants.{Sats}
-use Rattle.dv_store_rules.proofs.Around.{Around, HaveParents, IsFlawless, fields_fit, is_wide}
-use Rattle.dv_store_rules.proofs.BatchRows.{IsOfBatch}
-use Rattle.dv_store_rules.proofs.FeedRows.{IsFeedMade, feed_facts, its_feed, rows_formed}
-use Rattle.dv_store_rules.proofs.SoundRows.{sound_rows}
+use Rattle.dv_store_rules.proofs.Vocabulary.{Contains, Contains-append_right, Contains-map, Extract, FeedDef, Known, List, NRow, None, Option, Sat, SatRow, Sats, Some, Window, [], all_refs, and_from, ap, appended-history, are_texts, attr_count, bytes_eq-Decides, history, if_so, is_changed}
+use Rattle.dv_store_rules.proofs.Vocabulary.{is_diff_of, is_light, is_sat_row, length, nat_list_cmp_total, newest_rows, on_total, option_map_or, refl, reverse, sat_batch, sat_cmp, sat_place, sat_row, sat_rule, source, subst, sym, true, ℕ, ◌++◌, ◌+◌, ◌∙◌, ◌∷◌, ◌≡◌}
+use Rattle.dv_store_rules.proofs.{Around.Around, Around.HaveParents, Around.IsFlawless, Around.fields_fit, Around.is_wide, BatchRows.IsOfBatch, FeedRows.IsFeedMade, FeedRows.feed_facts, FeedRows.its_feed, FeedRows.rows_formed, SoundRows.sound_rows}
 
 module _ (known : Known) (feed : ℕ) where
   abbrev row_of : List Extract → Extract → NRow → Option SatRow

@@ -1,19 +1,8 @@
 -- The heads of the snapshots of a state break no rule of form.
-use Rattle.dv_store_rules.proofs.Vocabulary.{Contains, Contains-nil, Hashes, IsStrictlySortedBy, Less, List, Mapping, None, Option, Some, [], and_from, and_parts, ap, arith, ascends, eqb-true, head_of, last_or, leb-true, length, length-append, length-map, lt-ltb, le-leb}
-use Rattle.dv_store_rules.proofs.Vocabulary.{map, map-append, map-map, nat_cmp, nat_le, nat_lt, nat_tests, not, option_map_or, passes_at, ranked, refl, subst, suc, sum_by, sum_by-append, sum_by-cons, sym, true, ℕ, ◌++◌, ◌+◌, ◌<◌, ◌∙◌, ◌∷◌, ◌≡◌, ◌≤◌}
-use Rattle.std.proofs.lemmas.List.{map-id}
-use Rattle.std.proofs.lemmas.List.Sums.{sum-map}
-use Rattle.std.specs.List.{sum}
-use Rattle.dv_store_rules.proofs.Flawless.{flawless}
-use Rattle.dv_store_rules.proofs.Splits.{item_in, last_less, less_before}
-use Rattle.dv_store_rules.specs.SnapshotHeads.{heads_weight, is_snapshot, snapshot_flaw, snapshot_rule}
-use Rattle.dv_store_rules.specs.StoredHeads.{last_sealed}
-use Rattle.dv_records.proofs.WindowRows.{in_order}
-use Rattle.dv_text.specs.declared.rows.WindowHead.{WindowHead}
-use Rattle.dv_records.specs.declared.snapshots.SnapHead.{SnapHead}
-use Rattle.dv_records.specs.Limits.{most_snapshot_weight, most_snapshots}
-use Rattle.dv_records.specs.Snapshots.{snapshot}
-use Rattle.dv_records.specs.States.{State, are_dates_valid, are_not_later, last_load, snapshots_weight}
+use Rattle.dv_store_rules.proofs.Vocabulary.{Contains, Contains-nil, Hashes, IsStrictlySortedBy, Less, List, Mapping, None, Option, SnapHead, Some, State, WindowHead, [], and_from, and_parts, ap, are_dates_valid, are_not_later, arith, ascends, eqb-true, head_of, heads_weight, in_order}
+use Rattle.dv_store_rules.proofs.Vocabulary.{is_snapshot, last_load, last_or, last_sealed, le-leb, leb-true, length, length-append, length-map, lt-ltb, map, map-append, map-id, map-map, most_snapshot_weight, most_snapshots, nat_cmp, nat_le, nat_lt, nat_tests, not, option_map_or, passes_at}
+use Rattle.dv_store_rules.proofs.Vocabulary.{ranked, refl, snapshot, snapshot_flaw, snapshot_rule, snapshots_weight, subst, suc, sum, sum-map, sum_by, sum_by-append, sum_by-cons, sym, true, ℕ, ◌++◌, ◌+◌, ◌<◌, ◌∙◌, ◌∷◌, ◌≡◌, ◌≤◌}
+use Rattle.dv_store_rules.proofs.{Flawless.flawless, Splits.item_in, Splits.last_less, Splits.less_before}
 
 -- a date that is not later than the last one
 reached : (last : Option ℕ) (dates : List ℕ) (date : ℕ) → are_not_later last dates ≡ true → Contains dates date → not (option_map_or (λ last. nat_lt last date) last true) ≡ true

@@ -1,22 +1,9 @@
 -- The rows of a feed's status table after valid windows break no rule of form.
-use Rattle.dv_store_rules.proofs.Vocabulary.{refl}
-use Rattle.dv_store_rules.proofs.Vocabulary.{status_place}
-use Rattle.dv_store_rules.proofs.Vocabulary.{Contains, Contains-append_right, Extract, IsApart, IsStrictlySortedBy, IsTotalOrder, Key, List, None, Option, Some, Status, StatusRow, Window, [], all_refs, ap, appended, appended-history, ascending-sorted_by}
-use Rattle.dv_store_rules.proofs.Vocabulary.{code_of, filter_map, history, lists_of, made_of, nat_list_cmp_total, newest_rows, on_total, reverse, source, status_batch, status_cmp, status_row, subst, sym, true}
-use Rattle.dv_store_rules.proofs.Vocabulary.{ℕ, ◌++◌, ◌+◌, ◌∙◌, ◌∷◌, ◌≡◌}
-use Rattle.dv_store_rules.specs.FormRules.{Known, is_light, last_code, takes_turn}
-use Rattle.dv_store_rules.specs.StoredRows.{status_rule}
-use Rattle.dv_records.proofs.FeedContents.{feed_apart}
-use Rattle.dv_records.proofs.LastChange.{lists_reversed}
-use Rattle.dv_records.proofs.StatusReconstruct.{both_lists}
-use Rattle.dv_records.specs.declared.stores.Rows.TheVariants.{Statuses}
-use Rattle.dv_store_rules.proofs.Around.{Around, HaveParents, IsFlawless}
-use Rattle.dv_store_rules.proofs.BatchRows.{IsOfBatch}
-use Rattle.dv_store_rules.proofs.FeedRows.{FeedFacts, IsFeedMade, feed_facts, its_feed}
-use Rattle.dv_store_rules.proofs.KeyRows.{digests_differ}
-use Rattle.dv_store_rules.proofs.SoundRows.{sound_rows}
-use Rattle.dv_store_rules.proofs.Splits.{less_before}
-use Rattle.dv_store_rules.proofs.CodeTurns.{lists_of_more, turn_taken}
+use Rattle.dv_store_rules.proofs.Vocabulary.{Contains, Contains-append_right, Extract, IsApart, IsStrictlySortedBy, IsTotalOrder, Key, Known, List, None, Option, Some, Status, StatusRow, Statuses, Window, [], all_refs, ap, appended, appended-history, ascending-sorted_by, both_lists, code_of}
+use Rattle.dv_store_rules.proofs.Vocabulary.{feed_apart, filter_map, history, is_light, last_code, lists_of, lists_reversed, made_of, nat_list_cmp_total, newest_rows, on_total, refl, reverse, source, status_batch, status_cmp, status_place, status_row, status_rule, subst, sym, takes_turn, true, ℕ}
+use Rattle.dv_store_rules.proofs.Vocabulary.{◌++◌, ◌+◌, ◌∙◌, ◌∷◌, ◌≡◌}
+use Rattle.dv_store_rules.proofs.{Around.Around, Around.HaveParents, Around.IsFlawless, BatchRows.IsOfBatch, FeedRows.FeedFacts, FeedRows.IsFeedMade, FeedRows.feed_facts, FeedRows.its_feed, KeyRows.digests_differ, SoundRows.sound_rows, Splits.less_before, CodeTurns.lists_of_more}
+use Rattle.dv_store_rules.proofs.{CodeTurns.turn_taken}
 
 module _ (known : Known) (feed : ℕ) where
   abbrev things : List Extract → Extract → List (List Key)

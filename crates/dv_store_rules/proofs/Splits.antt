@@ -1,7 +1,6 @@
 -- What stands before an item of a list, where the list is parted there.
-use Rattle.dv_store_rules.proofs.Vocabulary.{rules}
-use Rattle.dv_store_rules.proofs.Vocabulary.{Contains, Contains-append_left, Contains-append_right, Contains-cons_cases, Contains-cons_here, Contains-cons_there, Contains-nil, IsStrictlySortedBy, Less, List, None, Option, Ordering, Some, [], ap, inl, inr}
-use Rattle.dv_store_rules.proofs.Vocabulary.{last_or, lt-ltb, member_of_all, nat_lt, option_map_or, refl, true, ℕ, ◌<◌, subst, sym, ◌++◌, ◌∷◌, ◌≡◌, ◌⊎◌}
+use Rattle.dv_store_rules.proofs.Vocabulary.{Contains, Contains-append_left, Contains-append_right, Contains-cons_cases, Contains-cons_here, Contains-cons_there, Contains-nil, IsStrictlySortedBy, Less, List, None, Option, Ordering, Some, [], ap, inl, inr, last_or, lt-ltb, member_of_all, nat_lt}
+use Rattle.dv_store_rules.proofs.Vocabulary.{option_map_or, refl, rules, subst, sym, true, ℕ, ◌++◌, ◌<◌, ◌∷◌, ◌≡◌, ◌⊎◌}
 
 -- ---- a list that is parted
 

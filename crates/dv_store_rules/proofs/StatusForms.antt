@@ -1,12 +1,7 @@
 -- The rules of a row of a status table are those of a row by itself, of codes by turns, and of the weight.
-use Rattle.dv_store_rules.proofs.Vocabulary.{rules}
-use Rattle.dv_store_rules.proofs.Vocabulary.{◌≡◌, ℕ, ◌+◌, Bool, List, Option, length, or_none, on_total, is_digest}
-use Rattle.dv_store_rules.proofs.Vocabulary.{AreClear, Hashes, IsKnown, IsStrictlySortedBy, Known, KnownTables, StatusRow, nat_list_cmp_total, own_of, status_cmp, status_place, status_rule, text_weight, turning_rule}
-use Rattle.dv_store_rules.proofs.Chains.{all_ascend}
-use Rattle.dv_store_rules.proofs.FeedForms.{LooksUp}
-use Rattle.dv_store_rules.proofs.RuleParts.{owns_clear}
-use Rattle.dv_store_rules.specs.OwnRules.{first_stands, none_asked, status_early, status_late, turns}
-use Rattle.dv_track.specs.Tracks.{status_order}
+use Rattle.dv_store_rules.proofs.Vocabulary.{AreClear, Bool, Hashes, IsKnown, IsStrictlySortedBy, Known, KnownTables, List, Option, StatusRow, first_stands, is_digest, length, nat_list_cmp_total, none_asked, on_total, or_none, own_of, rules, status_cmp, status_early, status_late, status_order}
+use Rattle.dv_store_rules.proofs.Vocabulary.{status_place, status_rule, text_weight, turning_rule, turns, ℕ, ◌+◌, ◌≡◌}
+use Rattle.dv_store_rules.proofs.{Chains.all_ascend, FeedForms.LooksUp, RuleParts.owns_clear}
 
 -- what a row weighs
 abbrev pub status_weight : StatusRow → ℕ

@@ -1,7 +1,7 @@
 -- The first flaw of rows, told from how far a walk over them came and from the first row that doesn't fit the last row of
 -- its parent before it.
-use Rattle.dv_store_rules.proofs.Vocabulary.{◌≡◌, ℕ, ◌+◌, ◌<◌, ◌≤◌, Bool, true, false, List, [], ◌∷◌, ◌++◌, Option, Some, None, length, take, slice_get, refl, sym, ◌∙◌, arith, nat_le, sum_by, sum_by_push, if_broken, most_weight, take_got, if◌then◌else◌, IfNone, IfSome, unwrap_or, length-take-le, slice_get_within}
-use Rattle.dv_store_rules.proofs.Vocabulary.{AreClear, Breaks, Flaw, IsFirst, Ordering, Place, first_flaw, own_rule, plain_rule, turn_rule, turning_rule, weight_rule}
+use Rattle.dv_store_rules.proofs.Vocabulary.{AreClear, Bool, Breaks, Flaw, IfNone, IfSome, IsFirst, List, None, Option, Ordering, Place, Some, [], arith, false, first_flaw, if_broken, if◌then◌else◌, length, length-take-le, most_weight, nat_le, own_rule, plain_rule, refl, slice_get}
+use Rattle.dv_store_rules.proofs.Vocabulary.{slice_get_within, sum_by, sum_by_push, sym, take, take_got, true, turn_rule, turning_rule, unwrap_or, weight_rule, ℕ, ◌++◌, ◌+◌, ◌<◌, ◌∙◌, ◌∷◌, ◌≡◌, ◌≤◌}
 use Rattle.dv_store_rules.proofs.FirstFlaws.{clear_fewer, clear_taken, first_taken, flaw_is}
 
 -- ---- the weight

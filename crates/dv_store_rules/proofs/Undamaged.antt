@@ -1,35 +1,11 @@
 -- A store that stands for a state of the warehouse has no damage where its mapping is valid.
-use Rattle.dv_store_rules.proofs.Vocabulary.{Contains, Contains-append_left, Contains-map, Effect, Hashes, List, Mapping, Multi, None, Option, Sat, Some, Status, Store, TableId, Window, [], and_parts, ap, append-nil, are_windows_valid, backwards, codes}
-use Rattle.dv_store_rules.proofs.Vocabulary.{first_of, hashes_of, head_of, is_valid, is_window, length, map, map-append, map-map, most_weight, option_map, option_to_list, passes_at, refl, rows_weight, subst, sym, table_after, table_name, tables, tables_weight, true, ℕ}
-use Rattle.dv_store_rules.proofs.Vocabulary.{◌++◌, ◌+◌, ◌∙◌, ◌∷◌, ◌≡◌, ◌≤◌}
-use Rattle.dv_store_rules.specs.Damages.{damage_at, damage_in, form_damage, head_damage, known_before, raw_damage, snapshot_damage, stage_damage, stage_damage_by, stored_entries}
-use Rattle.dv_store_rules.specs.Flaws.{if_broken}
-use Rattle.dv_store_rules.specs.FormRules.{Known}
-use Rattle.dv_store_rules.specs.SnapshotHeads.{snapshot_flaw, snapshot_heads}
-use Rattle.dv_store_rules.specs.StoredHeads.{head_flaw, is_stage}
-use Rattle.dv_records.specs.declared.snapshots.Snap.{Snap}
-use Rattle.dv_records.specs.Snapshots.{snapshot}
-use Rattle.dv_store_rules.specs.StoredRows.{flaw_in}
-use Rattle.dv_catalog.specs.declared.tables.TableId.TheVariants.{Hub as HubTable, Link as LinkTable}
-use Rattle.dv_records.specs.Standing.{Stands, TablesStand}
-use Rattle.dv_records.specs.States.{State, all_windows, are_dates_valid}
-use Rattle.dv_store_rules.proofs.Around.{Around, HaveParents}
-use Rattle.dv_store_rules.proofs.EarlierTables.{hub_earlier, link_earlier}
-use Rattle.dv_store_rules.proofs.FewerWindows.{fewer_valid, parts_of_valid}
-use Rattle.dv_store_rules.proofs.Flawless.{none_along}
-use Rattle.dv_store_rules.proofs.Reached.{Holds, partial_holds, vault_holds_all}
-use Rattle.dv_store_rules.proofs.ReadBefore.{hubs_before, light_with, links_before}
-use Rattle.dv_store_rules.proofs.SoundEffects.{sound_effect}
-use Rattle.dv_store_rules.proofs.SoundHeads.{sound_heads, sound_stage}
-use Rattle.dv_store_rules.proofs.SoundHubs.{sound_hub}
-use Rattle.dv_store_rules.proofs.SoundLinks.{sound_link}
-use Rattle.dv_store_rules.proofs.SoundMultis.{sound_multi}
-use Rattle.dv_store_rules.proofs.SoundSats.{sound_sat}
-use Rattle.dv_store_rules.proofs.SoundSnapshots.{sound_snapshots}
-use Rattle.dv_store_rules.proofs.SoundStatuses.{sound_status}
-use Rattle.dv_store_rules.proofs.Splits.{item_in}
-use Rattle.dv_text.specs.Keys.{DigestFunction}
-use Rattle.dv_store_rules.proofs.Widths.{AreOfWidth, of_width}
+use Rattle.dv_store_rules.proofs.Vocabulary.{Contains, Contains-append_left, Contains-map, DigestFunction, Effect, Hashes, HubTable, Known, LinkTable, List, Mapping, Multi, None, Option, Sat, Snap, Some, Stands, State, Status, Store, TableId, TablesStand, Window, [], all_windows, and_parts, ap}
+use Rattle.dv_store_rules.proofs.Vocabulary.{append-nil, are_dates_valid, are_windows_valid, backwards, codes, damage_at, damage_in, first_of, flaw_in, form_damage, hashes_of, head_damage, head_flaw, head_of, if_broken, is_stage, is_valid, is_window, known_before, length, map, map-append}
+use Rattle.dv_store_rules.proofs.Vocabulary.{map-map, most_weight, option_map, option_to_list, passes_at, raw_damage, refl, rows_weight, snapshot, snapshot_damage, snapshot_flaw, snapshot_heads, stage_damage, stage_damage_by, stored_entries, subst, sym, table_after, table_name, tables}
+use Rattle.dv_store_rules.proofs.Vocabulary.{tables_weight, true, ℕ, ◌++◌, ◌+◌, ◌∙◌, ◌∷◌, ◌≡◌, ◌≤◌}
+use Rattle.dv_store_rules.proofs.{Around.Around, Around.HaveParents, EarlierTables.hub_earlier, EarlierTables.link_earlier, FewerWindows.fewer_valid, FewerWindows.parts_of_valid, Flawless.none_along, Reached.Holds, Reached.partial_holds, Reached.vault_holds_all, ReadBefore.hubs_before}
+use Rattle.dv_store_rules.proofs.{ReadBefore.light_with, ReadBefore.links_before, SoundEffects.sound_effect, SoundHeads.sound_heads, SoundHeads.sound_stage, SoundHubs.sound_hub, SoundLinks.sound_link, SoundMultis.sound_multi, SoundSats.sound_sat, SoundSnapshots.sound_snapshots}
+use Rattle.dv_store_rules.proofs.{SoundStatuses.sound_status, Splits.item_in, Widths.AreOfWidth, Widths.of_width}
 
 module _ (mapping : Mapping) (hashes : Hashes) (width : ℕ) (store : Store) (windows : List Window) (mapping_valid : is_valid mapping ≡ true) (wide : AreOfWidth hashes width) (valid : are_windows_valid mapping hashes windows ≡ true)
     (holds : Holds mapping hashes store windows) (headed : (window : Window) → Contains windows window → Contains (store.windows ++ map head_of (option_to_list store.stage)) (head_of window)) where

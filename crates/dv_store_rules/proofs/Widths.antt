@@ -1,7 +1,5 @@
 -- Hash keys and hash differences have the width of the digest function.
-use Rattle.dv_store_rules.proofs.Vocabulary.{Bool, Hashes, Key, List, cond, false, hashes_of, is_missing, length, length-replicate, list_all, refl, true, ℕ, ◌≡◌}
-use Rattle.dv_store_rules.specs.FormRules.{zero_key}
-use Rattle.dv_text.specs.Keys.{DigestFunction, joined, refs_text}
+use Rattle.dv_store_rules.proofs.Vocabulary.{Bool, DigestFunction, Hashes, Key, List, cond, false, hashes_of, is_missing, joined, length, length-replicate, list_all, refl, refs_text, true, zero_key, ℕ, ◌≡◌}
 
 -- each has it, and what is missing has the zero key
 pub record AreOfWidth (hashes : Hashes) (width : ℕ) : Type 0 where

@@ -1,6 +1,6 @@
 -- Bytes compare as the numbers that they spell, the greatest first.
-use Rattle.dv_text.proofs.Vocabulary.{◌≡◌, ℕ, zero, suc, ◌+◌, ◌*◌, ◌<◌, ◌≤◌, List, [], ◌∷◌, arith, refl, sym, ◌∙◌, ap, length, take, drop, inl, inr, All, Ordering, Less, Equal, Greater, nat_cmp, nat_cmp_is, ranked}
-use Rattle.dv_text.proofs.Vocabulary.{is_eq, nat_eq, nat_tests, pointwise, texts_ties, All-drop, length-drop, ordering_then, text_cmp, IsDigest, IsShort, big_endian, digest_prefix}
+use Rattle.dv_text.proofs.Vocabulary.{All, All-drop, Equal, Greater, IsDigest, IsShort, Less, List, Ordering, [], ap, arith, big_endian, digest_prefix, drop, inl, inr, is_eq, length, length-drop, nat_cmp, nat_cmp_is, nat_eq, nat_tests, ordering_then, pointwise, ranked, refl, suc, sym, take}
+use Rattle.dv_text.proofs.Vocabulary.{text_cmp, texts_ties, zero, ℕ, ◌*◌, ◌+◌, ◌<◌, ◌∙◌, ◌∷◌, ◌≡◌, ◌≤◌}
 
 abbrev AreBytes : List ℕ → Type 0
 AreBytes bytes = All (λ byte. byte < 256) bytes
@@ -54,12 +54,6 @@ prefix_first a b p q = then_twice _ _ _ (spelt 8 0 a b (long a p) (long b q) p.f
   where
     long : (bytes : List ℕ) → IsDigest bytes → 8 ≤ length bytes
     long bytes is = elim (is.width) [ inl e ↦ omega (arith, e) | inr e ↦ omega (arith, e) ]
-
-pub prefix_less : (a b : List ℕ) → IsDigest a → IsDigest b → digest_prefix a < digest_prefix b → text_cmp a b ≡ Less
-prefix_less a b p q lt = prefix_first a b p q ∙ ap (λ r. ordering_then r (text_cmp a b)) (sym (nat_cmp_is (digest_prefix a) (digest_prefix b) Less lt))
-
-pub prefix_greater : (a b : List ℕ) → IsDigest a → IsDigest b → digest_prefix b < digest_prefix a → text_cmp a b ≡ Greater
-prefix_greater a b p q gt = prefix_first a b p q ∙ ap (λ r. ordering_then r (text_cmp a b)) (sym (nat_cmp_is (digest_prefix a) (digest_prefix b) Greater gt))
 
 -- ---- 16 bytes, by two numbers
 

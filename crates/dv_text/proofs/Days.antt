@@ -1,7 +1,6 @@
 -- The days of the years from 1900 to 9998.
-use Rattle.dv_text.proofs.Vocabulary.{◌≡◌, ℕ, ◌+◌, ◌*◌, ◌<◌, refl, arith, ℤ, pos, neg_ℤ, ◌+ℤ◌, ◌-ℤ◌, ◌*ℤ◌, ◌<ℤ◌, ◌≤ℤ◌, day_count, days_of_years, days_of_months, IsCivilDate, Date, DateTime, epoch_day, civil_nanos, civil_seconds}
-use Rattle.dv_text.proofs.Vocabulary.{time_seconds, IsTimestampNanos, days_from_civil-day_count, day_count-lt_year, day_count-day_of_year, int_div, by_lt_z, civil_nanos-civil_seconds, civil, signed_arith, unsigned_abs-parts, one_part}
-use Rattle.dv_text.proofs.Vocabulary.{days_since_1900, rules}
+use Rattle.dv_text.proofs.Vocabulary.{Date, DateTime, IsCivilDate, IsTimestampNanos, arith, by_lt_z, civil, civil_nanos, civil_nanos-civil_seconds, civil_seconds, day_count, day_count-day_of_year, day_count-lt_year, days_from_civil-day_count, days_of_months, days_of_years, days_since_1900}
+use Rattle.dv_text.proofs.Vocabulary.{epoch_day, int_div, neg_ℤ, one_part, pos, refl, rules, signed_arith, time_seconds, unsigned_abs-parts, ℕ, ℤ, ◌*ℤ◌, ◌*◌, ◌+ℤ◌, ◌+◌, ◌-ℤ◌, ◌<ℤ◌, ◌<◌, ◌≡◌, ◌≤ℤ◌}
 
 day_count-1899 : day_count (pos 1899) 12 31 ≡ 4_346_385
 unfolding day_count days_of_years days_of_months

@@ -1,9 +1,7 @@
 -- The tests of texts, keys and reference lists decide equality, and agree with the orders.
-use Rattle.dv_text.proofs.Vocabulary.{◌≡◌, ◌↔◌, ℕ, true, List, map, refl, subst, Contains, Decides, IsTotalOrder, lists_ties, lists_total, nat_list_cmp_total, slice_cmp, texts_ties, IsAntisymmetric, slice_cmp-IsAntisymmetric, eq_by_cmp}
-use Rattle.dv_text.proofs.Vocabulary.{list_any, on_total, then_total, Decides-and, bytes_eq-Decides, slice_eq-Decides, Key, NRow, key_cmp-IsAntisymmetric, text_cmp-IsAntisymmetric, key_eq, refs_eq, row_eq, texts_eq, key_cmp, refs_cmp}
-use Rattle.dv_text.proofs.Vocabulary.{row_cmp, text_cmp, rules}
-use Rattle.dv_text.proofs.Members.{Contains-map, map_member}
-use Rattle.dv_text.proofs.Passing.{some_passes, some_passes_at}
+use Rattle.dv_text.proofs.Vocabulary.{Contains, Decides, Decides-and, IsAntisymmetric, IsTotalOrder, Key, List, NRow, bytes_eq-Decides, eq_by_cmp, key_cmp, key_cmp-IsAntisymmetric, key_eq, list_any, lists_ties, lists_total, map, nat_list_cmp_total, on_total, refl, refs_cmp, refs_eq, row_cmp}
+use Rattle.dv_text.proofs.Vocabulary.{row_eq, rules, slice_cmp, slice_cmp-IsAntisymmetric, slice_eq-Decides, subst, text_cmp, text_cmp-IsAntisymmetric, texts_eq, texts_ties, then_total, true, ℕ, ◌↔◌, ◌≡◌}
+use Rattle.dv_text.proofs.{Members.Contains-map, Members.map_member, Passing.some_passes, Passing.some_passes_at}
 
 pub texts_eq-Decides : (a b : List (List ℕ)) → Decides (texts_eq a b) (a ≡ b)
 texts_eq-Decides a b = slice_eq-Decides bytes_eq-Decides a b _ refl

@@ -1,6 +1,6 @@
 -- What the form of a stamp says of its parts.
-use Rattle.dv_text.proofs.Vocabulary.{◌≡◌, ℕ, ◌+◌, ◌-◌, ◌*◌, ◌/◌, ◌%◌, ◌<◌, ◌≤◌, List, length, true, arith, refl, pos, Some, is_ascii_digit, and_parts, nat_tests, days_in_month, days_in_month_bounds, are_two_at, has_digits, has_form}
-use Rattle.dv_text.proofs.Vocabulary.{has_marks, is_there, seconds_if, seconds_of, stamp_in, text_of, rules}
+use Rattle.dv_text.proofs.Vocabulary.{List, Some, and_parts, are_two_at, arith, days_in_month, days_in_month_bounds, has_digits, has_form, has_marks, is_ascii_digit, is_there, length, nat_tests, pos, refl, rules, seconds_if, seconds_of, stamp_in, text_of, true, ℕ, ◌%◌, ◌*◌, ◌+◌, ◌-◌, ◌/◌, ◌<◌}
+use Rattle.dv_text.proofs.Vocabulary.{◌≡◌, ◌≤◌}
 
 pub record Parts (t : List ℕ) : Type 0 where
   pub long : length t ≡ 19

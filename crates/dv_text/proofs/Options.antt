@@ -1,6 +1,6 @@
 -- What is in an option, and what a list has at a place.
-use Rattle.dv_text.proofs.Vocabulary.{◌≡◌, inl, inr, ℕ, ◌+◌, ◌<◌, ◌≤◌, ◌∷◌, ◌++◌, [], length, take, true, List, Option, Some, None, refl, sym, ◌∙◌, ap, arith, drop, Contains, slice_get, is_none, option_map, option_or, drop_more, take_more}
-use Rattle.dv_text.proofs.Vocabulary.{get_or_from_slice_get, slice_get_cases, slice_get_within, rules}
+use Rattle.dv_text.proofs.Vocabulary.{Contains, List, None, Option, Some, [], ap, arith, drop, drop_more, get_or_from_slice_get, inl, inr, is_none, length, option_map, option_or, refl, rules, slice_get, slice_get_cases, slice_get_within, sym, take, take_more, true, ℕ, ◌++◌, ◌+◌, ◌<◌, ◌∙◌, ◌∷◌}
+use Rattle.dv_text.proofs.Vocabulary.{◌≡◌, ◌≤◌}
 
 pub none_from : {X : Type 0} (o : Option X) → is_none o ≡ true → o ≡ None
 none_from o h1 = search (rules)

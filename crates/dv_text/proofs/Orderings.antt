@@ -1,5 +1,5 @@
 -- What two things' order is, alone and before another order.
-use Rattle.dv_text.proofs.Vocabulary.{◌≡◌, ◌⊎◌, ℕ, ◌<◌, ◌≤◌, true, sym, ◌∙◌, ap, arith, Ordering, Less, Equal, Greater, IsTotalOrder, tied_itself, is_lt, nat_cmp, ordering_reverse, ordering_then, nat_tests, rules}
+use Rattle.dv_text.proofs.Vocabulary.{Equal, Greater, IsTotalOrder, Less, Ordering, ap, arith, is_lt, nat_cmp, nat_tests, ordering_reverse, ordering_then, rules, sym, tied_itself, true, ℕ, ◌<◌, ◌∙◌, ◌≡◌, ◌≤◌, ◌⊎◌}
 
 pub is_less : (r : Ordering) → is_lt r ≡ true → r ≡ Less
 is_less r h1 = search (rules)

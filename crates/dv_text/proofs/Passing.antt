@@ -1,8 +1,7 @@
 -- Tests of every item, of some item and of the first that passes, item by item.
-use Rattle.dv_text.proofs.Vocabulary.{◌≡◌, ℕ, Bool, true, false, not, ◌||◌, filter, find, get_or, map, replicate, List, [], ◌∷◌, ◌++◌, Option, Some, None, refl, sym, ◌∙◌, ap, Contains, slice_get, Decides, All, list_all, list_any, and_from}
-use Rattle.dv_text.proofs.Vocabulary.{false≢true, false_from_ne_true, not-false, Decides-by_and, same_from_decides, All-contains, All-replicate, Contains-get_or, Any-from_list_any, list_all-append, list_any_at, rules}
-use Rattle.dv_text.proofs.Members.{Contains-cons_cases, Contains-cons_here, Contains-cons_there, Contains-nil}
-use Rattle.dv_text.proofs.Options.{got_member}
+use Rattle.dv_text.proofs.Vocabulary.{All, All-contains, All-replicate, Any-from_list_any, Bool, Contains, Contains-get_or, Decides, Decides-by_and, List, None, Option, Some, [], and_from, ap, false, false_from_ne_true, false≢true, filter, find, get_or, list_all, list_all-append, list_any}
+use Rattle.dv_text.proofs.Vocabulary.{list_any_at, map, not, not-false, refl, replicate, rules, same_from_decides, slice_get, sym, true, ℕ, ◌++◌, ◌||◌, ◌∙◌, ◌∷◌, ◌≡◌}
+use Rattle.dv_text.proofs.{Members.Contains-cons_cases, Members.Contains-cons_here, Members.Contains-cons_there, Members.Contains-nil, Options.got_member}
 
 -- ---- every item
 

@@ -1,6 +1,6 @@
 -- The place of the first item that passes a test.
-use Rattle.dv_text.proofs.Vocabulary.{◌≡◌, ℕ, suc, ◌<◌, ◌∷◌, ◌++◌, List, [], Option, Some, None, Bool, true, false, cond, length, refl, sym, ◌∙◌, ap, Contains, slice_get, is_some, position, option_map, option_or, list_any, false≢true}
-use Rattle.dv_text.proofs.Vocabulary.{lt-ltb, position-Some, fails_before_first, position_or_len_is, get_or_from_slice_get, slice_get-get_or, slice_get_within, same_Some, Contains-get_or, rules}
+use Rattle.dv_text.proofs.Vocabulary.{Bool, Contains, Contains-get_or, List, None, Option, Some, [], ap, cond, fails_before_first, false, false≢true, get_or_from_slice_get, is_some, length, list_any, lt-ltb, option_map, option_or, position, position-Some, position_or_len_is, refl, rules}
+use Rattle.dv_text.proofs.Vocabulary.{same_Some, slice_get, slice_get-get_or, slice_get_within, suc, sym, true, ℕ, ◌++◌, ◌<◌, ◌∙◌, ◌∷◌, ◌≡◌}
 use Rattle.dv_text.proofs.Passing.{none_pass, some_passes_at}
 
 pub position-cons : {X : Type 0} (test : X → Bool) (x : X) (xs : List X) → position test (x ∷ xs) ≡ cond (test x) (Some 0) (option_map suc (position test xs))

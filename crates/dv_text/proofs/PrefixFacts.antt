@@ -1,12 +1,10 @@
 -- Numbers that are read byte by byte, and lists in order by numbers first.
-use Rattle.dv_text.proofs.Vocabulary.{◌≡◌, ◌&&◌, inl, inr, ℕ, zero, suc, ◌+◌, ◌*◌, ◌<◌, ◌≤◌, ◌^◌, Bool, List, [], ◌∷◌, refl, sym, ap, ◌∙◌, arith, min, drop, get_or, length, map, nat_eq, Ordering, Less, Greater, ordering_reverse, ordering_then, nat_cmp, nat_cmp_total}
-use Rattle.dv_text.proofs.Vocabulary.{IsTotalOrder, IsAntisymmetric, IsSorted, IsPermutation, IsFiltered, DiffersFromLast, IsStrictlySortedBy, eq_by_cmp, both_tied, unsigned_tied, nat_cmp-IsAntisymmetric, then_total, on_total, cases_order, lt-ltb, nat_tests, pow-suc, pow-le-pow_right, sorted_from_all_adjacent, sorted_by, Agrees, Fronted, fronted}
+use Rattle.dv_text.proofs.Vocabulary.{Agrees, Bool, DiffersFromLast, Fronted, Greater, IsAntisymmetric, IsFiltered, IsPermutation, IsSorted, IsStrictlySortedBy, IsTotalOrder, Less, List, Ordering, [], ap, arith, both_tied, cases_order, drop, eq_by_cmp, fronted, get_or, inl, inr, length, lt-ltb}
+use Rattle.dv_text.proofs.Vocabulary.{map, min, nat_cmp, nat_cmp-IsAntisymmetric, nat_cmp_total, nat_eq, nat_tests, on_total, ordering_reverse, ordering_then, pow-le-pow_right, pow-suc, refl, sorted_by, sorted_from_all_adjacent, suc, sym, then_total, unsigned_tied, zero, ℕ, ◌&&◌, ◌*◌, ◌+◌, ◌<◌}
+use Rattle.dv_text.proofs.Vocabulary.{◌^◌, ◌∙◌, ◌∷◌, ◌≡◌, ◌≤◌}
+use Rattle.dv_text.proofs.{Distinct.ascending-sort_dedup, Distinct.members-sort_dedup, Orderings.equal_first, Orderings.less_first, SortedLists.sorted_by-members, StableSorts.sorted_by-map}
 unfoldable use Rattle.dv_text.proofs.Vocabulary.{spelt}
-use Rattle.dv_text.proofs.Distinct.{ascending-sort_dedup, members-sort_dedup}
 use Rattle.dv_text.specs.Exact as equal
-use Rattle.dv_text.proofs.Orderings.{equal_first, less_first}
-use Rattle.dv_text.proofs.SortedLists.{sorted_by-members}
-use Rattle.dv_text.proofs.StableSorts.{sorted_by-map}
 
 -- ---- the number of a text
 

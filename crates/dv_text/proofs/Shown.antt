@@ -1,7 +1,7 @@
 -- The text of a number of seconds is that of its date and its time of day.
-use Rattle.dv_text.proofs.Vocabulary.{◌≡◌, ℕ, zero, suc, ◌+◌, ◌-◌, ◌*◌, ◌/◌, ◌%◌, ◌<◌, ◌≤◌, inl, inr, arith, refl, ap, pos, ◌-ℤ◌, codes, cases_order, le-ltb, lt-ltb, day_count, days_from_civil, days_of_months, day_of_year, days_in_month}
-use Rattle.dv_text.proofs.Vocabulary.{days_in_year, IsCivilDate, days_from_civil-day_count, day_of_year_bound, day_count-next_year, day_count-later_year, day_count-day_of_year, days_of_months-zero, days_of_months_more, days_of_months_mono}
-use Rattle.dv_text.proofs.Vocabulary.{signed_arith, unsigned_abs-parts, one_part, open_end, days_since_1900, month_from, seconds_of, stamp_text, text_of, year_from, rules}
+use Rattle.dv_text.proofs.Vocabulary.{IsCivilDate, ap, arith, cases_order, codes, day_count, day_count-day_of_year, day_count-later_year, day_count-next_year, day_of_year, day_of_year_bound, days_from_civil, days_from_civil-day_count, days_in_month, days_in_year, days_of_months}
+use Rattle.dv_text.proofs.Vocabulary.{days_of_months-zero, days_of_months_mono, days_of_months_more, days_since_1900, inl, inr, le-ltb, lt-ltb, month_from, one_part, open_end, pos, refl, rules, seconds_of, signed_arith, stamp_text, suc, text_of, unsigned_abs-parts, year_from, zero, ℕ, ◌%◌, ◌*◌}
+use Rattle.dv_text.proofs.Vocabulary.{◌+◌, ◌-ℤ◌, ◌-◌, ◌/◌, ◌<◌, ◌≡◌, ◌≤◌}
 use Rattle.dv_text.proofs.Days.{day_count-1900}
 
 -- the year of a day

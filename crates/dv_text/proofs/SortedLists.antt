@@ -1,8 +1,7 @@
 -- The laws of `sorted_by`.
-use Rattle.dv_text.proofs.Vocabulary.{◌≡◌, ◌↔◌, ◌⊎◌, inl, inr, ℕ, suc, ◌<◌, ◌≤◌, length, get_or, List, [], ◌∷◌, ◌++◌, refl, sym, ◌∙◌, ap, subst, arith, Contains, Ordering, Less, Equal, Greater, IsTotalOrder, IsAntisymmetric, AllByRecursion}
-use Rattle.dv_text.proofs.Vocabulary.{IsStrictlySortedBy, insert_by, sorted_by, cases_order, get_or_default, Contains-append_cases, Less-from_sorted, rules}
-use Rattle.dv_text.proofs.Members.{all_members, all_more, Contains-cons_here, Contains-cons_there, Contains-cons_cases, member_of_all}
-use Rattle.dv_text.proofs.Orderings.{asymmetric, irreflexive, less_equal, turned}
+use Rattle.dv_text.proofs.Vocabulary.{AllByRecursion, Contains, Contains-append_cases, Equal, Greater, IsAntisymmetric, IsStrictlySortedBy, IsTotalOrder, Less, Less-from_sorted, List, Ordering, [], ap, arith, cases_order, get_or, get_or_default, inl, inr, insert_by, length, refl, rules}
+use Rattle.dv_text.proofs.Vocabulary.{sorted_by, subst, suc, sym, ℕ, ◌++◌, ◌<◌, ◌↔◌, ◌∙◌, ◌∷◌, ◌≡◌, ◌≤◌, ◌⊎◌}
+use Rattle.dv_text.proofs.{Members.all_members, Members.all_more, Members.Contains-cons_here, Members.Contains-cons_there, Members.Contains-cons_cases, Members.member_of_all, Orderings.asymmetric, Orderings.irreflexive, Orderings.less_equal, Orderings.turned}
 
 -- ---- lists in order
 

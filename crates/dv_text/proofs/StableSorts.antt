@@ -1,9 +1,7 @@
 -- A stable sort, of whose result the first of those that tie are kept.
-use Rattle.dv_text.proofs.Vocabulary.{◌≡◌, inl, inr, Bool, true, false, List, [], ◌∷◌, Some, cond, refl, sym, ◌∙◌, ap, subst, map, find, not, ◌&&◌, Contains, slice_get, Ordering, Less, Equal, Greater, eq_by_cmp, is_eq, is_lt}
-use Rattle.dv_text.proofs.Vocabulary.{ordering_reverse, Equal-is, IsEquivalence, IsTotalOrder, dedup, dedup_from, IsSorted, IsStable, ties, false≢true, eq_by_cmp_equiv, IsStrictlySortedBy-dedup, insert_by, sorted_by, rules}
-use Rattle.dv_text.proofs.Members.{Contains-nil}
-use Rattle.dv_text.proofs.Passing.{find_same, find-filter}
-use Rattle.dv_text.proofs.SortedLists.{ascending-sorted_by, inserted_cases, inserted_here, inserted_there, one_of_ties, same_ascending, sorted_by-sorted}
+use Rattle.dv_text.proofs.Vocabulary.{Bool, Contains, Equal, Equal-is, Greater, IsEquivalence, IsSorted, IsStable, IsStrictlySortedBy-dedup, IsTotalOrder, Less, List, Ordering, Some, [], ap, cond, dedup, dedup_from, eq_by_cmp, eq_by_cmp_equiv, false, false≢true, find, inl, inr, insert_by, is_eq}
+use Rattle.dv_text.proofs.Vocabulary.{is_lt, map, not, ordering_reverse, refl, rules, slice_get, sorted_by, subst, sym, ties, true, ◌&&◌, ◌∙◌, ◌∷◌, ◌≡◌}
+use Rattle.dv_text.proofs.{Members.Contains-nil, Passing.find_same, Passing.find-filter, SortedLists.ascending-sorted_by, SortedLists.inserted_cases, SortedLists.inserted_here, SortedLists.inserted_there, SortedLists.one_of_ties, SortedLists.same_ascending, SortedLists.sorted_by-sorted}
 
 -- neither is less
 pub alike : (r : Ordering) → (not (is_lt r) && not (is_lt (ordering_reverse r))) ≡ is_eq r

@@ -1,9 +1,7 @@
 -- Digests in a list, sorted or not.
-use Rattle.dv_track.proofs.Vocabulary.{◌≡◌, ℕ, ◌+◌, List, [], ◌∷◌, Option, Some, None, refl, ap, subst, arith, get_or, filter, reverse, ◌&&◌, nat_le, Contains, Decides, Ordering, Equal, IsTotalOrder}
-use Rattle.dv_track.proofs.Vocabulary.{nat_cmp-IsAntisymmetric, slice_cmp-IsAntisymmetric, filter_map, IsStrictlySortedBy, IsSortedBy, is_lt, bytes_eq, and_parts, Less-from_sorted}
-use Rattle.dv_track.proofs.Vocabulary.{bytes_eq-Decides, sorted_by, found_member, same_answer, some_passes, some_passes_at, member_after_sort, member_before_sort, digest_cmp, latest_at, is_among}
-use Rattle.dv_index.specs.Places.{Place}
-use Rattle.dv_track.proofs.Vocabulary.{Bool, true, false, map, sym, ◌++◌, ◌||◌, ◌∙◌, any-filter_same, list_any-append, nat_list_cmp_total, same_ascending, false_from_ne_true, irreflexive, or-false, Less, drop, zero, suc}
+use Rattle.dv_track.proofs.Vocabulary.{Bool, Contains, Decides, Equal, IsSortedBy, IsStrictlySortedBy, IsTotalOrder, Less, Less-from_sorted, List, None, Option, Ordering, Place, Some, [], and_parts, any-filter_same, ap, arith, bytes_eq, bytes_eq-Decides, digest_cmp, drop, false}
+use Rattle.dv_track.proofs.Vocabulary.{false_from_ne_true, filter, filter_map, found_member, get_or, irreflexive, is_among, is_lt, latest_at, list_any-append, map, member_after_sort, member_before_sort, nat_cmp-IsAntisymmetric, nat_le, nat_list_cmp_total, or-false, refl, reverse, same_answer}
+use Rattle.dv_track.proofs.Vocabulary.{same_ascending, slice_cmp-IsAntisymmetric, some_passes, some_passes_at, sorted_by, subst, suc, sym, true, zero, ℕ, ◌&&◌, ◌++◌, ◌+◌, ◌||◌, ◌∙◌, ◌∷◌, ◌≡◌}
 
 -- two digests that tie are one
 pub exact : (a b : List ℕ) → digest_cmp a b ≡ Equal → a ≡ b

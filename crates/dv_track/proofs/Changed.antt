@@ -1,9 +1,8 @@
 -- What an extract adds, by the parents that are present and the extract's keys alone.
-use Rattle.dv_track.proofs.Vocabulary.{◌≡◌, ℕ, Bool, true, false, List, [], ◌∷◌, ◌++◌, Option, None, refl, sym, ◌∙◌, ap, filter, nat_list_cmp_total, filter_map, IsStrictlySortedBy, IsStrictlySortedBy-filter, sorted_by, ascending-sorted_by, StatusRow}
-use Rattle.dv_track.proofs.Vocabulary.{digest_cmp, present_at, code_between, change_between, changes_between, is_among, parents_of, present_parents, status_change, status_changes, Some, Code, option_map, ◌&&◌, ◌||◌, bytes_eq, is_some, says_present, status_place}
-use Rattle.dv_track.proofs.Vocabulary.{list_any-append, or-true}
-use Rattle.dv_track.proofs.Amongst.{among-filter, among_sorted, is_among-Decides, same_among}
-use Rattle.dv_track.proofs.Presence.{among_there_at, there_parent}
+use Rattle.dv_track.proofs.Vocabulary.{Bool, Code, IsStrictlySortedBy, IsStrictlySortedBy-filter, List, None, Option, Some, StatusRow, [], ap, ascending-sorted_by, bytes_eq, change_between, changes_between, code_between, digest_cmp, false, filter, filter_map, is_among, is_some, list_any-append}
+use Rattle.dv_track.proofs.Vocabulary.{nat_list_cmp_total, option_map, or-true, present_at, present_parents, refl, says_present, sorted_by, status_change, status_changes, status_place, sym, true, ℕ, ◌&&◌, ◌++◌, ◌||◌, ◌∙◌, ◌∷◌, ◌≡◌}
+use Rattle.dv_track.specs.Tracks.{parents_of}
+use Rattle.dv_track.proofs.{Amongst.among-filter, Amongst.among_sorted, Amongst.is_among-Decides, Amongst.same_among, Presence.among_there_at, Presence.there_parent}
 
 -- items without a value may be left out
 pub filter_map_some : {X Y : Type 0} (h : X → Option Y) (xs : List X) → filter_map h (filter (λ x. is_some (h x)) xs) ≡ filter_map h xs

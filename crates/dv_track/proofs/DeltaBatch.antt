@@ -1,13 +1,10 @@
 -- Over the table of older extracts, what the newest one adds row by row is its batch.
-use Rattle.dv_track.proofs.Vocabulary.{◌≡◌, ℕ, inl, inr, false, List, [], ◌∷◌, ◌++◌, Option, Some, refl, sym, ◌∙◌, ap, subst, arith, Contains, nat_list_cmp_total, filter_map, Contains-append_cases}
-use Rattle.dv_track.proofs.Vocabulary.{Contains-append_left, Contains-append_right, Key, Hashes, sorted_by, Contains-map, Contains-nil, IsStrictlySortedBy-filter_map, filter_map_member, map_member, member_of_filter_map, ascending-sorted_by, member_after_sort, member_before_sort}
-use Rattle.dv_track.proofs.Vocabulary.{StatusRow, appended, digest_cmp, IsApart, Extract, all_refs, delivers, lists_of, newest_rows, AreNewestFirst, present_at, code_of, status_batch, status_cmp, status_row, IsStatusBatch, newest_first, none_loaded, Contains-all_refs, delivers-from_Contains}
-use Rattle.dv_track.proofs.Vocabulary.{both_lists, tells, status_parent, status_stands, status_tied, has_load, hashes_in, is_among, parents_of, status_change, status_delta, made_of}
-use Rattle.dv_records.proofs.LastChange.{all_up_to}
-use Rattle.dv_track.proofs.Vocabulary.{same_answer, says_present, status_place}
-use Rattle.dv_track.proofs.Amongst.{exact, is_among-Decides}
-use Rattle.dv_track.proofs.Following.{change_parent}
-use Rattle.dv_track.proofs.Presence.{there_parent}
+use Rattle.dv_track.proofs.Vocabulary.{AreNewestFirst, Contains, Contains-all_refs, Contains-append_cases, Contains-append_left, Contains-append_right, Contains-map, Contains-nil, Extract, Hashes, IsApart, IsStatusBatch, IsStrictlySortedBy-filter_map, Key, List, Option, Some, StatusRow, []}
+use Rattle.dv_track.proofs.Vocabulary.{all_refs, all_up_to, ap, appended, arith, ascending-sorted_by, both_lists, code_of, delivers, delivers-from_Contains, digest_cmp, false, filter_map, filter_map_member, hashes_in, inl, inr, is_among, lists_of, made_of, map_member, member_after_sort}
+use Rattle.dv_track.proofs.Vocabulary.{member_before_sort, member_of_filter_map, nat_list_cmp_total, newest_first, newest_rows, none_loaded, present_at, refl, same_answer, says_present, sorted_by, status_batch, status_change, status_cmp, status_delta, status_parent, status_place, status_row}
+use Rattle.dv_track.proofs.Vocabulary.{status_stands, status_tied, subst, sym, tells, ℕ, ◌++◌, ◌∙◌, ◌∷◌, ◌≡◌}
+use Rattle.dv_track.specs.Tracks.{has_load, parents_of}
+use Rattle.dv_track.proofs.{Amongst.exact, Amongst.is_among-Decides, Following.change_parent, Presence.there_parent}
 
 -- ---- rows of a table of extracts
 

@@ -1,20 +1,10 @@
 -- Over the effectivity table of older extracts, what the newest one adds row by row is its batch.
-use Rattle.dv_track.proofs.Vocabulary.{◌≡◌, ℕ, inl, inr, true, false, List, [], ◌∷◌, ◌++◌, Option, Some, refl, sym, ◌∙◌, ap, subst, arith, Contains, is_some, nat_list_cmp_total, filter_map, Contains-append_cases}
-use Rattle.dv_track.proofs.Vocabulary.{Contains-append_left, Contains-append_right, Key, Hashes, sorted_by, Contains-map, Contains-nil, IsStrictlySortedBy-filter_map, filter_map_member, map_member, member_of_filter_map, ascending-sorted_by, member_after_sort, member_before_sort}
-use Rattle.dv_track.proofs.Vocabulary.{appended, digest_cmp, IsApart, Extract, all_refs, delivers, lists_of, newest_rows, AreNewestFirst, newest_first, none_loaded, Contains-all_refs, delivers-from_Contains, both_lists, hashes_in, is_among, made_of, same_answer}
-use Rattle.dv_records.specs.declared.raw_rows.EffectRow.{EffectRow}
-use Rattle.dv_records.specs.EffectPeriods.{in_effect_since}
-use Rattle.dv_records.specs.Effects.{effect_batch, effect_cmp, effect_row, span_between, IsEffectBatch}
-use Rattle.dv_records.specs.Runs.{run_begin}
-use Rattle.dv_records.proofs.EffectReconstruct.{effects_say}
-use Rattle.dv_records.proofs.EffectTies.{effect_parent, effect_stands, effect_tied}
-use Rattle.dv_records.proofs.LastChange.{all_up_to}
-use Rattle.dv_track.specs.EffectRows.{effect_change, effect_delta, has_load, parents_of}
-use Rattle.dv_track.proofs.Amongst.{exact, is_among-Decides}
-use Rattle.dv_records.specs.EffectPlaces.{effect_place}
-use Rattle.dv_track.specs.EffectRows.{says_in_effect}
-use Rattle.dv_track.proofs.Presence.{there_parent}
-use Rattle.dv_track.proofs.EffectFollowing.{change_parent}
+use Rattle.dv_track.proofs.Vocabulary.{AreNewestFirst, Contains, Contains-all_refs, Contains-append_cases, Contains-append_left, Contains-append_right, Contains-map, Contains-nil, EffectRow, Extract, Hashes, IsApart, IsEffectBatch, IsStrictlySortedBy-filter_map, Key, List, Option, Some, []}
+use Rattle.dv_track.proofs.Vocabulary.{all_refs, all_up_to, ap, appended, arith, ascending-sorted_by, both_lists, delivers, delivers-from_Contains, digest_cmp, effect_batch, effect_change, effect_cmp, effect_delta, effect_parent, effect_place, effect_row, effect_stands, effect_tied, effects_say}
+use Rattle.dv_track.proofs.Vocabulary.{false, filter_map, filter_map_member, has_load, hashes_in, in_effect_since, inl, inr, is_among, is_some, lists_of, made_of, map_member, member_after_sort, member_before_sort, member_of_filter_map, nat_list_cmp_total, newest_first, newest_rows, none_loaded}
+use Rattle.dv_track.proofs.Vocabulary.{refl, run_begin, same_answer, says_in_effect, sorted_by, span_between, subst, sym, true, ℕ, ◌++◌, ◌∙◌, ◌∷◌, ◌≡◌}
+use Rattle.dv_track.specs.EffectRows.{parents_of}
+use Rattle.dv_track.proofs.{Amongst.exact, Amongst.is_among-Decides, Presence.there_parent, EffectFollowing.change_parent}
 
 -- a list that the newest extract delivers is in a run
 goes_on : (all : List Extract) (refs : List Key) → delivers (newest_rows all) refs ≡ true → is_some (run_begin all refs) ≡ true

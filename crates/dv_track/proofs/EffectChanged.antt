@@ -1,15 +1,8 @@
 -- What an extract adds to an effectivity table, by the parents that are in effect and the extract's keys alone.
-use Rattle.dv_track.proofs.Vocabulary.{◌≡◌, ℕ, Bool, true, false, List, ◌++◌, Option, Some, None, refl, sym, ◌∙◌, ap, filter, ◌&&◌, ◌||◌, nat_list_cmp_total, filter_map, IsStrictlySortedBy-filter, sorted_by, ascending-sorted_by}
-use Rattle.dv_track.proofs.Vocabulary.{digest_cmp, parents_there, is_among, is_some, bytes_eq, option_map, list_any-append, or-true}
-use Rattle.dv_records.specs.declared.raw_rows.EffectRow.{EffectRow}
-use Rattle.dv_records.specs.EffectPeriods.{in_effect_since}
-use Rattle.dv_records.specs.Effects.{span_between}
-use Rattle.dv_records.specs.Runs.{Span}
-use Rattle.dv_records.specs.EffectPlaces.{effect_place}
-use Rattle.dv_track.specs.EffectRows.{says_in_effect, effect_between, effect_change, effect_changes, effect_turn, effect_turns, parents_of}
-use Rattle.dv_track.proofs.Amongst.{among-filter, among_sorted, is_among-Decides, same_among}
-use Rattle.dv_track.proofs.Changed.{filter_map_some}
-use Rattle.dv_track.proofs.Presence.{among_there_at, there_parent}
+use Rattle.dv_track.proofs.Vocabulary.{Bool, EffectRow, IsStrictlySortedBy-filter, List, None, Option, Some, Span, ap, ascending-sorted_by, bytes_eq, digest_cmp, effect_between, effect_change, effect_changes, effect_place, effect_turn, effect_turns, false, filter, filter_map, in_effect_since}
+use Rattle.dv_track.proofs.Vocabulary.{is_among, is_some, list_any-append, nat_list_cmp_total, option_map, or-true, parents_there, refl, says_in_effect, sorted_by, span_between, sym, true, ℕ, ◌&&◌, ◌++◌, ◌||◌, ◌∙◌, ◌≡◌}
+use Rattle.dv_track.specs.EffectRows.{parents_of}
+use Rattle.dv_track.proofs.{Amongst.among-filter, Amongst.among_sorted, Amongst.is_among-Decides, Amongst.same_among, Changed.filter_map_some, Presence.among_there_at, Presence.there_parent}
 
 module _ (source : List ℕ) (rows : List EffectRow) (load : ℕ) (now : List (List ℕ)) where
   abbrev change : List ℕ → Option EffectRow

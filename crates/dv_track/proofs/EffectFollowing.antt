@@ -1,10 +1,7 @@
 -- What an extract adds to an effectivity table stands behind the table's rows.
-use Rattle.dv_track.proofs.Vocabulary.{◌≡◌, ℕ, true, List, ◌++◌, Option, Some, refl, sym, ap, Contains, nat_list_cmp_total, All, filter_map, IsStrictlySortedBy, sorted_by, filter_map_member, IsStrictlySortedBy-filter_map, ascending-sorted_by, digest_cmp}
-use Rattle.dv_track.proofs.Vocabulary.{NRow, Hashes, made_of, ◌∙◌, map, map-map, all_refs, given, delta_follows, delta_stamped, is_among}
-use Rattle.dv_records.specs.declared.raw_rows.EffectRow.{EffectRow}
-use Rattle.dv_records.specs.EffectPeriods.{in_effect_since}
-use Rattle.dv_records.specs.Effects.{effect_cmp, span_between}
-use Rattle.dv_track.specs.EffectRows.{are_up_to, effect_change, effect_delta, effect_order, keys_delta, parents_of}
+use Rattle.dv_track.proofs.Vocabulary.{All, Contains, EffectRow, Hashes, IsStrictlySortedBy, IsStrictlySortedBy-filter_map, List, NRow, Option, Some, all_refs, ap, are_up_to, ascending-sorted_by, delta_follows, delta_stamped, digest_cmp, effect_change, effect_cmp, effect_delta, effect_order}
+use Rattle.dv_track.proofs.Vocabulary.{filter_map, filter_map_member, given, in_effect_since, is_among, keys_delta, made_of, map, map-map, nat_list_cmp_total, refl, sorted_by, span_between, sym, true, ℕ, ◌++◌, ◌∙◌, ◌≡◌}
+use Rattle.dv_track.specs.EffectRows.{parents_of}
 
 module _ (source : List ℕ) (rows : List EffectRow) (load : ℕ) (keys : List (List ℕ)) where
   abbrev change : List ℕ → Option EffectRow

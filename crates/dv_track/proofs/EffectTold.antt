@@ -1,21 +1,7 @@
 -- The periods that effectivity rows tell: of each run what its last row says.
-use Rattle.dv_track.proofs.Vocabulary.{◌≡◌, ℕ, Bool, true, false, List, [], ◌∷◌, Option, Some, None, refl, sym, ◌∙◌, ap, find, map, reverse, ◌&&◌, sorted_by, digest_cmp, false≢true, false_from_ne_true, find-append, reverse-append, same_answer, Ordering, Less, Equal, Greater}
-use Rattle.dv_track.proofs.Vocabulary.{nat_cmp-IsAntisymmetric, find_none, some_passes, reverse_member, Contains, Contains-map, map_member}
-use Rattle.std.specs.Prelude.{◌==◌}
-use Rattle.std.specs.List.{list_any}
-use Rattle.std.specs.Option.{option_or}
-use Rattle.std.specs.Cmp.{Equal-is, IsEquivalence, eq_by_cmp_equiv}
-use Rattle.std.specs.Ordering.{eq_by_cmp, is_eq, nat_cmp, ordering_then}
-use Rattle.std.proofs.lemmas.Bool.{eq-eqb, eqb-true}
-use Rattle.std.proofs.lemmas.Cmp.{nat_cmp_total}
-use Rattle.std.proofs.lemmas.Map.Text.{is_eq-slice_cmp}
-use Rattle.dv_text.proofs.Options.{option_or-none}
-use Rattle.dv_text.proofs.Passing.{none_found_at, none_passes}
-use Rattle.dv_text.proofs.StableSorts.{same_firsts}
-use Rattle.dv_records.specs.declared.mart_rows.Period.{Period}
-use Rattle.dv_records.specs.declared.raw_rows.EffectRow.{EffectRow}
-use Rattle.dv_records.specs.EffectPeriods.{is_of_one_run, last_of_runs, parent_period_cmp, period_in}
-use Rattle.dv_records.specs.Ranks.{parent_period_total}
+use Rattle.dv_track.proofs.Vocabulary.{Bool, Contains, Contains-map, EffectRow, Equal, Equal-is, Greater, IsEquivalence, Less, List, None, Option, Ordering, Period, Some, [], ap, digest_cmp, eq-eqb, eq_by_cmp, eq_by_cmp_equiv, eqb-true, false, false_from_ne_true, false≢true, find, find-append}
+use Rattle.dv_track.proofs.Vocabulary.{find_none, is_eq, is_eq-slice_cmp, is_of_one_run, last_of_runs, list_any, map, map_member, nat_cmp, nat_cmp-IsAntisymmetric, nat_cmp_total, none_found_at, none_passes, option_or, option_or-none, ordering_then, parent_period_cmp, parent_period_total}
+use Rattle.dv_track.proofs.Vocabulary.{period_in, refl, reverse, reverse-append, reverse_member, same_answer, same_firsts, some_passes, sorted_by, sym, true, ℕ, ◌&&◌, ◌==◌, ◌∙◌, ◌∷◌, ◌≡◌}
 
 -- ---- rows of one run tell periods that tie
 

@@ -1,6 +1,7 @@
 -- What an extract adds to a table stands behind the table's rows.
-use Rattle.dv_track.proofs.Vocabulary.{◌≡◌, ℕ, true, List, ◌++◌, Option, Some, refl, sym, ap, Contains, nat_list_cmp_total, All, filter_map, IsStrictlySortedBy, sorted_by, filter_map_member, IsStrictlySortedBy-filter_map, ascending-sorted_by, StatusRow, digest_cmp, present_at}
-use Rattle.dv_track.proofs.Vocabulary.{NRow, Hashes, made_of, ◌∙◌, map, map-map, all_refs, code_between, status_cmp, given, delta_follows, delta_stamped, are_up_to, is_among, keys_delta, parents_of, status_change, status_delta, status_order}
+use Rattle.dv_track.proofs.Vocabulary.{All, Contains, Hashes, IsStrictlySortedBy, IsStrictlySortedBy-filter_map, List, NRow, Option, Some, StatusRow, all_refs, ap, ascending-sorted_by, code_between, delta_follows, delta_stamped, digest_cmp, filter_map, filter_map_member, given, is_among, made_of}
+use Rattle.dv_track.proofs.Vocabulary.{map, map-map, nat_list_cmp_total, present_at, refl, sorted_by, status_change, status_cmp, status_delta, status_order, sym, true, ℕ, ◌++◌, ◌∙◌, ◌≡◌}
+use Rattle.dv_track.specs.Tracks.{are_up_to, keys_delta, parents_of}
 
 module _ (source : List ℕ) (rows : List StatusRow) (load : ℕ) (keys : List (List ℕ)) where
   abbrev change : List ℕ → Option StatusRow

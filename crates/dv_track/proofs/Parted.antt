@@ -1,6 +1,6 @@
 -- What is before a digest in an ascending list, and what is behind it: a search parts the list there.
-use Rattle.dv_track.proofs.Vocabulary.{◌≡◌, ℕ, zero, suc, ◌<◌, true, false, List, [], ◌∷◌, refl, sym, ◌∙◌, ap, subst, arith, length, get_or, take, drop, Contains, nat_list_cmp_total, Ordering, Less, Greater}
-use Rattle.dv_track.proofs.Vocabulary.{IsPartitionPoint, IsStrictlySortedBy, is_lt, ordering_reverse, member_of_all, turned, digest_cmp, before, behind, tied_itself, filter-all, filter-none}
+use Rattle.dv_track.proofs.Vocabulary.{Contains, Greater, IsPartitionPoint, IsStrictlySortedBy, Less, List, Ordering, [], ap, arith, before, behind, digest_cmp, drop, false, filter-all, filter-none, get_or, is_lt, length, member_of_all, nat_list_cmp_total, ordering_reverse, refl, subst, suc, sym}
+use Rattle.dv_track.proofs.Vocabulary.{take, tied_itself, true, turned, zero, ℕ, ◌<◌, ◌∙◌, ◌∷◌, ◌≡◌}
 
 less_is : (r : Ordering) → r ≡ Less → is_lt r ≡ true
 less_is r e = rw e refl

@@ -1,10 +1,7 @@
 -- The parents that are there after a table's rows.
-use Rattle.dv_track.proofs.Vocabulary.{◌≡◌, ℕ, Bool, true, false, List, ◌++◌, Option, Some, None, refl, sym, ◌∙◌, ap, subst, filter, reverse, ◌&&◌, nat_le, not, Contains, find, nat_list_cmp_total, IsStrictlySortedBy, bytes_eq, and_parts}
-use Rattle.dv_track.proofs.Vocabulary.{false_from_ne_true, false≢true, reverse-append, find-append, list_all-append, IsStrictlySortedBy-filter, bytes_eq-Decides, sorted_by, Contains-map, reverse_member, ascending-sorted_by, latest_at, latest_of_each}
-use Rattle.dv_track.proofs.Vocabulary.{find_none, find_same, found_member, some_passes_at, digest_cmp, missing_in, updated, AreThere, none_later, parents_there, there_at, is_among, passes_at}
-use Rattle.dv_track.proofs.Vocabulary.{◌||◌, and-false, and-true, or-false}
-use Rattle.dv_index.specs.Numbers.{parents_of}
-use Rattle.dv_index.specs.Places.{Place}
+use Rattle.dv_track.proofs.Vocabulary.{AreThere, Bool, Contains, Contains-map, IsStrictlySortedBy, IsStrictlySortedBy-filter, List, None, Option, Place, Some, and-false, and-true, and_parts, ap, ascending-sorted_by, bytes_eq, bytes_eq-Decides, digest_cmp, false, false_from_ne_true, false≢true}
+use Rattle.dv_track.proofs.Vocabulary.{filter, find, find-append, find_none, find_same, found_member, is_among, latest_at, latest_of_each, list_all-append, missing_in, nat_le, nat_list_cmp_total, none_later, not, or-false, parents_of, parents_there, passes_at, refl, reverse, reverse-append}
+use Rattle.dv_track.proofs.Vocabulary.{reverse_member, some_passes_at, sorted_by, subst, sym, there_at, true, updated, ℕ, ◌&&◌, ◌++◌, ◌||◌, ◌∙◌, ◌≡◌}
 use Rattle.dv_track.proofs.Amongst.{among-filter, among_both, among_sorted, is_among-Decides, own_row, said_parents, same_among}
 
 -- a test beside one that it implies

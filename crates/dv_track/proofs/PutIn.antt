@@ -1,7 +1,7 @@
 -- Digests merged into an ascending list that has none of them.
-use Rattle.dv_track.proofs.Vocabulary.{◌≡◌, ℕ, ◌+◌, ◌<◌, inl, inr, Bool, false, List, [], ◌∷◌, ◌++◌, refl, sym, ◌∙◌, subst, arith, length, get_or, filter, not, Contains, Contains-append_cases, Contains-cons_here, Contains-cons_there, Contains-permutation, IsPermutation}
-use Rattle.dv_track.proofs.Vocabulary.{nat_list_cmp_total, Ordering, Less, Equal, Greater, IsSorted, IsStrictlySortedBy, IsStrictlySortedBy-filter, IsDistinct, IsDistinct-IsPermutation, AllPairs-from_IsDistinct, sorted_from_all_adjacent, sorted_by, sorted_by-members, IsPermutation-sym, IsStrictWeakOrder, ranks_by}
-use Rattle.dv_track.proofs.Vocabulary.{false≢true, all_members, member_of_all, turned, is_lt, digest_cmp, missing_in, is_among, bytes_eq, bytes_eq-Decides, filtered_members, nat_list_eq_equiv}
+use Rattle.dv_track.proofs.Vocabulary.{AllPairs-from_IsDistinct, Bool, Contains, Contains-append_cases, Contains-cons_here, Contains-cons_there, Contains-permutation, Equal, Greater, IsDistinct, IsDistinct-IsPermutation, IsPermutation, IsPermutation-sym, IsSorted, IsStrictWeakOrder}
+use Rattle.dv_track.proofs.Vocabulary.{IsStrictlySortedBy, IsStrictlySortedBy-filter, Less, List, Ordering, [], all_members, arith, bytes_eq, bytes_eq-Decides, digest_cmp, false, false≢true, filter, filtered_members, get_or, inl, inr, is_among, is_lt, length, member_of_all, missing_in}
+use Rattle.dv_track.proofs.Vocabulary.{nat_list_cmp_total, nat_list_eq_equiv, not, ranks_by, refl, sorted_by, sorted_by-members, sorted_from_all_adjacent, subst, sym, turned, ℕ, ◌++◌, ◌+◌, ◌<◌, ◌∙◌, ◌∷◌, ◌≡◌}
 use Rattle.dv_track.proofs.Amongst.{apart, exact, is_among-Decides, sorted_from_strictly, unequal}
 
 abbrev pub digest_lt : List ℕ → List ℕ → Bool

@@ -1,8 +1,7 @@
 -- Digests taken out of an ascending list, one after another.
-use Rattle.dv_track.proofs.Vocabulary.{◌≡◌, ℕ, ◌+◌, ◌-◌, ◌≤◌, Bool, true, false, List, [], ◌∷◌, ◌++◌, refl, sym, ◌∙◌, ap, arith, append_assoc, length, take, drop, drop-drop, drop-paste, length-drop, paste, filter-all, filter-none, not, Contains, nat_list_cmp_total, Ordering, Less, Equal, Greater}
-use Rattle.dv_track.proofs.Vocabulary.{IsStrictlySortedBy, false_from_ne_true, member_of_all, asymmetric, turned, tied_itself, is_lt, digest_cmp, before, behind, missing_in, is_among, bytes_eq-Decides}
-use Rattle.dv_track.proofs.Amongst.{apart, exact, is_among-Decides, unequal}
-use Rattle.dv_track.proofs.Parted.{not_less}
+use Rattle.dv_track.proofs.Vocabulary.{Bool, Contains, Equal, Greater, IsStrictlySortedBy, Less, List, Ordering, [], ap, append_assoc, arith, asymmetric, before, behind, bytes_eq-Decides, digest_cmp, drop, drop-drop, drop-paste, false, false_from_ne_true, filter-all, filter-none, is_among, is_lt}
+use Rattle.dv_track.proofs.Vocabulary.{length, length-drop, member_of_all, missing_in, nat_list_cmp_total, not, paste, refl, sym, take, tied_itself, true, turned, ℕ, ◌++◌, ◌+◌, ◌-◌, ◌∙◌, ◌∷◌, ◌≡◌, ◌≤◌}
+use Rattle.dv_track.proofs.{Amongst.apart, Amongst.exact, Amongst.is_among-Decides, Amongst.unequal, Parted.not_less}
 
 -- with none taken out all stay
 pub none_out : (digests : List (List ℕ)) → missing_in [] digests ≡ digests

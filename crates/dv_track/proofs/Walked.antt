@@ -1,12 +1,8 @@
 -- Two ascending lists walked together: the lesser of their first digests, and what is behind it.
-use Rattle.dv_track.proofs.Vocabulary.{◌≡◌, ℕ, inl, inr, Bool, true, false, List, [], ◌∷◌, ◌++◌, Option, Some, None, refl, ◌∙◌, ap, subst, drop, if◌then◌else◌, Contains, Contains-nil, Contains-cons_cases, Contains-append_cases, filter_map, nat_list_cmp_total}
-use Rattle.dv_track.proofs.Vocabulary.{Ordering, Less, Equal, Greater, IsStrictlySortedBy, sorted_by, ascending-sorted_by, member_before_sort, member_of_all, all_members, irreflexive, turned, digest_cmp, bytes_eq, bytes_eq-Decides, list_any-append, false_from_ne_true, false≢true}
-use Rattle.dv_track.proofs.Vocabulary.{and-false, or-true, option_to_list, none-some, same_Some, ◌&&◌, ◌||◌, Head, changes_between, change_between, is_among, least, lesser}
-use Rattle.dv_records.specs.declared.raw_rows.EffectRow.{EffectRow}
-use Rattle.dv_records.specs.EffectPeriods.{in_effect_since}
-use Rattle.dv_track.specs.EffectRows.{effect_turn, effect_turns}
+use Rattle.dv_track.proofs.Vocabulary.{Bool, Contains, Contains-append_cases, Contains-cons_cases, Contains-nil, EffectRow, Equal, Greater, Head, IsStrictlySortedBy, Less, List, None, Option, Ordering, Some, [], all_members, and-false, ap, ascending-sorted_by, bytes_eq, bytes_eq-Decides}
+use Rattle.dv_track.proofs.Vocabulary.{change_between, changes_between, digest_cmp, drop, effect_turn, effect_turns, false, false_from_ne_true, false≢true, filter_map, filter_map_same, if◌then◌else◌, in_effect_since, inl, inr, irreflexive, is_among, least, lesser, list_any-append}
+use Rattle.dv_track.proofs.Vocabulary.{member_before_sort, member_of_all, nat_list_cmp_total, none-some, option_to_list, or-true, refl, same_Some, sorted_by, subst, true, turned, ℕ, ◌&&◌, ◌++◌, ◌||◌, ◌∙◌, ◌∷◌, ◌≡◌}
 use Rattle.dv_track.proofs.Amongst.{among_sorted, among_there, apart, ascending-drop, exact, if_there, is_among-Decides, same_among, unequal}
-use Rattle.dv_text.proofs.Members.{filter_map_same}
 
 -- a list begins with a digest, or does not have it, and the rest of it is behind the digest
 record Begins (digest : List ℕ) (there : Bool) (digests rest : List (List ℕ)) : Type 0 where

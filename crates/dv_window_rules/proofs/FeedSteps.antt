@@ -1,6 +1,6 @@
 -- One feed more on the way through the feeds of a window.
-use Rattle.dv_window_rules.proofs.Vocabulary.{◌≡◌, ℕ, ◌+◌, ◌-◌, ◌<◌, List, [], ◌∷◌, ◌++◌, Option, Some, None, length, map, arith, filter_map, range_with_len, Staged, Rule, ExtractIn, Mapping, first_of, Read, broken_rule, taken_count, Broken}
-use Rattle.dv_window_rules.proofs.Vocabulary.{Taken, PlacedExtract, ReadExtract, extract_at, reads_after, staged_from, StageFault, TellsRule, TellsFeed, read_at, rules, common_steps, nat_tests}
+use Rattle.dv_window_rules.proofs.Vocabulary.{Broken, ExtractIn, List, Mapping, None, Option, PlacedExtract, Read, ReadExtract, Rule, Some, StageFault, Staged, Taken, TellsFeed, TellsRule, [], arith, broken_rule, common_steps, extract_at, filter_map, first_of, length, map, nat_tests}
+use Rattle.dv_window_rules.proofs.Vocabulary.{range_with_len, read_at, reads_after, rules, staged_from, taken_count, ℕ, ◌++◌, ◌+◌, ◌-◌, ◌<◌, ◌∷◌, ◌≡◌}
 
 -- what the extracts of the feeds from a place on read as
 abbrev pub reads_from : Mapping → List ExtractIn → ℕ → ℕ → List ReadExtract

@@ -1,6 +1,6 @@
 -- Names that stood earlier, the last of them first.
-use Rattle.dv_window_rules.proofs.Vocabulary.{◌≡◌, ℕ, ◌+◌, ◌<◌, Bool, true, false, cond, List, [], Some, length, get_or, take, drop, map, sym, ◌∙◌, ap, is_some, position, reverse, list_any, bytes_eq, drop_more, take_more, map-append}
-use Rattle.dv_window_rules.proofs.Vocabulary.{reverse-append, IsPermutation-reverse, list_any-IsPermutation, FeedDef, ExtractIn, Mapping, is_feed, repeated_name, is_placed, list_any-map, rules}
+use Rattle.dv_window_rules.proofs.Vocabulary.{Bool, ExtractIn, FeedDef, IsPermutation-reverse, List, Mapping, Some, [], ap, bytes_eq, cond, drop, drop_more, false, get_or, is_feed, is_placed, is_some, length, list_any, list_any-IsPermutation, list_any-map, map, map-append, position}
+use Rattle.dv_window_rules.proofs.Vocabulary.{repeated_name, reverse, reverse-append, rules, sym, take, take_more, true, ℕ, ◌+◌, ◌<◌, ◌∙◌, ◌≡◌}
 
 -- the feeds of extracts, the last first
 abbrev pub feeds_back : List ExtractIn → List (List ℕ)

@@ -1,6 +1,6 @@
 -- A normal form is its own, and no longer than the text.
-use Rattle.dv_window_rules.proofs.Vocabulary.{◌≡◌, ℕ, zero, suc, ◌-◌, ◌<◌, ◌≤◌, Bool, true, false, List, [], ◌∷◌, length, get_or, take, drop, map, refl, sym, ◌∙◌, ap, arith, one-add, reverse, prefix_len, suffix_len, to_ascii_uppercase}
-use Rattle.dv_window_rules.proofs.Vocabulary.{reverse_aux, nat_tests, get_or-reverse, length-map, length-reverse, drop-map, take-map, prefix_len_stops, suffix_len-take_no, is_blank, norm_field, norm_key, without_leading, common_steps, rules}
+use Rattle.dv_window_rules.proofs.Vocabulary.{Bool, List, [], ap, arith, common_steps, drop, drop-map, false, get_or, get_or-reverse, is_blank, length, length-map, length-reverse, map, nat_tests, norm_field, norm_key, one-add, prefix_len, prefix_len_stops, refl, reverse, reverse_aux, rules, suc}
+use Rattle.dv_window_rules.proofs.Vocabulary.{suffix_len, suffix_len-take_no, sym, take, take-map, to_ascii_uppercase, true, without_leading, zero, ℕ, ◌-◌, ◌<◌, ◌∙◌, ◌∷◌, ◌≡◌, ◌≤◌}
 
 module _ {X : Type 0} (p : X → Bool) where
   -- behind the items of a kind that a list begins with, none of the kind is first

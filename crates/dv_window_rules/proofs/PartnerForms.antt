@@ -1,6 +1,6 @@
 -- The rule of driving keys with several partners is broken where two rows part ways.
-use Rattle.dv_window_rules.proofs.Vocabulary.{◌≡◌, ℕ, true, false, sym, ◌∙◌, arith, nat_tests, not, ◌||◌, ◌==◌, List, [], ◌∷◌, None, length, refl, ap, is_none, slice_get, NRow, FeedDef, list_all, list_any, none_from, none_pass, filter-none, passes_at, not-true, same_answer, of_each_two, part_ways, shared_drivers, two_drivers}
-use Rattle.dv_window_rules.proofs.Vocabulary.{holds_of_each_two, is_one_partner}
+use Rattle.dv_window_rules.proofs.Vocabulary.{FeedDef, List, NRow, None, [], ap, arith, false, filter-none, holds_of_each_two, is_none, is_one_partner, length, list_all, list_any, nat_tests, none_from, none_pass, not, not-true, of_each_two, part_ways, passes_at, refl, same_answer, shared_drivers}
+use Rattle.dv_window_rules.proofs.Vocabulary.{slice_get, sym, true, two_drivers, ℕ, ◌==◌, ◌||◌, ◌∙◌, ◌∷◌, ◌≡◌}
 use Rattle.dv_window_rules.proofs.ReadRows.{partners_agree}
 
 -- where no two rows part ways, no driving keys are shared

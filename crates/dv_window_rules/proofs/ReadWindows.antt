@@ -1,12 +1,10 @@
 -- The window that extracts read as, where they break no rule, is a window of the mapping.
-use Rattle.dv_window_rules.proofs.Vocabulary.{◌≡◌, ℕ, zero, suc, ◌+◌, ◌-◌, ◌<◌, ◌≤◌, Bool, true, not, List, [], ◌∷◌, Option, Some, None, find, length, map, nat_le, nat_lt, refl, sym, ◌∙◌, ap, subst, arith, le-leb, ◌==◌, Contains, if◌then◌else◌}
-use Rattle.dv_window_rules.proofs.Vocabulary.{is_some, min, slice_get, sum_by, option_map, position, cons_option, filter_map, list_all, range_with_len, option_and_then, bytes_eq, nat_tests, length-map, NRow, Staged, Contains-cons_here}
-use Rattle.dv_window_rules.proofs.Vocabulary.{Contains-cons_there, filter_map_member, member_of_filter_map, Contains-range, FeedDef, NoExtracts, UnknownFeed, ExtractIn, WindowIn, Mapping, extract_records, first_of, is_valid, Read, broken_rule}
-use Rattle.dv_window_rules.proofs.Vocabulary.{read_by, reads, records_read, taken_count, Broken, Taken, PlacedExtract, extract_at, given_for, placed_extracts, reads_after, room_after, staged_from, window_of, window_rule, valid_feed, found_at}
-use Rattle.dv_window_rules.proofs.Vocabulary.{is_placed, placed_within, is_feed, no_extracts, unknown_feed, ascends, is_staged, is_window, finds, all_pass_weaker, passes_where_none_fails, bytes_eq-Decides, most_records, most_window_records}
-use Rattle.dv_window_rules.proofs.Vocabulary.{none_before_map, window_holds, common_steps, rules}
-use Rattle.dv_window_rules.proofs.FeedSteps.{placed_at}
-use Rattle.dv_window_rules.proofs.ReadRows.{AreTaken, rows_taken}
+use Rattle.dv_window_rules.proofs.Vocabulary.{Bool, Broken, Contains, Contains-cons_here, Contains-cons_there, Contains-range, ExtractIn, FeedDef, List, Mapping, NRow, NoExtracts, None, Option, PlacedExtract, Read, Some, Staged, Taken, UnknownFeed, WindowIn, [], all_pass_weaker, ap, arith}
+use Rattle.dv_window_rules.proofs.Vocabulary.{ascends, broken_rule, bytes_eq, bytes_eq-Decides, common_steps, cons_option, extract_at, extract_records, filter_map, filter_map_member, find, finds, first_of, found_at, given_for, if◌then◌else◌, is_feed, is_placed, is_some, is_staged, is_valid}
+use Rattle.dv_window_rules.proofs.Vocabulary.{is_window, le-leb, length, length-map, list_all, map, member_of_filter_map, min, most_records, most_window_records, nat_le, nat_lt, nat_tests, no_extracts, none_before_map, not, option_and_then, option_map, passes_where_none_fails, placed_extracts}
+use Rattle.dv_window_rules.proofs.Vocabulary.{placed_within, position, range_with_len, read_by, reads, reads_after, records_read, refl, room_after, rules, slice_get, staged_from, subst, suc, sum_by, sym, taken_count, true, unknown_feed, valid_feed, window_holds, window_of, window_rule, zero, ℕ}
+use Rattle.dv_window_rules.proofs.Vocabulary.{◌+◌, ◌-◌, ◌<◌, ◌==◌, ◌∙◌, ◌∷◌, ◌≡◌, ◌≤◌}
+use Rattle.dv_window_rules.proofs.{FeedSteps.placed_at, ReadRows.AreTaken, ReadRows.rows_taken}
 
 -- ---- extracts one after another
 

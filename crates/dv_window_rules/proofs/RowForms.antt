@@ -1,5 +1,6 @@
 -- References beside their hubs, and those at the driver's places.
-use Rattle.dv_window_rules.proofs.Vocabulary.{◌≡◌, ℕ, suc, Bool, true, false, ◌&&◌, ◌||◌, ◌==◌, List, [], ◌∷◌, Option, Some, None, length, refl, sym, ◌∙◌, ap, arith, list_all, list_any, zip, filter_map, option_map_or, fit_hubs, fits_hub, is_keyed, is_missing, slice_get, driver_keys, eqb-true, false_from_ne_true, not, FeedDef, Key, Mapping, NRow}
+use Rattle.dv_window_rules.proofs.Vocabulary.{Bool, FeedDef, Key, List, Mapping, NRow, None, Option, Some, [], ap, arith, driver_keys, eqb-true, false, false_from_ne_true, filter_map, fit_hubs, fits_hub, is_keyed, is_missing, length, list_all, list_any, not, option_map_or, refl, slice_get, suc}
+use Rattle.dv_window_rules.proofs.Vocabulary.{sym, true, zip, ℕ, ◌&&◌, ◌==◌, ◌||◌, ◌∙◌, ◌∷◌, ◌≡◌}
 
 pub fit_hubs_told : (mapping : Mapping) (hubs : List ℕ) (refs : List Key) → length hubs ≡ length refs → list_all (λ (hub, key). fits_hub mapping hub key) (zip hubs refs) ≡ fit_hubs mapping hubs refs
 fit_hubs_told mapping [] [] same = refl

@@ -1,7 +1,8 @@
 -- Items of which each is before the next, and rows in order that have each references and sub once.
-use Rattle.dv_window_rules.proofs.Vocabulary.{◌≡◌, ◌↔◌, ◌⊎◌, ◌+◌, inl, inr, Bool, true, false, not, ◌&&◌, List, [], ◌∷◌, refl, sym, ◌∙◌, ap, arith, subst, and_from, and_parts, false≢true, Contains, Ordering, Less, Equal, IsTotalOrder, tied_itself, IsStrictlySortedBy, ordering_then, is_lt}
-use Rattle.dv_window_rules.proofs.Vocabulary.{IsAllAdjacentAnswer, sorted_from_all_adjacent, all_members, member_of_all, Contains-cons_here, Contains-cons_there, list_all, slice_cmp, slice_eq-Decides, Less-from_sorted, NRow, row_eq, row_cmp, refs_cmp, text_cmp, texts_eq, sorted_by, row_eq-Decides, texts_eq-Decides, row_total, refs_total, texts_total, refs_exact, texts_exact, on_total, then_total, all_more, is_less, then_less, one_of_ties}
-use Rattle.dv_window_rules.proofs.Vocabulary.{ascending-sorted_by, sorted_by-sorted, passes_at, same_answer, false_from_ne_true, of_each_two, are_rivals, is_one_row, holds_of_each_two, rival_parts, rival_from, no_rival_of_itself, not-true, pointwise, row_name_cmp}
+use Rattle.dv_window_rules.proofs.Vocabulary.{Bool, Contains, Contains-cons_here, Contains-cons_there, Equal, IsAllAdjacentAnswer, IsStrictlySortedBy, IsTotalOrder, Less, Less-from_sorted, List, NRow, Ordering, [], all_members, all_more, and_from, and_parts, ap, are_rivals, arith}
+use Rattle.dv_window_rules.proofs.Vocabulary.{ascending-sorted_by, false, false_from_ne_true, false≢true, holds_of_each_two, inl, inr, is_less, is_lt, is_one_row, list_all, member_of_all, no_rival_of_itself, not, not-true, of_each_two, on_total, one_of_ties, ordering_then, passes_at, pointwise}
+use Rattle.dv_window_rules.proofs.Vocabulary.{refl, refs_cmp, refs_exact, refs_total, rival_from, rival_parts, row_cmp, row_eq, row_eq-Decides, row_name_cmp, row_total, same_answer, slice_cmp, slice_eq-Decides, sorted_by, sorted_by-sorted, sorted_from_all_adjacent, subst, sym, text_cmp, texts_eq}
+use Rattle.dv_window_rules.proofs.Vocabulary.{texts_eq-Decides, texts_exact, texts_total, then_less, then_total, tied_itself, true, ◌&&◌, ◌+◌, ◌↔◌, ◌∙◌, ◌∷◌, ◌≡◌, ◌⊎◌}
 
 -- ---- from neighbours to all
 

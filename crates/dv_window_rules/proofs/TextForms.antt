@@ -1,7 +1,6 @@
 -- A text is its own normal form where no blank is first or last, and, as a part of a key, no letter is small.
-use Rattle.dv_window_rules.proofs.Vocabulary.{◌≡◌, ℕ, ◌-◌, Bool, true, false, ◌&&◌, ◌==◌, List, [], ◌∷◌, length, take, drop, map, refl, sym, ◌∙◌, ap, arith, and_from, and_parts, false_from_ne_true, eqb-true, eq-eqb, prefix_len, suffix_len, to_ascii_uppercase}
-use Rattle.dv_window_rules.proofs.Vocabulary.{length-map, length-drop, length-take, prefix_len-le-length, suffix_len-le-length, is_blank, norm_field, norm_key, without_leading, without_trailing, take-length, texts_eq, texts_eq-Decides, list_all, same_answer}
-use Rattle.dv_records.proofs.WindowRows.{same_text}
+use Rattle.dv_window_rules.proofs.Vocabulary.{Bool, List, [], and_from, and_parts, ap, arith, drop, eq-eqb, eqb-true, false, false_from_ne_true, is_blank, length, length-drop, length-map, length-take, list_all, map, norm_field, norm_key, prefix_len, prefix_len-le-length, refl, same_answer}
+use Rattle.dv_window_rules.proofs.Vocabulary.{same_text, suffix_len, suffix_len-le-length, sym, take, take-length, texts_eq, texts_eq-Decides, to_ascii_uppercase, true, without_leading, without_trailing, ℕ, ◌&&◌, ◌-◌, ◌==◌, ◌∙◌, ◌∷◌, ◌≡◌}
 
 -- ---- fields
 

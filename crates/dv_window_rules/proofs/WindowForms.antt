@@ -1,5 +1,5 @@
 -- The feeds of a window's extracts.
-use Rattle.dv_window_rules.proofs.Vocabulary.{◌≡◌, ℕ, Bool, true, List, [], ◌∷◌, map, refl, and_from, and_parts, nat_cmp, nat_lt, is_lt, Ordering, Less, AllByRecursion, IsStrictlySortedBy, IsAllAdjacentAnswer, on_total, nat_cmp_total, list_all, same_answer, Staged, ascends, arith, nat_tests}
+use Rattle.dv_window_rules.proofs.Vocabulary.{AllByRecursion, Bool, IsAllAdjacentAnswer, IsStrictlySortedBy, Less, List, Ordering, Staged, [], and_from, and_parts, arith, ascends, is_lt, list_all, map, nat_cmp, nat_cmp_total, nat_lt, nat_tests, on_total, refl, same_answer, true, ℕ, ◌∷◌, ◌≡◌}
 use Rattle.dv_window_rules.proofs.RowOrders.{up_answer}
 
 abbrev feed_cmp : Staged → Staged → Ordering

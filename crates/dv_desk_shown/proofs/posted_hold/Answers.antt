@@ -1,9 +1,4 @@
-use Rattle.std.proofs.Common.{refl}
-use Rattle.std.specs.Fmt.{digits}
-use Rattle.std.specs.Str.{chars, is_utf8}
-use Rattle.serde_json.proofs.OnLiterals.{serde_json_on_literals}
-use Rattle.dv_text.specs.Stamps.{has_digits, has_form, has_marks, seconds_if, stamp_in}
-use Rattle.jiff_core.specs.Calendar.{day_count, days_from_civil, days_of_months, days_of_years}
+use Rattle.dv_desk_shown.proofs.Vocabulary.{chars, day_count, days_from_civil, days_of_months, days_of_years, digits, has_digits, has_form, has_marks, is_utf8, refl, seconds_if, serde_json_on_literals, stamp_in}
 use Rattle.dv_desk_shown.proofs.posted_hold.Goals as goal
 
 pub returns : goal.returns

@@ -1,6 +1,4 @@
-use Rattle.std.proofs.Common.{refl}
-use Rattle.std.specs.Fmt.{digits}
-use Rattle.serde_json.proofs.OnLiterals.{serde_json_on_literals}
+use Rattle.dv_desk_shown.proofs.Vocabulary.{digits, refl, serde_json_on_literals}
 use Rattle.dv_desk_shown.proofs.replies_hold.Goals as goal
 
 pub returns : goal.returns

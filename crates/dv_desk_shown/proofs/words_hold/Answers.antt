@@ -1,4 +1,4 @@
-use Rattle.std.proofs.Common.{refl}
+use Rattle.dv_desk_shown.proofs.Vocabulary.{refl}
 use Rattle.dv_desk_shown.proofs.words_hold.Goals as goal
 
 pub returns : goal.returns

@@ -1,4 +1,4 @@
-use Rattle.dv_http_shown.proofs.Vocabulary.{refl, httparse_on_literals}
+use Rattle.dv_http_shown.proofs.Vocabulary.{httparse_on_literals, refl}
 use Rattle.dv_http_shown.proofs.fields_hold.Goals as goal
 
 pub returns : goal.returns

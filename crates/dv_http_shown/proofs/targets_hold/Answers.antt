@@ -1,4 +1,4 @@
-use Rattle.dv_http_shown.proofs.Vocabulary.{refl, form_urlencoded_on_literals}
+use Rattle.dv_http_shown.proofs.Vocabulary.{form_urlencoded_on_literals, refl}
 use Rattle.dv_http_shown.proofs.targets_hold.Goals as goal
 
 pub returns : goal.returns

@@ -1,4 +1,4 @@
-use Rattle.dv_shown.proofs.Vocabulary.{◌≡◌, ◌≤◌, ℕ, List, [], slice_index, inl, inr, refl, arith, ap, ⊎_elim, Option, Some, None, codes, unwrap_or, option_and_then, Failed, Memory, Store}
+use Rattle.dv_shown.proofs.Vocabulary.{Failed, List, Memory, None, Option, Some, Store, [], ap, arith, codes, inl, inr, option_and_then, refl, slice_index, unwrap_or, ℕ, ⊎_elim, ◌≡◌, ◌≤◌}
 use Rattle.dv_shown.proofs.changes_made.Goals as goal
 
 -- the mapping that a store holds, where it is told

@@ -1,4 +1,4 @@
-use Rattle.dv_shown.proofs.Vocabulary.{◌≡◌, ℕ, Option, Some, None, refl, option_or, unwrap_or}
+use Rattle.dv_shown.proofs.Vocabulary.{None, Option, Some, option_or, refl, unwrap_or, ℕ, ◌≡◌}
 use Rattle.dv_shown.proofs.Limits.{above}
 use Rattle.dv_shown.proofs.damage_by_weight.Goals as goal
 

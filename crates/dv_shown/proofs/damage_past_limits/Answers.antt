@@ -1,4 +1,4 @@
-use Rattle.dv_shown.proofs.Vocabulary.{length, refl, and-false, false-and}
+use Rattle.dv_shown.proofs.Vocabulary.{and-false, false-and, length, refl}
 use Rattle.dv_shown.proofs.Limits.{above, not_above}
 use Rattle.dv_shown.proofs.damage_past_limits.Goals as goal
 

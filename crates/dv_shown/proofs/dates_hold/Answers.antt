@@ -1,4 +1,4 @@
-use Rattle.dv_shown.proofs.Vocabulary.{refl, day_count, days_from_civil, days_of_months, days_of_years, has_digits, has_form, has_marks, month_from, seconds_if, stamp_in, stamp_text, year_from}
+use Rattle.dv_shown.proofs.Vocabulary.{day_count, days_from_civil, days_of_months, days_of_years, has_digits, has_form, has_marks, month_from, refl, seconds_if, stamp_in, stamp_text, year_from}
 use Rattle.dv_shown.proofs.dates_hold.Goals as goal
 
 pub returns : goal.returns

@@ -1,6 +1,5 @@
-use Rattle.dv_shown.proofs.Vocabulary.{◌≡◌, ℕ, Bool, true, false, List, [], slice_get, option_map_or, empty_store, inl, inr, refl, ap, arith, length, ⊎_elim}
-use Rattle.dv_shown.proofs.Vocabulary.{Option, Some, None, ◌∙◌, chars, is_utf8, toml_on_literals, Result, Ok, Err, unwrap_or, MapError, Mapping, read_mapping, Store, BothRead, IsStored}
-use Rattle.dv_shown.proofs.Vocabulary.{bare, with_customers_and_sites, with_sites_and_customers, bare_file, feed_first, mapped, no_mapping_file, other_file}
+use Rattle.dv_shown.proofs.Vocabulary.{Bool, BothRead, Err, IsStored, List, MapError, Mapping, None, Ok, Option, Result, Some, Store, [], ap, arith, bare, bare_file, chars, empty_store, false, feed_first, inl, inr, is_utf8, length, mapped, no_mapping_file, option_map_or, other_file, read_mapping}
+use Rattle.dv_shown.proofs.Vocabulary.{refl, slice_get, toml_on_literals, true, unwrap_or, with_customers_and_sites, with_sites_and_customers, ℕ, ⊎_elim, ◌∙◌, ◌≡◌}
 use Rattle.dv_shown.proofs.inits_step.Goals as goal
 
 -- whether a text is read as a mapping

@@ -1,4 +1,4 @@
-use Rattle.dv_shown.proofs.Vocabulary.{◌≡◌, ◌+◌, Bool, true, false, ◌&&◌, length, refl, arith}
+use Rattle.dv_shown.proofs.Vocabulary.{Bool, arith, false, length, refl, true, ◌&&◌, ◌+◌, ◌≡◌}
 use Rattle.dv_shown.proofs.Limits.{above, at_most, not_above, together}
 use Rattle.dv_shown.proofs.limits_kept.Goals as goal
 

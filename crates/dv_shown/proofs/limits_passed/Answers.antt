@@ -1,4 +1,4 @@
-use Rattle.dv_shown.proofs.Vocabulary.{◌≡◌, ◌+◌, Bool, nat_lt, true, false, ◌||◌, length, refl, and-false, false-and, weight_with}
+use Rattle.dv_shown.proofs.Vocabulary.{Bool, and-false, false, false-and, length, nat_lt, refl, true, weight_with, ◌+◌, ◌||◌, ◌≡◌}
 use Rattle.dv_shown.proofs.Limits.{above, at_most, is_above, not_above, together}
 use Rattle.dv_shown.proofs.limits_passed.Goals as goal
 

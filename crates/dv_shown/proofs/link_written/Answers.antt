@@ -1,5 +1,5 @@
-use Rattle.dv_shown.proofs.Vocabulary.{refl, block_words, compress, digest_bytes, hash_after, md5, rounds, day_count, days_from_civil, days_of_months, days_of_years, has_digits, has_form, has_marks, month_from, seconds_if, stamp_in}
-use Rattle.dv_shown.proofs.Vocabulary.{stamp_text, year_from, fields_text, is_blank, hex_on_literals, digits}
+use Rattle.dv_shown.proofs.Vocabulary.{block_words, compress, day_count, days_from_civil, days_of_months, days_of_years, digest_bytes, digits, fields_text, has_digits, has_form, has_marks, hash_after, hex_on_literals, is_blank, md5, month_from, refl, rounds, seconds_if, stamp_in, stamp_text}
+use Rattle.dv_shown.proofs.Vocabulary.{year_from}
 use Rattle.dv_shown.proofs.link_written.Goals as goal
 
 pub returns : goal.returns

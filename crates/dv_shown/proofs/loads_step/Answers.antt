@@ -1,4 +1,4 @@
-use Rattle.dv_shown.proofs.Vocabulary.{◌≡◌, ℕ, inl, inr, refl, ap, arith, length, ⊎_elim, option_to_list, NoExtracts, Load, Repeated, Refused, State}
+use Rattle.dv_shown.proofs.Vocabulary.{Load, NoExtracts, Refused, Repeated, State, ap, arith, inl, inr, length, option_to_list, refl, ℕ, ⊎_elim, ◌≡◌}
 use Rattle.dv_shown.proofs.Literals.{extracts_on_literals}
 use Rattle.dv_shown.proofs.loads_step.Goals as goal
 

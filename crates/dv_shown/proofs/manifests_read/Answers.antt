@@ -1,4 +1,4 @@
-use Rattle.dv_shown.proofs.Vocabulary.{digits, chars, is_utf8, toml_on_literals, day_count, days_from_civil, days_of_months, days_of_years, has_digits, has_form, has_marks, seconds_if, stamp_in}
+use Rattle.dv_shown.proofs.Vocabulary.{chars, day_count, days_from_civil, days_of_months, days_of_years, digits, has_digits, has_form, has_marks, is_utf8, seconds_if, stamp_in, toml_on_literals}
 use Rattle.dv_shown.proofs.ByteLimits.{manifest_in-past, manifest_in-within}
 use Rattle.dv_shown.proofs.manifests_read.Goals as goal
 

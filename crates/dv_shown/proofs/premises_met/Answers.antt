@@ -1,6 +1,5 @@
 -- The premises, window by window and row by row.
-use Rattle.dv_shown.proofs.Vocabulary.{◌≡◌, false, List, [], ◌∷◌, refl, Contains, codes, AllByRecursion, IsStrictlySortedBy, All-contains, All-from_recursion, Key, NRow, is_missing, row_cmp, Extract, history, IsInLoadOrder, key_row}
-use Rattle.dv_shown.proofs.Vocabulary.{keys_come_and_go, bare_row, key}
+use Rattle.dv_shown.proofs.Vocabulary.{All-contains, All-from_recursion, AllByRecursion, Contains, Extract, IsInLoadOrder, IsStrictlySortedBy, Key, List, NRow, [], bare_row, codes, false, history, is_missing, key, key_row, keys_come_and_go, refl, row_cmp, ◌∷◌, ◌≡◌}
 use Rattle.dv_shown.proofs.premises_met.Goals as goal
 
 -- a row of a key alone that isn't missing

@@ -1,4 +1,4 @@
-use Rattle.dv_shown.proofs.Vocabulary.{◌≡◌, ℕ, inl, inr, refl, ap, arith, length, ⊎_elim, Some, None, [], sym, ◌∙◌, State, Window, loaded, first_loaded, renamed, with_names, plain}
+use Rattle.dv_shown.proofs.Vocabulary.{None, Some, State, Window, [], ap, arith, first_loaded, inl, inr, length, loaded, plain, refl, renamed, sym, with_names, ℕ, ⊎_elim, ◌∙◌, ◌≡◌}
 use Rattle.dv_shown.proofs.resumes_step.Goals as goal
 
 not_two : (window : Window) → Some first_loaded ≡ Some window → 2 ≡ loaded with_names plain [] window → ⊥

@@ -1,4 +1,4 @@
-use Rattle.dv_shown.proofs.Vocabulary.{length, refl, and-false}
+use Rattle.dv_shown.proofs.Vocabulary.{and-false, length, refl}
 use Rattle.dv_shown.proofs.Limits.{not_above}
 use Rattle.dv_shown.proofs.snapshots_damaged.Goals as goal
 

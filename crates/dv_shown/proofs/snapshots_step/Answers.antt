@@ -1,4 +1,4 @@
-use Rattle.dv_shown.proofs.Vocabulary.{◌≡◌, ℕ, slice_index, inl, inr, refl, ap, arith, length, ⊎_elim, option_to_list, Some, None, State, Future, day}
+use Rattle.dv_shown.proofs.Vocabulary.{Future, None, Some, State, ap, arith, day, inl, inr, length, option_to_list, refl, slice_index, ℕ, ⊎_elim, ◌≡◌}
 use Rattle.dv_records.specs.declared.answers.SnapAnswer.TheVariants.{Repeated}
 use Rattle.dv_shown.proofs.snapshots_step.Goals as goal
 

@@ -1,4 +1,4 @@
-use Rattle.dv_shown.proofs.Vocabulary.{refl, block_words, compress, digest_bytes, hash_after, md5, rounds}
+use Rattle.dv_shown.proofs.Vocabulary.{block_words, compress, digest_bytes, hash_after, md5, refl, rounds}
 use Rattle.dv_shown.proofs.status_digested.Goals as goal
 
 pub returns : goal.returns

@@ -1,4 +1,4 @@
-use Rattle.dv_shown.proofs.Vocabulary.{◌≡◌, refl, arith, day}
+use Rattle.dv_shown.proofs.Vocabulary.{arith, day, refl, ◌≡◌}
 use Rattle.dv_shown.proofs.stores_changed.Goals as goal
 
 pub returns : goal.returns

@@ -1,6 +1,5 @@
-use Rattle.dv_records.specs.declared.stores.Rows.TheVariants.{Hubs, Statuses}
-use Rattle.dv_shown.proofs.Vocabulary.{◌≡◌, ◌==◌, if◌then◌else◌, Bool, sym, ℕ, zero, suc, List, [], ◌∷◌, refl, ap, ◌∙◌, arith, length, map, Option, Some, None, true, false, slice_get, Result, Ok, Err, unwrap_or, MapError, Status, Mapping, read_mapping, HasTables, IsMappedBy}
-use Rattle.dv_shown.proofs.Vocabulary.{row_count, partial, vault, bare, two_keys_window, day, plain, chars, is_utf8, toml_on_literals, bare_file, hub_first, mapped as holding, next_keys, next_staged, other_file, status_first, two_keys, two_present, two_staged}
+use Rattle.dv_shown.proofs.Vocabulary.{Bool, Err, HasTables, Hubs, IsMappedBy, List, MapError, Mapping, None, Ok, Option, Result, Some, Status, Statuses, [], ap, arith, bare, bare_file, chars, day, false, holding, hub_first, if◌then◌else◌, is_utf8, length, map, next_keys, next_staged, other_file}
+use Rattle.dv_shown.proofs.Vocabulary.{partial, plain, read_mapping, refl, row_count, slice_get, status_first, suc, sym, toml_on_literals, true, two_keys, two_keys_window, two_present, two_staged, unwrap_or, vault, zero, ℕ, ◌==◌, ◌∙◌, ◌∷◌, ◌≡◌}
 use Rattle.dv_catalog.specs.declared.tables.TableId.TheVariants.{Hub}
 use Rattle.dv_shown.proofs.stores_stand.Goals as goal
 

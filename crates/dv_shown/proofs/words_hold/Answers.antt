@@ -1,4 +1,4 @@
-use Rattle.dv_shown.proofs.Vocabulary.{day_count, days_from_civil, days_of_months, days_of_years, has_digits, has_form, has_marks, month_from, seconds_if, stamp_in, stamp_text, year_from, fields_text, is_blank}
+use Rattle.dv_shown.proofs.Vocabulary.{day_count, days_from_civil, days_of_months, days_of_years, fields_text, has_digits, has_form, has_marks, is_blank, month_from, seconds_if, stamp_in, stamp_text, year_from}
 use Rattle.dv_shown.proofs.words_hold.Goals as goal
 
 pub returns : goal.returns

@@ -1,7 +1,7 @@
-use Rattle.dv_catalog.proofs.Vocabulary.{◌≡◌, false, true, Decides, ap, Decides-eqb, Decides-like, Parent}
+use Rattle.dv_catalog.proofs.Vocabulary.{Decides, Decides-eqb, Decides-like, Parent, ap, false, true, ◌≡◌}
 use Rattle.dv_catalog.specs.declared.entries.Parent.TheVariants.{Hub, Link}
-use Rattle.dv_catalog.specs.contracts.entries.ParentPartialEq.TheImpl as derived
 use Rattle.dv_catalog.proofs.SameEntries.{feeds_decide}
+use Rattle.dv_catalog.specs.contracts.entries.ParentPartialEq.TheImpl as derived
 use Rattle.dv_catalog.proofs.catalogs.same_feeds.Goals as goal
 
 parent_decides : (a b : Parent) → Decides (derived.eq-value.it a b) (a ≡ b)

@@ -1,4 +1,4 @@
-use Rattle.dv_catalog.proofs.Vocabulary.{◌≡◌, map, take, drop, bytes_eq, again_after, text_twice}
+use Rattle.dv_catalog.proofs.Vocabulary.{again_after, bytes_eq, drop, map, take, text_twice, ◌≡◌}
 use Rattle.dv_catalog.proofs.lookups.name_again.Given as goal
 
 abbrev pub invariant-loop-i : goal.invariant-loop-i

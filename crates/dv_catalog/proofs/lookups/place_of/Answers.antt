@@ -1,4 +1,4 @@
-use Rattle.dv_catalog.proofs.Vocabulary.{ap, ◌∙◌, unwrap_or, length}
+use Rattle.dv_catalog.proofs.Vocabulary.{ap, length, unwrap_or, ◌∙◌}
 use Rattle.dv_catalog.proofs.PlaceSteps.{place_or_len}
 use Rattle.dv_catalog.proofs.lookups.place_of.Goals as goal
 

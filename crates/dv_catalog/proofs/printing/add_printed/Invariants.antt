@@ -1,4 +1,4 @@
-use Rattle.dv_catalog.proofs.Vocabulary.{◌≡◌, ◌++◌, take, printed}
+use Rattle.dv_catalog.proofs.Vocabulary.{printed, take, ◌++◌, ◌≡◌}
 use Rattle.dv_catalog.proofs.printing.add_printed.Given as goal
 
 abbrev pub invariant-loop-byte : goal.invariant-loop-byte

@@ -1,4 +1,4 @@
-use Rattle.dv_catalog.proofs.Vocabulary.{◌≡◌, ◌∷◌, ◌++◌, [], take, flat_map, printed}
+use Rattle.dv_catalog.proofs.Vocabulary.{[], flat_map, printed, take, ◌++◌, ◌∷◌, ◌≡◌}
 use Rattle.dv_catalog.proofs.rule_texts.key_shown.Given as goal
 
 -- the parts so far

@@ -1,4 +1,4 @@
-use Rattle.dv_catalog.proofs.Vocabulary.{◌≡◌, map, take, key_shown}
+use Rattle.dv_catalog.proofs.Vocabulary.{key_shown, map, take, ◌≡◌}
 use Rattle.dv_catalog.proofs.rule_texts.keys_shown.Given as goal
 
 -- the keys so far

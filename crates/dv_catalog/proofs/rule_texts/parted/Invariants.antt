@@ -1,4 +1,4 @@
-use Rattle.dv_catalog.proofs.Vocabulary.{◌≡◌, ◌∷◌, take, join_with_byte}
+use Rattle.dv_catalog.proofs.Vocabulary.{join_with_byte, take, ◌∷◌, ◌≡◌}
 use Rattle.dv_catalog.proofs.rule_texts.parted.Given as goal
 
 -- the texts so far, parted

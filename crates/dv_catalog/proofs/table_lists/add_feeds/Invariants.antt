@@ -1,4 +1,4 @@
-use Rattle.dv_catalog.proofs.Vocabulary.{◌≡◌, ◌++◌, drop, feed_tables}
+use Rattle.dv_catalog.proofs.Vocabulary.{drop, feed_tables, ◌++◌, ◌≡◌}
 use Rattle.dv_catalog.proofs.table_lists.add_feeds.Given as goal
 
 abbrev pub invariant-loop-n : goal.invariant-loop-n

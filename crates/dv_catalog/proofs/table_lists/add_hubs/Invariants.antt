@@ -1,4 +1,4 @@
-use Rattle.dv_catalog.proofs.Vocabulary.{◌≡◌, ◌++◌, map, range_with_len, Hub}
+use Rattle.dv_catalog.proofs.Vocabulary.{Hub, map, range_with_len, ◌++◌, ◌≡◌}
 use Rattle.dv_catalog.proofs.table_lists.add_hubs.Given as goal
 
 abbrev pub invariant-loop-n : goal.invariant-loop-n

@@ -1,4 +1,4 @@
-use Rattle.dv_catalog.proofs.Vocabulary.{◌≡◌, ◌++◌, map, range_with_len, Link}
+use Rattle.dv_catalog.proofs.Vocabulary.{Link, map, range_with_len, ◌++◌, ◌≡◌}
 use Rattle.dv_catalog.proofs.table_lists.add_links.Given as goal
 
 abbrev pub invariant-loop-n : goal.invariant-loop-n

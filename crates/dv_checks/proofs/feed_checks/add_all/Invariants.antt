@@ -1,4 +1,4 @@
-use Rattle.dv_checks.proofs.Vocabulary.{◌≡◌, ◌++◌, map, take}
+use Rattle.dv_checks.proofs.Vocabulary.{map, take, ◌++◌, ◌≡◌}
 use Rattle.dv_checks.proofs.feed_checks.add_all.Given as goal
 
 abbrev pub invariant-loop-column : goal.invariant-loop-column

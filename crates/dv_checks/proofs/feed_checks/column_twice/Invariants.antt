@@ -1,4 +1,4 @@
-use Rattle.dv_checks.proofs.Vocabulary.{◌≡◌, drop, map, first_of}
+use Rattle.dv_checks.proofs.Vocabulary.{drop, first_of, map, ◌≡◌}
 use Rattle.dv_catalog.specs.Checks as spec
 use Rattle.dv_checks.proofs.feed_checks.column_twice.Given as goal
 

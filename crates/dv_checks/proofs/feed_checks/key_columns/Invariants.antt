@@ -1,4 +1,4 @@
-use Rattle.dv_checks.proofs.Vocabulary.{◌≡◌, map, take, flat_map}
+use Rattle.dv_checks.proofs.Vocabulary.{flat_map, map, take, ◌≡◌}
 use Rattle.dv_checks.proofs.feed_checks.key_columns.Given as goal
 
 abbrev pub invariant-loop-list : goal.invariant-loop-list

@@ -1,4 +1,4 @@
-use Rattle.dv_checks.proofs.Vocabulary.{◌≡◌, ◌+◌, length, sum_by, take}
+use Rattle.dv_checks.proofs.Vocabulary.{length, sum_by, take, ◌+◌, ◌≡◌}
 use Rattle.dv_checks.proofs.limits.room_after.Given as goal
 
 abbrev pub invariant-loop-columns : goal.invariant-loop-columns

@@ -1,4 +1,4 @@
-use Rattle.dv_checks.proofs.Vocabulary.{◌≡◌, map}
+use Rattle.dv_checks.proofs.Vocabulary.{map, ◌≡◌}
 use Rattle.dv_catalog.specs.Mappings as spec
 use Rattle.dv_checks.proofs.mappings.link_defs.Given as goal
 

@@ -1,4 +1,4 @@
-use Rattle.dv_checks.proofs.Vocabulary.{◌≡◌, map, take, position_or_len, bytes_eq}
+use Rattle.dv_checks.proofs.Vocabulary.{bytes_eq, map, position_or_len, take, ◌≡◌}
 use Rattle.dv_checks.proofs.mappings.places.Given as goal
 
 abbrev pub invariant-loop-name : goal.invariant-loop-name

@@ -1,4 +1,4 @@
-use Rattle.dv_checks.proofs.Vocabulary.{◌≡◌, [], take, drop}
+use Rattle.dv_checks.proofs.Vocabulary.{[], drop, take, ◌≡◌}
 use Rattle.dv_catalog.specs.Checks as spec
 use Rattle.dv_checks.proofs.name_checks.again_in_links.Given as goal
 

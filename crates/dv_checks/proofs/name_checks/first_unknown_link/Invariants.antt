@@ -1,4 +1,4 @@
-use Rattle.dv_checks.proofs.Vocabulary.{◌≡◌, drop, not, find, filter_map}
+use Rattle.dv_checks.proofs.Vocabulary.{drop, filter_map, find, not, ◌≡◌}
 use Rattle.dv_catalog.specs.Checks as spec
 use Rattle.dv_checks.proofs.name_checks.first_unknown_link.Given as goal
 

@@ -1,4 +1,4 @@
-use Rattle.dv_checks.proofs.Vocabulary.{◌≡◌, drop, map, not, find, has_name_form}
+use Rattle.dv_checks.proofs.Vocabulary.{drop, find, has_name_form, map, not, ◌≡◌}
 use Rattle.dv_checks.proofs.name_checks.misformed.Given as goal
 
 abbrev pub invariant-loop-entry : goal.invariant-loop-entry

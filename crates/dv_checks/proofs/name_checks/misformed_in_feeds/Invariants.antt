@@ -1,4 +1,4 @@
-use Rattle.dv_checks.proofs.Vocabulary.{◌≡◌, [], ◌∷◌, drop, not, find, flat_map, has_name_form}
+use Rattle.dv_checks.proofs.Vocabulary.{[], drop, find, flat_map, has_name_form, not, ◌∷◌, ◌≡◌}
 use Rattle.dv_checks.proofs.name_checks.misformed_in_feeds.Given as goal
 
 abbrev pub invariant-loop-feed : goal.invariant-loop-feed

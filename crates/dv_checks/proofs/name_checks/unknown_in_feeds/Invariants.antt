@@ -1,4 +1,4 @@
-use Rattle.dv_checks.proofs.Vocabulary.{◌≡◌, drop, not, find, filter_map, list_any, bytes_eq}
+use Rattle.dv_checks.proofs.Vocabulary.{bytes_eq, drop, filter_map, find, list_any, not, ◌≡◌}
 use Rattle.dv_catalog.specs.Checks as spec
 use Rattle.dv_checks.proofs.name_checks.unknown_in_feeds.Given as goal
 

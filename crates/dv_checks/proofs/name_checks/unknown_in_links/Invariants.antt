@@ -1,4 +1,4 @@
-use Rattle.dv_checks.proofs.Vocabulary.{◌≡◌, drop, not, find, flat_map, list_any, bytes_eq}
+use Rattle.dv_checks.proofs.Vocabulary.{bytes_eq, drop, find, flat_map, list_any, not, ◌≡◌}
 use Rattle.dv_checks.proofs.name_checks.unknown_in_links.Given as goal
 
 abbrev pub invariant-loop-link : goal.invariant-loop-link

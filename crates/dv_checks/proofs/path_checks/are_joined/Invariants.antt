@@ -1,4 +1,4 @@
-use Rattle.dv_checks.proofs.Vocabulary.{◌≡◌, drop}
+use Rattle.dv_checks.proofs.Vocabulary.{drop, ◌≡◌}
 use Rattle.dv_catalog.specs.Checks as spec
 use Rattle.dv_checks.proofs.path_checks.are_joined.Given as goal
 

@@ -1,4 +1,4 @@
-use Rattle.dv_contents.proofs.Vocabulary.{◌≡◌, map, take}
+use Rattle.dv_contents.proofs.Vocabulary.{map, take, ◌≡◌}
 use Rattle.dv_contents.proofs.content_rows.copied_keys.Given as goal
 
 -- the copies of the first keys

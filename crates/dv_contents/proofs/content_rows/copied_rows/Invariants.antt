@@ -1,4 +1,4 @@
-use Rattle.dv_contents.proofs.Vocabulary.{◌≡◌, take}
+use Rattle.dv_contents.proofs.Vocabulary.{take, ◌≡◌}
 use Rattle.dv_contents.proofs.content_rows.copied_rows.Given as goal
 
 -- the copies of the first rows

@@ -1,4 +1,4 @@
-use Rattle.dv_contents.proofs.Vocabulary.{◌≡◌, take}
+use Rattle.dv_contents.proofs.Vocabulary.{take, ◌≡◌}
 use Rattle.dv_contents.proofs.content_rows.lent_again.Given as goal
 
 -- the first keys

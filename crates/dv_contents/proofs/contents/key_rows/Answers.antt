@@ -1,7 +1,4 @@
-use Rattle.dv_contents.proofs.Vocabulary.{◌≡◌, inl, inr, [], ◌++◌, sym, ◌∙◌, ap, append-nil, filter_map}
-use Rattle.std.specs.List.{zip}
-use Rattle.dv_hub_link.proofs.Keys.{zip_ended}
-use Rattle.dv_contents.specs.Contents.{key_row}
+use Rattle.dv_contents.proofs.Vocabulary.{[], ap, append-nil, filter_map, inl, inr, key_row, sym, zip, zip_ended, ◌++◌, ◌∙◌, ◌≡◌}
 use Rattle.dv_contents.proofs.contents.key_rows.Goals as goal
 
 pub returns : goal.returns

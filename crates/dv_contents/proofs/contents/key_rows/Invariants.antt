@@ -1,6 +1,4 @@
-use Rattle.dv_contents.proofs.Vocabulary.{◌≡◌, ◌++◌, filter_map}
-use Rattle.std.specs.List.{zip}
-use Rattle.dv_contents.specs.Contents.{key_row}
+use Rattle.dv_contents.proofs.Vocabulary.{filter_map, key_row, zip, ◌++◌, ◌≡◌}
 use Rattle.dv_contents.proofs.contents.key_rows.Given as goal
 
 -- the rows so far and those behind them are all

@@ -1,6 +1,4 @@
-use Rattle.dv_contents.proofs.Vocabulary.{◌≡◌, ◌<◌, ◌∙◌, true, Some, ap, length, sorted_by, subst, sym, got_from, slice_get, is_valid, FeedDef, RawVault}
-use Rattle.dv_text.specs.Orders.{row_cmp}
-use Rattle.dv_contents.specs.Contents.{parents_read}
+use Rattle.dv_contents.proofs.Vocabulary.{FeedDef, RawVault, Some, ap, got_from, is_valid, length, parents_read, row_cmp, slice_get, sorted_by, subst, sym, true, ◌<◌, ◌∙◌, ◌≡◌}
 use Rattle.dv_contents.proofs.ContentFacts.{content_by, mart_read}
 use Rattle.dv_contents.proofs.contents.lent_content.Goals as goal
 

@@ -1,6 +1,4 @@
-use Rattle.dv_contents.proofs.Vocabulary.{◌∙◌, filter_map}
-use Rattle.std.specs.List.{zip}
-use Rattle.dv_contents.specs.Contents.{list_row}
+use Rattle.dv_contents.proofs.Vocabulary.{filter_map, list_row, zip, ◌∙◌}
 use Rattle.dv_contents.proofs.ContentFacts.{list_rows_read}
 use Rattle.dv_contents.proofs.contents.link_rows_read.Goals as goal
 

@@ -1,7 +1,4 @@
-use Rattle.dv_contents.proofs.Vocabulary.{◌≡◌, inl, inr, [], ◌++◌, sym, ◌∙◌, ap, append-nil, filter_map}
-use Rattle.std.specs.List.{zip}
-use Rattle.dv_hub_link.proofs.Keys.{zip_ended}
-use Rattle.dv_contents.specs.Contents.{list_row}
+use Rattle.dv_contents.proofs.Vocabulary.{[], ap, append-nil, filter_map, inl, inr, list_row, sym, zip, zip_ended, ◌++◌, ◌∙◌, ◌≡◌}
 use Rattle.dv_contents.proofs.contents.list_rows.Goals as goal
 
 pub returns : goal.returns

@@ -1,6 +1,4 @@
-use Rattle.dv_contents.proofs.Vocabulary.{◌≡◌, ◌++◌, filter_map}
-use Rattle.std.specs.List.{zip}
-use Rattle.dv_contents.specs.Contents.{list_row}
+use Rattle.dv_contents.proofs.Vocabulary.{filter_map, list_row, zip, ◌++◌, ◌≡◌}
 use Rattle.dv_contents.proofs.contents.list_rows.Given as goal
 
 -- the rows so far and those behind them are all

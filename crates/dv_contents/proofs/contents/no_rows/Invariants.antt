@@ -1,4 +1,4 @@
-use Rattle.dv_contents.proofs.Vocabulary.{◌≡◌, ◌≤◌, None, replicate}
+use Rattle.dv_contents.proofs.Vocabulary.{None, replicate, ◌≡◌, ◌≤◌}
 use Rattle.dv_contents.proofs.contents.no_rows.Given as goal
 
 -- as many so far

@@ -1,7 +1,4 @@
-use Rattle.dv_contents.proofs.Vocabulary.{◌∙◌, ap, map, FeedDef, filter_map, row_read}
-use Rattle.dv_text.proofs.Options.{one_value}
-use Rattle.std.proofs.lemmas.Result.{IfOk-weaker}
-use Rattle.dv_contents.specs.Contents.{valid_attrs}
+use Rattle.dv_contents.proofs.Vocabulary.{FeedDef, IfOk-weaker, ap, filter_map, map, one_value, row_read, valid_attrs, ◌∙◌}
 use Rattle.dv_contents.proofs.ContentFacts.{hub_within, link_within}
 use Rattle.dv_contents.proofs.contents.rows_read.Goals as goal
 

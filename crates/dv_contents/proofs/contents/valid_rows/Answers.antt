@@ -1,10 +1,6 @@
-use Rattle.dv_contents.proofs.Vocabulary.{◌≡◌, ◌==◌, ◌∙◌, List, [], None, ℕ, SatRow, ap, length, map, option_map_or, sym, valid_at, attrs_read}
-use Rattle.std.proofs.lemmas.Result.{IfOk-weaker}
-use Rattle.std.specs.Borrow.{Bor}
-use Rattle.dv_catalog.specs.declared.tables.TableId.TheVariants as ids
-use Rattle.dv_vault.proofs.VaultFacts.{absent_table}
-use Rattle.dv_contents.specs.Contents.{valid_attrs}
+use Rattle.dv_contents.proofs.Vocabulary.{Bor, IfOk-weaker, List, None, SatRow, [], absent_table, ap, attrs_read, length, map, option_map_or, sym, valid_at, valid_attrs, ℕ, ◌==◌, ◌∙◌, ◌≡◌}
 use Rattle.dv_contents.proofs.ContentFacts.{absent_attrs, each_told_or, no_attrs, none_told, some_attrs}
+use Rattle.dv_catalog.specs.declared.tables.TableId.TheVariants as ids
 use Rattle.dv_contents.proofs.contents.valid_rows.Goals as goal
 
 pub returns-then-is_empty : goal.returns-then-is_empty

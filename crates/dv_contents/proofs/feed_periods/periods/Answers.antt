@@ -1,5 +1,4 @@
-use Rattle.dv_contents.proofs.Vocabulary.{◌≡◌, ◌<◌, ◌∙◌, true, Some, filter_map, length, subst, sym, got_from, slice_get, is_valid, FeedDef, RawVault}
-use Rattle.dv_records.specs.ReadBack.{period_read}
+use Rattle.dv_contents.proofs.Vocabulary.{FeedDef, RawVault, Some, filter_map, got_from, is_valid, length, period_read, slice_get, subst, sym, true, ◌<◌, ◌∙◌, ◌≡◌}
 use Rattle.dv_contents.proofs.PeriodFacts.{effect_within, periods_by, periods_told}
 use Rattle.dv_contents.proofs.feed_periods.periods.Goals as goal
 

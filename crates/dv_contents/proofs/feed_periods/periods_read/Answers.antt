@@ -1,4 +1,4 @@
-use Rattle.dv_records.specs.ReadBack.{period_read}
+use Rattle.dv_contents.proofs.Vocabulary.{period_read}
 use Rattle.dv_contents.proofs.ContentFacts.{rows_more}
 use Rattle.dv_contents.proofs.feed_periods.periods_read.Goals as goal
 

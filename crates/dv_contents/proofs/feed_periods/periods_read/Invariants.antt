@@ -1,5 +1,4 @@
-use Rattle.dv_contents.proofs.Vocabulary.{◌≡◌, Some, take, slice_get, filter_map, FeedDef}
-use Rattle.dv_records.specs.ReadBack.{period_read}
+use Rattle.dv_contents.proofs.Vocabulary.{FeedDef, Some, filter_map, period_read, slice_get, take, ◌≡◌}
 use Rattle.dv_contents.proofs.feed_periods.periods_read.Given as goal
 
 -- the rows of the periods so far

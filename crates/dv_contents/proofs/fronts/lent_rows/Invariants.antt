@@ -1,4 +1,4 @@
-use Rattle.dv_contents.proofs.Vocabulary.{◌≡◌, take}
+use Rattle.dv_contents.proofs.Vocabulary.{take, ◌≡◌}
 use Rattle.dv_contents.proofs.fronts.lent_rows.Given as goal
 
 -- the first rows

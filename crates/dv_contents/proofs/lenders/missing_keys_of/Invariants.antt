@@ -1,5 +1,4 @@
-use Rattle.dv_contents.proofs.Vocabulary.{◌≡◌, ◌≤◌, map, range_with_len}
-use Rattle.dv_records.specs.ReadBack.{missing_key}
+use Rattle.dv_contents.proofs.Vocabulary.{map, missing_key, range_with_len, ◌≡◌, ◌≤◌}
 use Rattle.dv_contents.proofs.lenders.missing_keys_of.Given as goal
 
 -- the missing keys of the hubs so far

@@ -1,5 +1,4 @@
-use Rattle.dv_contents.proofs.Vocabulary.{◌≡◌, ◌++◌, map, take}
-use Rattle.dv_records.specs.Reconstruction.{described_row}
+use Rattle.dv_contents.proofs.Vocabulary.{described_row, map, take, ◌++◌, ◌≡◌}
 use Rattle.dv_contents.proofs.multi_contents.add_described.Given as goal
 
 -- the rows of the satellite rows so far stand behind those that were there

@@ -1,7 +1,6 @@
-use Rattle.dv_contents.proofs.Vocabulary.{◌++◌, ap, sym, ◌∙◌, append-nil}
-use Rattle.dv_catalog.specs.declared.tables.TableId.TheVariants as ids
-use Rattle.dv_vault.proofs.VaultFacts.{absent_table}
+use Rattle.dv_contents.proofs.Vocabulary.{absent_table, ap, append-nil, sym, ◌++◌, ◌∙◌}
 use Rattle.dv_contents.proofs.ContentFacts.{absent_rows_read}
+use Rattle.dv_catalog.specs.declared.tables.TableId.TheVariants as ids
 use Rattle.dv_contents.proofs.multi_contents.add_parent.Goals as goal
 
 pub returns-in_default-multi : goal.returns-in_default-multi

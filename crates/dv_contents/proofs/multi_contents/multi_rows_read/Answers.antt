@@ -1,5 +1,4 @@
-use Rattle.dv_contents.proofs.Vocabulary.{refl}
-use Rattle.dv_records.specs.ReadBack.{rows_read}
+use Rattle.dv_contents.proofs.Vocabulary.{refl, rows_read}
 use Rattle.dv_contents.proofs.ContentFacts.{all_more}
 use Rattle.dv_contents.proofs.multi_contents.multi_rows_read.Goals as goal
 

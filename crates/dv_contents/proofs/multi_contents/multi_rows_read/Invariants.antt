@@ -1,5 +1,4 @@
-use Rattle.dv_contents.proofs.Vocabulary.{◌≡◌, Some, take, slice_get, flat_map, FeedDef}
-use Rattle.dv_records.specs.ReadBack.{rows_read}
+use Rattle.dv_contents.proofs.Vocabulary.{FeedDef, Some, flat_map, rows_read, slice_get, take, ◌≡◌}
 use Rattle.dv_contents.proofs.multi_contents.multi_rows_read.Given as goal
 
 -- the rows of the parents so far

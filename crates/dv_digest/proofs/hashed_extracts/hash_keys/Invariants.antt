@@ -1,5 +1,4 @@
-use Rattle.dv_digest.proofs.Vocabulary.{◌≡◌, map, take}
-use Rattle.dv_text.specs.Keys.{hashes_of}
+use Rattle.dv_digest.proofs.Vocabulary.{hashes_of, map, take, ◌≡◌}
 use Rattle.dv_digest.proofs.hashed_extracts.hash_keys.Given as goal
 
 -- the hash keys of the rows so far

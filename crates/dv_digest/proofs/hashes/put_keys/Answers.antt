@@ -1,4 +1,4 @@
-use Rattle.dv_digest.proofs.Vocabulary.{[], ◌∷◌, length, arith, length-append, ap, ◌∙◌, key_text, refs_text}
+use Rattle.dv_digest.proofs.Vocabulary.{[], ap, arith, key_text, length, length-append, refs_text, ◌∙◌, ◌∷◌}
 use Rattle.dv_digest.proofs.Joins.{refs_text-cons, next_fits, all_put}
 use Rattle.dv_digest.proofs.hashes.put_keys.Goals as goal
 

@@ -1,4 +1,4 @@
-use Rattle.dv_digest.proofs.Vocabulary.{◌≡◌, ◌∷◌, ◌++◌, take, flat_map, key_text}
+use Rattle.dv_digest.proofs.Vocabulary.{flat_map, key_text, take, ◌++◌, ◌∷◌, ◌≡◌}
 use Rattle.dv_digest.proofs.hashes.put_keys.Given as goal
 
 -- the first key's text, and the texts of the keys so far behind semicolons

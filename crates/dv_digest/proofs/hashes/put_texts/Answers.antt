@@ -1,4 +1,4 @@
-use Rattle.dv_digest.proofs.Vocabulary.{[], ◌∷◌, length, arith, length-append, ap, ◌∙◌, joined}
+use Rattle.dv_digest.proofs.Vocabulary.{[], ap, arith, joined, length, length-append, ◌∙◌, ◌∷◌}
 use Rattle.dv_digest.proofs.Joins.{joined-cons, next_fits, all_put}
 use Rattle.dv_digest.proofs.hashes.put_texts.Goals as goal
 

@@ -1,4 +1,4 @@
-use Rattle.dv_digest.proofs.Vocabulary.{◌≡◌, ◌∷◌, ◌++◌, take, flat_map}
+use Rattle.dv_digest.proofs.Vocabulary.{flat_map, take, ◌++◌, ◌∷◌, ◌≡◌}
 use Rattle.dv_digest.proofs.hashes.put_texts.Given as goal
 
 -- the first text, and the texts so far behind semicolons

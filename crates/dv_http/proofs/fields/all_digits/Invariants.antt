@@ -1,4 +1,4 @@
-use Rattle.dv_http.proofs.Vocabulary.{◌≡◌, drop, list_all, is_ascii_digit}
+use Rattle.dv_http.proofs.Vocabulary.{drop, is_ascii_digit, list_all, ◌≡◌}
 use Rattle.dv_http.proofs.fields.all_digits.Given as goal
 
 abbrev pub invariant-loop-byte : goal.invariant-loop-byte

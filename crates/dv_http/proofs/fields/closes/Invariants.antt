@@ -1,4 +1,4 @@
-use Rattle.dv_http.proofs.Vocabulary.{◌≡◌, map, drop, list_any, header_bytes, is_close}
+use Rattle.dv_http.proofs.Vocabulary.{drop, header_bytes, is_close, list_any, map, ◌≡◌}
 use Rattle.dv_http.proofs.fields.closes.Given as goal
 
 -- what is told is told by the fields that are left

@@ -1,4 +1,4 @@
-use Rattle.dv_http.proofs.Vocabulary.{◌≡◌, ◌++◌, length, map, drop, IfSome, option_map, option_to_list, header_bytes, span_bytes, IsWithin, values_named}
+use Rattle.dv_http.proofs.Vocabulary.{IfSome, IsWithin, drop, header_bytes, length, map, option_map, option_to_list, span_bytes, values_named, ◌++◌, ◌≡◌}
 use Rattle.dv_http.proofs.fields.find.Given as goal
 
 -- the value that was found, and those of the fields that are left, are those of all

@@ -1,4 +1,4 @@
-use Rattle.dv_http.proofs.Vocabulary.{◌≡◌, map, drop, list_any, header_bytes, is_named}
+use Rattle.dv_http.proofs.Vocabulary.{drop, header_bytes, is_named, list_any, map, ◌≡◌}
 use Rattle.dv_http.proofs.fields.has_field.Given as goal
 
 -- what is told is told by the fields that are left

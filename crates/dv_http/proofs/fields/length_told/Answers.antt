@@ -1,4 +1,4 @@
-use Rattle.dv_http.proofs.Vocabulary.{◌∙◌, arith, rules, sym}
+use Rattle.dv_http.proofs.Vocabulary.{arith, rules, sym, ◌∙◌}
 use Rattle.dv_http.proofs.Lengths.{digits_text, past_all}
 use Rattle.dv_http.proofs.fields.length_told.Goals as goal
 

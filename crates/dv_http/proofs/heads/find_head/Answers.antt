@@ -1,6 +1,5 @@
-use Rattle.dv_http.proofs.Vocabulary.{take_all, ◌<◌, ◌≡◌, ◌∙◌, ap, arith, held, head_most, fields_most, length, length-take, subst, sym, take, IfSome, HasNoHead, HasNoRequest, MayBecomeRequest, EndsInHead, Grows, RequestOverflows}
-use Rattle.dv_http.proofs.Bodies.{came_same}
-use Rattle.dv_http.proofs.Fronts.{cut_held, none_ever_held, none_longer_held}
+use Rattle.dv_http.proofs.Vocabulary.{EndsInHead, Grows, HasNoHead, HasNoRequest, IfSome, MayBecomeRequest, RequestOverflows, ap, arith, fields_most, head_most, held, length, length-take, subst, sym, take, take_all, ◌<◌, ◌∙◌, ◌≡◌}
+use Rattle.dv_http.proofs.{Bodies.came_same, Fronts.cut_held, Fronts.none_ever_held, Fronts.none_longer_held}
 use Rattle.dv_http.proofs.heads.find_head.Goals as goal
 
 pub returns-in_default-clause-found : goal.returns-in_default-clause-found

@@ -1,4 +1,4 @@
-use Rattle.dv_http.proofs.Vocabulary.{◌≡◌, ◌-◌, ◌≤◌, length, in_front, held, head_most, fields_most, is_spent}
+use Rattle.dv_http.proofs.Vocabulary.{fields_most, head_most, held, in_front, is_spent, length, ◌-◌, ◌≡◌, ◌≤◌}
 use Rattle.dv_http.proofs.heads.find_head.Given as goal
 
 abbrev pub decreases-heads : goal.decreases-heads

@@ -1,4 +1,4 @@
-use Rattle.dv_http.proofs.Vocabulary.{◌≡◌, ◌∙◌, ap, take, length, min, arith, take_min}
+use Rattle.dv_http.proofs.Vocabulary.{ap, arith, length, min, take, take_min, ◌∙◌, ◌≡◌}
 use Rattle.dv_http.proofs.heads.front.Goals as goal
 
 pub returns : goal.returns

@@ -1,6 +1,5 @@
-use Rattle.dv_http.proofs.Vocabulary.{◌∙◌, HasNoEnd, arith, false≢true, subst, sym, take_all}
-use Rattle.dv_http.proofs.Ends.{no_end_more}
-use Rattle.dv_http.proofs.heads.may_end.Goals.{else-bytes-at-eq10-via-then-bytes-at-eq10+else-ends_line, else-bytes-at-eq10-via-else-bytes-at-eq10}
+use Rattle.dv_http.proofs.Vocabulary.{HasNoEnd, arith, false≢true, subst, sym, take_all, ◌∙◌}
+use Rattle.dv_http.proofs.{Ends.no_end_more, heads.may_end.Goals.else-bytes-at-eq10-via-then-bytes-at-eq10+else-ends_line, heads.may_end.Goals.else-bytes-at-eq10-via-else-bytes-at-eq10}
 use Rattle.dv_http.proofs.heads.may_end.Goals as goal
 
 pub loop-at-preserved : goal.loop-at-preserved

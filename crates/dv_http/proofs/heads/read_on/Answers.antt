@@ -1,6 +1,5 @@
-use Rattle.dv_http.proofs.Vocabulary.{◌∙◌, HasNoEnd, ap, arith, held, length, subst}
-use Rattle.dv_http.proofs.Bodies.{came_twice}
-use Rattle.dv_http.proofs.Ends.{none_later}
+use Rattle.dv_http.proofs.Vocabulary.{HasNoEnd, ap, arith, held, length, subst, ◌∙◌}
+use Rattle.dv_http.proofs.{Bodies.came_twice, Ends.none_later}
 use Rattle.dv_http.proofs.heads.read_on.Goals as goal
 
 pub reads-preserved : goal.reads-preserved

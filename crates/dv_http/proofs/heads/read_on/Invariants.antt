@@ -1,4 +1,4 @@
-use Rattle.dv_http.proofs.Vocabulary.{◌≡◌, ◌-◌, ◌<◌, ◌≤◌, length, held, head_most, is_spent, Came, HasNoRequest}
+use Rattle.dv_http.proofs.Vocabulary.{Came, HasNoRequest, head_most, held, is_spent, length, ◌-◌, ◌<◌, ◌≡◌, ◌≤◌}
 use Rattle.dv_http.proofs.heads.read_on.Given as goal
 
 abbrev pub decreases-reads : goal.decreases-reads

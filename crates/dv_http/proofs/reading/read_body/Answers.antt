@@ -1,4 +1,4 @@
-use Rattle.dv_http.proofs.Vocabulary.{◌∙◌, ap, arith, held, in_front, length, length-append, sym}
+use Rattle.dv_http.proofs.Vocabulary.{ap, arith, held, in_front, length, length-append, sym, ◌∙◌}
 use Rattle.dv_http.proofs.Bodies.{came_same, front_twice}
 use Rattle.dv_http.proofs.reading.read_body.Goals as goal
 

@@ -1,4 +1,4 @@
-use Rattle.dv_http.proofs.Vocabulary.{◌≡◌, ◌-◌, ◌<◌, ◌≤◌, length, in_front, held, is_spent}
+use Rattle.dv_http.proofs.Vocabulary.{held, in_front, is_spent, length, ◌-◌, ◌<◌, ◌≡◌, ◌≤◌}
 use Rattle.dv_http.proofs.reading.read_body.Given as goal
 
 abbrev pub decreases-body : goal.decreases-body

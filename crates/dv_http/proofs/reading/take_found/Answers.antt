@@ -1,4 +1,4 @@
-use Rattle.dv_http.proofs.Vocabulary.{BodyWaits, ◌≡◌, ◌∙◌, ap, held, head_most, in_front, subst, sym, take, Err, GivesBody, IsRequestAt, Ok}
+use Rattle.dv_http.proofs.Vocabulary.{BodyWaits, Err, GivesBody, IsRequestAt, Ok, ap, head_most, held, in_front, subst, sym, take, ◌∙◌, ◌≡◌}
 use Rattle.dv_http.proofs.Takings.{error_of, waited_held, refuses_body_held, refuses_head_held, size_within, takes_body_held}
 use Rattle.dv_http.proofs.reading.take_found.Goals as goal
 

@@ -1,4 +1,4 @@
-use Rattle.dv_http.proofs.Vocabulary.{◌++◌, ◌∙◌, ap, length, length_line}
+use Rattle.dv_http.proofs.Vocabulary.{ap, length, length_line, ◌++◌, ◌∙◌}
 use Rattle.dv_http.proofs.Chains.{three_behind}
 use Rattle.dv_http.proofs.replies.add_content.Goals as goal
 

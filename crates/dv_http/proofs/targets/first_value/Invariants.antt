@@ -1,4 +1,4 @@
-use Rattle.dv_http.proofs.Vocabulary.{◌≡◌, length, pairs_left, raw_pairs, first_of}
+use Rattle.dv_http.proofs.Vocabulary.{first_of, length, pairs_left, raw_pairs, ◌≡◌}
 use Rattle.dv_http.proofs.targets.first_value.Given as goal
 
 abbrev pub decreases-pairs : goal.decreases-pairs

@@ -1,4 +1,4 @@
-use Rattle.dv_http.proofs.Vocabulary.{◌≡◌, ◌++◌, take, drop, path_of, query_of}
+use Rattle.dv_http.proofs.Vocabulary.{drop, path_of, query_of, take, ◌++◌, ◌≡◌}
 use Rattle.dv_http.proofs.targets.split.Given as goal
 
 abbrev pub invariant-loop-at : goal.invariant-loop-at

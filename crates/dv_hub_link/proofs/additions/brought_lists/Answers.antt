@@ -1,6 +1,5 @@
-use Rattle.dv_hub_link.proofs.Vocabulary.{◌≡◌, List, Key, true, sym, ◌∙◌, subst, refs_fit, Contains-map, delivered, delivery_of, got_member, hashes_of}
-use Rattle.dv_hub_link.proofs.Brought.{brought_first, missing_first}
-use Rattle.dv_hub_link.proofs.Hashables.{missing_fits}
+use Rattle.dv_hub_link.proofs.Vocabulary.{Contains-map, Key, List, delivered, delivery_of, got_member, hashes_of, refs_fit, subst, sym, true, ◌∙◌, ◌≡◌}
+use Rattle.dv_hub_link.proofs.{Brought.brought_first, Brought.missing_first, Hashables.missing_fits}
 use Rattle.dv_hub_link.proofs.additions.brought_lists.Goals as goal
 
 pub hashed_lists-requires-clause-missing : goal.hashed_lists-requires-clause-missing

@@ -1,4 +1,4 @@
-use Rattle.dv_hub_link.proofs.Vocabulary.{◌≡◌, inl, inr, [], ◌++◌, sym, ◌∙◌, ap, append-nil, filter_map, map, new_beside, told, zip}
+use Rattle.dv_hub_link.proofs.Vocabulary.{[], ap, append-nil, filter_map, inl, inr, map, new_beside, sym, told, zip, ◌++◌, ◌∙◌, ◌≡◌}
 use Rattle.dv_hub_link.proofs.Keys.{zip_ended}
 use Rattle.dv_hub_link.proofs.additions.kept.Goals as goal
 

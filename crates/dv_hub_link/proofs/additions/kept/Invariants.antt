@@ -1,4 +1,4 @@
-use Rattle.dv_hub_link.proofs.Vocabulary.{◌≡◌, ◌++◌, kept, map, told}
+use Rattle.dv_hub_link.proofs.Vocabulary.{kept, map, told, ◌++◌, ◌≡◌}
 use Rattle.dv_hub_link.proofs.additions.kept.Given as goal
 
 -- the lists so far and those behind them are all

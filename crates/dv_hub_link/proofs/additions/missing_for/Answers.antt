@@ -1,6 +1,5 @@
-use Rattle.dv_hub_link.proofs.Vocabulary.{sym, ◌∙◌, subst, Contains-map, HashedDelivery, delivered, delivery_of, got_member, slice_get, Some, ◌≡◌, List}
-use Rattle.dv_hub_link.proofs.Brought.{missing_first}
-use Rattle.dv_hub_link.proofs.Hashables.{table_known}
+use Rattle.dv_hub_link.proofs.Vocabulary.{Contains-map, HashedDelivery, List, Some, delivered, delivery_of, got_member, slice_get, subst, sym, ◌∙◌, ◌≡◌}
+use Rattle.dv_hub_link.proofs.{Brought.missing_first, Hashables.table_known}
 use Rattle.dv_hub_link.proofs.additions.missing_for.Goals as goal
 
 pub missing_refs-requires : goal.missing_refs-requires

@@ -1,7 +1,5 @@
-use Rattle.dv_hub_link.proofs.Vocabulary.{◌≡◌, ◌∙◌, ap, length, nat_lt, subst, sym, true, filter, List, list_all, map, LentList, Standing, hashes_of, refs_fit, brought_lists, delivered, is_new, kept, least_rivals, standing, told, HashedList}
-use Rattle.std.proofs.lemmas.List.Folds.{list_all-map}
-use Rattle.dv_hub_link.proofs.Brought.{kept_are, kept_new, none_rival, some_rival}
-use Rattle.dv_hub_link.proofs.Hashables.{missing_none, new_feeds, new_fit}
+use Rattle.dv_hub_link.proofs.Vocabulary.{HashedList, LentList, List, Standing, ap, brought_lists, delivered, filter, hashes_of, is_new, kept, least_rivals, length, list_all, list_all-map, map, nat_lt, refs_fit, standing, subst, sym, told, true, ◌∙◌, ◌≡◌}
+use Rattle.dv_hub_link.proofs.{Brought.kept_are, Brought.kept_new, Brought.none_rival, Brought.some_rival, Hashables.missing_none, Hashables.new_feeds, Hashables.new_fit}
 use Rattle.dv_hub_link.proofs.additions.new_lists.Goals as goal
 
 pub brought_lists-requires-clause-missing : goal.brought_lists-requires-clause-missing

@@ -1,4 +1,4 @@
-use Rattle.dv_hub_link.proofs.Vocabulary.{◌≡◌, take}
+use Rattle.dv_hub_link.proofs.Vocabulary.{take, ◌≡◌}
 use Rattle.dv_hub_link.proofs.copies.copied.Given as goal
 
 -- the copies so far are the first keys

@@ -1,4 +1,4 @@
-use Rattle.dv_hub_link.proofs.Vocabulary.{◌≡◌, ◌++◌, map, take, list_beside, told}
+use Rattle.dv_hub_link.proofs.Vocabulary.{list_beside, map, take, told, ◌++◌, ◌≡◌}
 use Rattle.dv_hub_link.proofs.hashed_lists.add_items.Given as goal
 
 abbrev pub invariant-loop-item : goal.invariant-loop-item

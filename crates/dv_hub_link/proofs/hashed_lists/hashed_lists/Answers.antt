@@ -1,4 +1,4 @@
-use Rattle.dv_hub_link.proofs.Vocabulary.{List, [], ◌∷◌, ◌∙◌, ◌++◌, ap, map, hashes_of, LentList, hashed_list, list_beside, told}
+use Rattle.dv_hub_link.proofs.Vocabulary.{LentList, List, [], ap, hashed_list, hashes_of, list_beside, map, told, ◌++◌, ◌∙◌, ◌∷◌}
 use Rattle.dv_hub_link.proofs.Brought.{told_in_order}
 use Rattle.dv_hub_link.proofs.hashed_lists.hashed_lists.Goals as goal
 

@@ -1,4 +1,4 @@
-use Rattle.dv_hub_link.proofs.Vocabulary.{◌≡◌, take, filter_map, hub_row_of, told}
+use Rattle.dv_hub_link.proofs.Vocabulary.{filter_map, hub_row_of, take, told, ◌≡◌}
 use Rattle.dv_hub_link.proofs.hub_rows.hub_rows.Given as goal
 
 abbrev pub invariant-loop-list : goal.invariant-loop-list

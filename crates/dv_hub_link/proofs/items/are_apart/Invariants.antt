@@ -1,4 +1,4 @@
-use Rattle.dv_hub_link.proofs.Vocabulary.{◌≡◌, length, are_apart}
+use Rattle.dv_hub_link.proofs.Vocabulary.{are_apart, length, ◌≡◌}
 use Rattle.dv_hub_link.proofs.items.are_apart.Given as goal
 
 abbrev pub decreases-loop-item : goal.decreases-loop-item

@@ -1,4 +1,4 @@
-use Rattle.dv_hub_link.proofs.Vocabulary.{◌≡◌, take, hashes_of, each_hash}
+use Rattle.dv_hub_link.proofs.Vocabulary.{each_hash, hashes_of, take, ◌≡◌}
 use Rattle.dv_hub_link.proofs.link_rows.each_key_hash.Given as goal
 
 abbrev pub invariant-loop-key : goal.invariant-loop-key

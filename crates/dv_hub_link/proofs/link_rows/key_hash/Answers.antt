@@ -1,4 +1,4 @@
-use Rattle.dv_hub_link.proofs.Vocabulary.{◌≤◌, ◌∷◌, [], List, Key, length, subst, sym, refs_text, ROOM_SIZE, refs_text_fits}
+use Rattle.dv_hub_link.proofs.Vocabulary.{Key, List, ROOM_SIZE, [], length, refs_text, refs_text_fits, subst, sym, ◌∷◌, ◌≤◌}
 use Rattle.dv_hub_link.proofs.link_rows.key_hash.Goals as goal
 
 pub hash_key-requires-after_bounds : goal.hash_key-requires-after_bounds

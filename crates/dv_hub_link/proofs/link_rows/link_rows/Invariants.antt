@@ -1,4 +1,4 @@
-use Rattle.dv_hub_link.proofs.Vocabulary.{◌≡◌, map, take, hashes_of, link_row, told}
+use Rattle.dv_hub_link.proofs.Vocabulary.{hashes_of, link_row, map, take, told, ◌≡◌}
 use Rattle.dv_hub_link.proofs.link_rows.link_rows.Given as goal
 
 abbrev pub invariant-loop-list : goal.invariant-loop-list

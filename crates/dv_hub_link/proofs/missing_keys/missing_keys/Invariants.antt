@@ -1,4 +1,4 @@
-use Rattle.dv_hub_link.proofs.Vocabulary.{◌≡◌, map, take, missing_key}
+use Rattle.dv_hub_link.proofs.Vocabulary.{map, missing_key, take, ◌≡◌}
 use Rattle.dv_hub_link.proofs.missing_keys.missing_keys.Given as goal
 
 abbrev pub invariant-loop-hub : goal.invariant-loop-hub

@@ -1,4 +1,4 @@
-use Rattle.dv_hub_link.proofs.Vocabulary.{◌≡◌, inl, inr, [], ◌++◌, sym, ◌∙◌, ap, append-nil, map, zip, key_under}
+use Rattle.dv_hub_link.proofs.Vocabulary.{[], ap, append-nil, inl, inr, key_under, map, sym, zip, ◌++◌, ◌∙◌, ◌≡◌}
 use Rattle.dv_hub_link.proofs.Keys.{zip_ended}
 use Rattle.dv_hub_link.proofs.named_keys.keys_under.Goals as goal
 

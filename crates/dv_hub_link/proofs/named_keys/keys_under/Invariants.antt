@@ -1,4 +1,4 @@
-use Rattle.dv_hub_link.proofs.Vocabulary.{◌≡◌, ◌++◌, keys_under}
+use Rattle.dv_hub_link.proofs.Vocabulary.{keys_under, ◌++◌, ◌≡◌}
 use Rattle.dv_hub_link.proofs.named_keys.keys_under.Given as goal
 
 abbrev pub invariant-loop-hub : goal.invariant-loop-hub

@@ -1,4 +1,4 @@
-use Rattle.dv_hub_link.proofs.Vocabulary.{length, sym, ◌∙◌, zip, length-zip, key_under}
+use Rattle.dv_hub_link.proofs.Vocabulary.{key_under, length, length-zip, sym, zip, ◌∙◌}
 use Rattle.dv_hub_link.proofs.Keys.{each_same, not_as_many, not_equal}
 use Rattle.dv_hub_link.proofs.named_keys.stand_for.Goals as goal
 

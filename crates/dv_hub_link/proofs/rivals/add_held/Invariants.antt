@@ -1,4 +1,4 @@
-use Rattle.dv_hub_link.proofs.Vocabulary.{◌≡◌, ◌++◌, take, filter_map, held_rival, told}
+use Rattle.dv_hub_link.proofs.Vocabulary.{filter_map, held_rival, take, told, ◌++◌, ◌≡◌}
 use Rattle.dv_hub_link.proofs.rivals.add_held.Given as goal
 
 abbrev pub invariant-loop-list : goal.invariant-loop-list

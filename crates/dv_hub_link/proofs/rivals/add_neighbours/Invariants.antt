@@ -1,4 +1,4 @@
-use Rattle.dv_hub_link.proofs.Vocabulary.{◌≡◌, ◌∷◌, ◌++◌, drop, map, all_neighbours, told}
+use Rattle.dv_hub_link.proofs.Vocabulary.{all_neighbours, drop, map, told, ◌++◌, ◌∷◌, ◌≡◌}
 use Rattle.dv_hub_link.proofs.rivals.add_neighbours.Given as goal
 
 abbrev pub invariant-loop-next : goal.invariant-loop-next

@@ -1,4 +1,4 @@
-use Rattle.dv_hub_link.proofs.Vocabulary.{List, ◌++◌, ◌∙◌, ap, sym, filter_map, map, Rivals, all_neighbours, held_rival, told}
+use Rattle.dv_hub_link.proofs.Vocabulary.{List, Rivals, all_neighbours, ap, filter_map, held_rival, map, sym, told, ◌++◌, ◌∙◌}
 use Rattle.dv_hub_link.proofs.Clashes.{filter_map-map}
 use Rattle.dv_hub_link.proofs.rivals.all_rivals.Goals as goal
 

@@ -1,4 +1,4 @@
-use Rattle.dv_hub_link.proofs.Vocabulary.{◌≡◌, ◌∷◌, drop, map, has_clash, told}
+use Rattle.dv_hub_link.proofs.Vocabulary.{drop, has_clash, map, told, ◌∷◌, ◌≡◌}
 use Rattle.dv_hub_link.proofs.rivals.has_clash.Given as goal
 
 abbrev pub invariant-loop-next : goal.invariant-loop-next

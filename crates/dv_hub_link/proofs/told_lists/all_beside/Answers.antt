@@ -1,4 +1,4 @@
-use Rattle.dv_hub_link.proofs.Vocabulary.{◌≡◌, inl, inr, [], ◌++◌, sym, ◌∙◌, ap, append-nil, map, option_map, zip, beside}
+use Rattle.dv_hub_link.proofs.Vocabulary.{[], ap, append-nil, beside, inl, inr, map, option_map, sym, zip, ◌++◌, ◌∙◌, ◌≡◌}
 use Rattle.dv_hub_link.proofs.Keys.{zip_ended}
 use Rattle.dv_hub_link.proofs.told_lists.all_beside.Goals as goal
 

@@ -1,4 +1,4 @@
-use Rattle.dv_hub_link.proofs.Vocabulary.{◌≡◌, ◌++◌, map, option_map, zip, beside}
+use Rattle.dv_hub_link.proofs.Vocabulary.{beside, map, option_map, zip, ◌++◌, ◌≡◌}
 use Rattle.dv_hub_link.proofs.told_lists.all_beside.Given as goal
 
 -- those so far and those behind them are all

@@ -1,4 +1,4 @@
-use Rattle.dv_hub_link.proofs.Vocabulary.{◌≡◌, map, take}
+use Rattle.dv_hub_link.proofs.Vocabulary.{map, take, ◌≡◌}
 use Rattle.dv_hub_link.proofs.told_lists.digests_of.Given as goal
 
 abbrev pub invariant-loop-list : goal.invariant-loop-list

@@ -1,4 +1,4 @@
-use Rattle.dv_hub_link_tests.proofs.Vocabulary.{List, Key, [], ◌∷◌, ◌++◌, ◌∙◌, ap, sym, subst, hashes_of, AreHashed, delivered}
+use Rattle.dv_hub_link_tests.proofs.Vocabulary.{AreHashed, Key, List, [], ap, delivered, hashes_of, subst, sym, ◌++◌, ◌∙◌, ◌∷◌}
 use Rattle.dv_hub_link_tests.proofs.Hashing.{delivered_more, hashed_more}
 use Rattle.dv_hub_link_tests.proofs.deliveries.add_hashed.Goals as goal
 

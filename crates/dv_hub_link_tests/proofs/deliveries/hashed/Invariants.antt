@@ -1,4 +1,4 @@
-use Rattle.dv_hub_link_tests.proofs.Vocabulary.{◌≡◌, take, hashes_of, AreHashed, delivered}
+use Rattle.dv_hub_link_tests.proofs.Vocabulary.{AreHashed, delivered, hashes_of, take, ◌≡◌}
 use Rattle.dv_hub_link_tests.proofs.deliveries.hashed.Given as goal
 
 abbrev pub invariant-loop-delivery : goal.invariant-loop-delivery

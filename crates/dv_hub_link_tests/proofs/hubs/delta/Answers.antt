@@ -1,4 +1,4 @@
-use Rattle.dv_hub_link_tests.proofs.Vocabulary.{◌≡◌, true, nat_le, sym, subst, ◌∙◌, list_all, delivered, hub_items}
+use Rattle.dv_hub_link_tests.proofs.Vocabulary.{delivered, hub_items, list_all, nat_le, subst, sym, true, ◌∙◌, ◌≡◌}
 use Rattle.dv_hub_link_tests.proofs.hubs.delta.Goals as goal
 
 pub delta-requires-clause-dated : goal.delta-requires-clause-dated

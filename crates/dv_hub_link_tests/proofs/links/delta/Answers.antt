@@ -1,4 +1,4 @@
-use Rattle.dv_hub_link_tests.proofs.Vocabulary.{◌≡◌, true, nat_le, sym, subst, ◌∙◌, list_all, delivered, link_items}
+use Rattle.dv_hub_link_tests.proofs.Vocabulary.{delivered, link_items, list_all, nat_le, subst, sym, true, ◌∙◌, ◌≡◌}
 use Rattle.dv_hub_link_tests.proofs.links.delta.Goals as goal
 
 pub delta-requires-clause-dated : goal.delta-requires-clause-dated

@@ -1,5 +1,4 @@
-use Rattle.dv_records.proofs.EffectTies.{effect_tied}
-use Rattle.dv_laws.proofs.Vocabulary.{hub_tied, link_tied, multi_tied, sat_tied, status_tied}
+use Rattle.dv_laws.proofs.Vocabulary.{effect_tied, hub_tied, link_tied, multi_tied, sat_tied, status_tied}
 use Rattle.dv_laws.proofs.batches.batches_tied.Goals as goal
 
 pub returns : goal.returns

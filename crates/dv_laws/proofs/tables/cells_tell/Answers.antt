@@ -1,4 +1,4 @@
-use Rattle.dv_pit.proofs.CellLoads.{multi_cells, sat_cells}
+use Rattle.dv_laws.proofs.Vocabulary.{multi_cells, sat_cells}
 use Rattle.dv_laws.proofs.tables.cells_tell.Goals as goal
 
 pub returns : goal.returns

@@ -1,4 +1,4 @@
-use Rattle.dv_pit.proofs.PitTells.{pit_tells}
+use Rattle.dv_laws.proofs.Vocabulary.{pit_tells}
 use Rattle.dv_laws.proofs.tables.pits_tell.Goals as goal
 
 pub returns : goal.returns

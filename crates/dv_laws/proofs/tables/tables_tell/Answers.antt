@@ -1,6 +1,5 @@
+use Rattle.dv_laws.proofs.Vocabulary.{delivered_tells, multi_tells, sat_tells, status_tells}
 use Rattle.dv_laws.proofs.HubReconstruct.{keys_tell}
-use Rattle.dv_records.proofs.MultiReconstruct.{multi_tells}
-use Rattle.dv_laws.proofs.Vocabulary.{sat_tells, delivered_tells, status_tells}
 use Rattle.dv_laws.proofs.tables.tables_tell.Goals as goal
 
 pub returns : goal.returns

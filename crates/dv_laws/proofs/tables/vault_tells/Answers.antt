@@ -1,6 +1,4 @@
-use Rattle.dv_records.proofs.MultiReadBack.{multi_feed_tells, vault_tells as all_tell}
-use Rattle.dv_records.proofs.PeriodReadBack.{periods_tell}
-use Rattle.dv_laws.proofs.Vocabulary.{feed_tells}
+use Rattle.dv_laws.proofs.Vocabulary.{all_tell, feed_tells, multi_feed_tells, periods_tell}
 use Rattle.dv_laws.proofs.tables.vault_tells.Goals as goal
 
 pub returns : goal.returns

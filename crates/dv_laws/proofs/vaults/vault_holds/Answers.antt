@@ -1,4 +1,4 @@
-use Rattle.dv_laws.proofs.Vocabulary.{vault_holds as the_law}
+use Rattle.dv_laws.proofs.Vocabulary.{the_law}
 use Rattle.dv_laws.proofs.vaults.vault_holds.Goals as goal
 
 pub returns : goal.returns

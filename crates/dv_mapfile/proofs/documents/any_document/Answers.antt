@@ -1,4 +1,4 @@
-use Rattle.dv_mapfile.proofs.Vocabulary.{◌≡◌, ◌∙◌, ℕ, Bool, true, false, List, Some, None, refl, sym, false≢true, is_utf8-from_IsUtf8, IsUtf8-from_is_utf8, is_utf8, IsUtf8, Members, parse_document, document_of}
+use Rattle.dv_mapfile.proofs.Vocabulary.{Bool, IsUtf8, IsUtf8-from_is_utf8, List, Members, None, Some, document_of, false, false≢true, is_utf8, is_utf8-from_IsUtf8, parse_document, refl, sym, true, ℕ, ◌∙◌, ◌≡◌}
 use Rattle.dv_mapfile.proofs.documents.any_document.Goals as goal
 
 read : (bytes : List ℕ) (document : Members) → IsUtf8 bytes → parse_document bytes ≡ Some document → document_of bytes ≡ Some document

@@ -1,4 +1,4 @@
-use Rattle.dv_mapfile.proofs.Vocabulary.{◌∙◌, sym}
+use Rattle.dv_mapfile.proofs.Vocabulary.{sym, ◌∙◌}
 use Rattle.dv_mapfile.proofs.Keys.{first_unknown-known, first_unknown-other, unknown_key-start}
 use Rattle.dv_mapfile.proofs.fields.unknown_key.Goals as goal
 

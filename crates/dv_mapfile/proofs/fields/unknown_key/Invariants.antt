@@ -1,6 +1,6 @@
-use Rattle.dv_mapfile.proofs.Vocabulary.{◌≡◌, map, members_view}
-use Rattle.dv_catalog.specs.Shapes as shape
+use Rattle.dv_mapfile.proofs.Vocabulary.{map, members_view, ◌≡◌}
 use Rattle.dv_mapfile.proofs.Keys.{first_unknown}
+use Rattle.dv_catalog.specs.Shapes as shape
 use Rattle.dv_mapfile.proofs.fields.unknown_key.Given as goal
 
 -- the first unknown key is among those left

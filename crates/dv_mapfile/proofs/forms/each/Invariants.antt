@@ -1,4 +1,4 @@
-use Rattle.dv_mapfile.proofs.Vocabulary.{◌≡◌, ◌++◌, drop, option_map, items_view}
+use Rattle.dv_mapfile.proofs.Vocabulary.{drop, items_view, option_map, ◌++◌, ◌≡◌}
 use Rattle.dv_catalog.specs.Forms as spec
 use Rattle.dv_mapfile.proofs.forms.each.Given as goal
 

@@ -1,4 +1,4 @@
-use Rattle.dv_mapfile.proofs.Vocabulary.{◌≡◌, ◌+◌, ◌++◌, drop, map, Ok, table_view, ◌>>=◌}
+use Rattle.dv_mapfile.proofs.Vocabulary.{Ok, drop, map, table_view, ◌++◌, ◌+◌, ◌>>=◌, ◌≡◌}
 use Rattle.dv_catalog.specs.Shapes as shape
 use Rattle.dv_mapfile.proofs.shapes.read_entries.Given as goal
 

@@ -1,4 +1,4 @@
-use Rattle.dv_mapfile.proofs.Vocabulary.{◌≡◌, ◌++◌, drop, map, option_map, as_table, items_view, table_view}
+use Rattle.dv_mapfile.proofs.Vocabulary.{as_table, drop, items_view, map, option_map, table_view, ◌++◌, ◌≡◌}
 use Rattle.dv_catalog.specs.Forms as spec
 use Rattle.dv_mapfile.proofs.tops.as_tables.Given as goal
 

@@ -1,4 +1,4 @@
-use Rattle.dv_outside.proofs.Vocabulary.{take, drop, sym, ◌∙◌, ap, arith, take-add, take-append-drop, err_from_is_err_and, after}
+use Rattle.dv_outside.proofs.Vocabulary.{after, ap, arith, drop, err_from_is_err_and, sym, take, take-add, take-append-drop, ◌∙◌}
 use Rattle.dv_outside.proofs.Told.{after-after, tail_slice}
 use Rattle.dv_outside.proofs.lines.write_all.Goals as goal
 

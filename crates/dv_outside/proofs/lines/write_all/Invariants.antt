@@ -1,4 +1,4 @@
-use Rattle.dv_outside.proofs.Vocabulary.{length, ◌-◌, ◌≡◌, ◌≤◌, take, after}
+use Rattle.dv_outside.proofs.Vocabulary.{after, length, take, ◌-◌, ◌≡◌, ◌≤◌}
 use Rattle.dv_outside.proofs.lines.write_all.Given as goal
 
 abbrev pub invariant-loop-at : goal.invariant-loop-at

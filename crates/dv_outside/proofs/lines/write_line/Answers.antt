@@ -1,4 +1,4 @@
-use Rattle.dv_outside.proofs.Vocabulary.{◌++◌, [], ◌∷◌, ◌∙◌, ap, err_from_is_err_and, after}
+use Rattle.dv_outside.proofs.Vocabulary.{[], after, ap, err_from_is_err_and, ◌++◌, ◌∙◌, ◌∷◌}
 use Rattle.dv_outside.proofs.Told.{after-after, got_behind}
 use Rattle.dv_outside.proofs.lines.write_line.Goals as goal
 

@@ -1,4 +1,4 @@
-use Rattle.dv_outside.proofs.Vocabulary.{◌≡◌, drop, file_at}
+use Rattle.dv_outside.proofs.Vocabulary.{drop, file_at, ◌≡◌}
 use Rattle.dv_outside.proofs.memory_folders.find.Given as goal
 
 -- the name is that of no file before

@@ -1,4 +1,4 @@
-use Rattle.dv_records.proofs.Vocabulary.{◌∙◌, sym, ap, arith, slice_set, position, none_placed, placed_within}
+use Rattle.dv_records.proofs.Vocabulary.{ap, arith, none_placed, placed_within, position, slice_set, sym, ◌∙◌}
 use Rattle.dv_records.proofs.AppendedTables.{appended_to-none, grows, is_its}
 use Rattle.dv_records.proofs.appends.append_entry.Goals as goal
 

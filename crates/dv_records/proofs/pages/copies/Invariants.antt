@@ -1,4 +1,4 @@
-use Rattle.dv_records.proofs.Vocabulary.{◌≡◌, take}
+use Rattle.dv_records.proofs.Vocabulary.{take, ◌≡◌}
 use Rattle.dv_records.proofs.pages.copies.Given as goal
 
 -- the copies so far are the first items

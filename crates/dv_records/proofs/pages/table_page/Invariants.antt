@@ -1,4 +1,4 @@
-use Rattle.dv_records.proofs.Vocabulary.{◌≡◌, drop, rows_in}
+use Rattle.dv_records.proofs.Vocabulary.{drop, rows_in, ◌≡◌}
 use Rattle.dv_records.proofs.pages.table_page.Given as goal
 
 -- no entry before is the table's

@@ -1,8 +1,4 @@
-use Rattle.dv_records.proofs.Vocabulary.{◌∙◌, refl, rules}
-use Rattle.std.proofs.lemmas.Fn.{always_returns_same, dedup_same}
-use Rattle.std.proofs.lemmas.List.MinMax.{ranks_by}
-use Rattle.std.specs.Ordering.{is_eq, is_lt}
-use Rattle.dv_text.proofs.StableSorts.{firsts-sort_dedup}
+use Rattle.dv_records.proofs.Vocabulary.{always_returns_same, dedup_same, firsts-sort_dedup, is_eq, is_lt, ranks_by, refl, rules, ◌∙◌}
 use Rattle.dv_records.proofs.sorting.sorted_firsts.Goals as goal
 
 pub returns : goal.returns

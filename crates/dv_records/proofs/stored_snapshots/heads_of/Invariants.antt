@@ -1,6 +1,4 @@
-use Rattle.dv_records.proofs.Vocabulary.{◌≡◌, take}
-use Rattle.std.specs.Prelude.{map}
-use Rattle.dv_records.specs.declared.snapshots.Snap.{Snap}
+use Rattle.dv_records.proofs.Vocabulary.{Snap, map, take, ◌≡◌}
 use Rattle.dv_records.proofs.stored_snapshots.heads_of.Given as goal
 
 -- the heads of the snapshots so far

@@ -1,9 +1,4 @@
-use Rattle.dv_records.proofs.Vocabulary.{◌==◌, ◌∙◌, and_parts, list_any, nat_le, not, not-true}
-use Rattle.std.proofs.Common.{ap}
-use Rattle.std.specs.List.{insert}
-use Rattle.dv_catalog.proofs.PlaceSteps.{place_or_len}
-use Rattle.dv_records.specs.declared.snapshots.Snap.{Snap}
-use Rattle.dv_records.specs.Stores.{are_snap_tables_apart}
+use Rattle.dv_records.proofs.Vocabulary.{Snap, and_parts, ap, are_snap_tables_apart, insert, list_any, nat_le, not, not-true, place_or_len, ◌==◌, ◌∙◌}
 use Rattle.dv_records.proofs.SnapshotOrder.{in_place}
 use Rattle.dv_records.proofs.stored_snapshots.put.Goals as goal
 

@@ -1,5 +1,4 @@
-use Rattle.dv_records.proofs.Vocabulary.{◌≡◌, drop}
-use Rattle.dv_records.specs.Stores.{snapshot_rows}
+use Rattle.dv_records.proofs.Vocabulary.{drop, snapshot_rows, ◌≡◌}
 use Rattle.dv_records.proofs.stored_snapshots.snapshot_page.Given as goal
 
 -- no snapshot before is of the date

@@ -1,5 +1,4 @@
-use Rattle.dv_records.proofs.Vocabulary.{◌≡◌, drop}
-use Rattle.dv_records.specs.Stores.{rows_of_snap}
+use Rattle.dv_records.proofs.Vocabulary.{drop, rows_of_snap, ◌≡◌}
 use Rattle.dv_records.proofs.stored_snapshots.table_page.Given as goal
 
 -- no entry before is the table's

@@ -1,4 +1,4 @@
-use Rattle.dv_records.proofs.Vocabulary.{◌==◌, ◌∙◌, Bool, sym, ap, arith, is_some, position, is_placed, placed_within, Fail}
+use Rattle.dv_records.proofs.Vocabulary.{Bool, Fail, ap, arith, is_placed, is_some, placed_within, position, sym, ◌==◌, ◌∙◌}
 use Rattle.dv_records.proofs.Plans.{first_removed}
 use Rattle.dv_records.proofs.turns.use_up.Goals as goal
 

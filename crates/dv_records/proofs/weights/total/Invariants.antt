@@ -1,4 +1,4 @@
-use Rattle.dv_records.proofs.Vocabulary.{◌≡◌, ◌-◌, ◌^◌, min, take, sum_by}
+use Rattle.dv_records.proofs.Vocabulary.{min, sum_by, take, ◌-◌, ◌^◌, ◌≡◌}
 use Rattle.dv_records.proofs.weights.total.Given as goal
 
 abbrev pub invariant-loop-item : goal.invariant-loop-item

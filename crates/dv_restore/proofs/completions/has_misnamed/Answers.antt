@@ -1,4 +1,4 @@
-use Rattle.dv_vault.proofs.Vocabulary.{arith, entry_of, length-map}
+use Rattle.dv_restore.proofs.Vocabulary.{arith, entry_of, length-map}
 use Rattle.dv_restore.proofs.Misnamed.{all_so_far, misnamed_there, none_so_far, one_more}
 use Rattle.dv_restore.proofs.completions.has_misnamed.Goals as goal
 

@@ -1,5 +1,4 @@
-use Rattle.dv_vault.proofs.Vocabulary.{entry_of, map, take}
-use Rattle.dv_restore.specs.Begins.{AreNamed}
+use Rattle.dv_restore.proofs.Vocabulary.{AreNamed, entry_of, map, take}
 use Rattle.dv_restore.proofs.completions.has_misnamed.Given as goal
 
 -- no other key stands there in the tables so far

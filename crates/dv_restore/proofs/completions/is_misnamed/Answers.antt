@@ -1,5 +1,4 @@
-use Rattle.std.proofs.Common.{Bor}
-use Rattle.dv_vault.proofs.Vocabulary.{Key, ap, option_map, sym, ◌∙◌}
+use Rattle.dv_restore.proofs.Vocabulary.{Bor, Key, ap, option_map, sym, ◌∙◌}
 use Rattle.dv_restore.proofs.Misnamed.{other_misnamed, same_named}
 use Rattle.dv_restore.proofs.completions.is_misnamed.Goals as goal
 

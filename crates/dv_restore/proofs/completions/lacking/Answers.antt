@@ -1,13 +1,5 @@
-use Rattle.dv_vault.proofs.Vocabulary.{added_to, ap, entries_of, entry_of, full_at, hashes_of, hub_names, length, map, rows_weight, subst, sum_by, weight_with, ◌+◌, ◌∙◌, ◌≡◌, sym}
-use Rattle.dv_records.specs.declared.stores.TableRows.{TableRows}
-use Rattle.dv_text.specs.declared.rows.WindowHead.{WindowHead}
-use Rattle.std.specs.Prelude.{List, ℕ, replicate}
-use Rattle.dv_store_rules.specs.FormRules.{zero_key}
-use Rattle.dv_restore.specs.Begins.{AreNamed, HasMisnamed}
-use Rattle.dv_restore.specs.Sealed.{vault_of}
-use Rattle.dv_restore.proofs.Collided.{no_place, room_left}
-use Rattle.dv_restore.proofs.Misnamed.{all_named, never_misnamed}
-use Rattle.dv_restore.proofs.ToldDamages.{told_damage}
+use Rattle.dv_restore.proofs.Vocabulary.{AreNamed, HasMisnamed, List, TableRows, WindowHead, added_to, ap, entries_of, entry_of, full_at, hashes_of, hub_names, length, map, replicate, rows_weight, subst, sum_by, sym, vault_of, weight_with, zero_key, ℕ, ◌+◌, ◌∙◌, ◌≡◌}
+use Rattle.dv_restore.proofs.{Collided.no_place, Collided.room_left, Misnamed.all_named, Misnamed.never_misnamed, ToldDamages.told_damage}
 use Rattle.dv_restore.proofs.completions.lacking.Goals as goal
 
 pub returns-in-Err-Collision-clause-damaged : goal.returns-in-Err-Collision-clause-damaged

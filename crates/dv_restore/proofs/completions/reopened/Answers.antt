@@ -1,12 +1,6 @@
-use Rattle.dv_vault.proofs.Vocabulary.{FollowAll, IsVaultOf, List, TableRows, and_parts, entry_of, hashes_of, is_window, map, opened_in, rest_in, row_count, subst, sum_by, sym, true, ◌+◌, ◌∙◌, ◌≡◌}
-use Rattle.dv_store_rules.specs.StoredHeads.{is_later}
-use Rattle.dv_restore.specs.Parts.{are_loaded}
-use Rattle.dv_restore.specs.declared.faults.StoreFault.TheVariants.{Damaged}
-use Rattle.dv_restore.proofs.Completing.{kinds_of}
-use Rattle.dv_restore.proofs.HeadsHeld.{ends_last, heads_fed}
-use Rattle.dv_restore.proofs.KeptTables.{dated, not_late, rows_kept, same_tables, sealed_loaded}
-use Rattle.dv_restore.proofs.Reopening.{begun_of, fits, rows_are_there, vault_is}
-use Rattle.dv_restore.proofs.ToldDamages.{error_through}
+use Rattle.dv_restore.proofs.Vocabulary.{Damaged, FollowAll, IsVaultOf, List, TableRows, and_parts, are_loaded, entry_of, hashes_of, is_later, is_window, map, opened_in, rest_in, row_count, subst, sum_by, sym, true, ◌+◌, ◌∙◌, ◌≡◌}
+use Rattle.dv_restore.proofs.{Completing.kinds_of, HeadsHeld.ends_last, HeadsHeld.heads_fed, KeptTables.dated, KeptTables.not_late, KeptTables.rows_kept, KeptTables.same_tables, KeptTables.sealed_loaded, Reopening.begun_of, Reopening.fits, Reopening.rows_are_there, Reopening.vault_is}
+use Rattle.dv_restore.proofs.{ToldDamages.error_through}
 use Rattle.dv_restore.proofs.completions.reopened.Goals as goal
 
 pub lacking-requires-clause-dated : goal.lacking-requires-clause-dated

@@ -1,13 +1,5 @@
-use Rattle.dv_vault.proofs.Vocabulary.{List, None, Some, [], append-nil, ap, entry_of, hashes_of, head_of, map, subst, sym, true, ◌++◌, ◌∙◌, ◌≡◌}
-use Rattle.dv_text.proofs.Vocabulary.{option_to_list}
-use Rattle.dv_text.specs.declared.rows.WindowHead.{WindowHead}
-use Rattle.dv_restore.specs.Parts.{are_loaded}
-use Rattle.dv_restore.specs.Sealed.{sealed_entry}
-use Rattle.dv_restore.proofs.Completing.{kinds_of}
-use Rattle.dv_restore.proofs.HeadsHeld.{ends_last, heads_fed}
-use Rattle.dv_restore.proofs.KeptTables.{rows_kept}
-use Rattle.dv_restore.proofs.RowLoads.{loaded_by, no_zero_links}
-use Rattle.dv_restore.proofs.Reopening.{all_sealed}
+use Rattle.dv_restore.proofs.Vocabulary.{List, None, Some, WindowHead, [], ap, append-nil, are_loaded, entry_of, hashes_of, head_of, map, option_to_list, sealed_entry, subst, sym, true, ◌++◌, ◌∙◌, ◌≡◌}
+use Rattle.dv_restore.proofs.{Completing.kinds_of, HeadsHeld.ends_last, HeadsHeld.heads_fed, KeptTables.rows_kept, RowLoads.loaded_by, RowLoads.no_zero_links, Reopening.all_sealed}
 use Rattle.dv_restore.proofs.completions.restored.Goals as goal
 
 pub reopened-requires-clause-loaded : goal.reopened-requires-clause-loaded

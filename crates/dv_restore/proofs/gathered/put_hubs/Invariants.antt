@@ -1,6 +1,4 @@
-use Rattle.std.proofs.Common.{◌≡◌, ◌++◌, length, map}
-use Rattle.dv_vault.specs.Vaults.{entry_of}
-use Rattle.dv_restore.specs.Readings.{hub_entries}
+use Rattle.dv_restore.proofs.Vocabulary.{entry_of, hub_entries, length, map, ◌++◌, ◌≡◌}
 use Rattle.dv_restore.proofs.gathered.put_hubs.Given as goal
 
 -- the tables so far, each with its place

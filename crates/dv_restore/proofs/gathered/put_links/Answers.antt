@@ -1,5 +1,4 @@
-use Rattle.dv_store_rules.proofs.Vocabulary.{[], ◌∷◌, arith, length-append, map}
-use Rattle.dv_vault.specs.Vaults.{entry_of}
+use Rattle.dv_restore.proofs.Vocabulary.{[], arith, entry_of, length-append, map, ◌∷◌}
 use Rattle.dv_restore.proofs.GatheredEntries.{links_more}
 use Rattle.dv_restore.proofs.gathered.put_links.Goals as goal
 

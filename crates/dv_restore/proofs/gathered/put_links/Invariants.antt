@@ -1,6 +1,4 @@
-use Rattle.std.proofs.Common.{◌≡◌, ◌++◌, length, map}
-use Rattle.dv_vault.specs.Vaults.{entry_of}
-use Rattle.dv_restore.specs.Readings.{link_entries}
+use Rattle.dv_restore.proofs.Vocabulary.{entry_of, length, link_entries, map, ◌++◌, ◌≡◌}
 use Rattle.dv_restore.proofs.gathered.put_links.Given as goal
 
 -- the tables so far, each with its place

@@ -1,5 +1,4 @@
-use Rattle.std.specs.Prelude.{◌≡◌, ◌≤◌, filter, length, take}
-use Rattle.dv_restore.specs.Halves.{is_of_other}
+use Rattle.dv_restore.proofs.Vocabulary.{filter, is_of_other, length, take, ◌≡◌, ◌≤◌}
 use Rattle.dv_restore.proofs.halves.count_others.Given as goal
 
 -- how many they are so far

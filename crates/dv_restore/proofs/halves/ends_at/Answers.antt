@@ -1,4 +1,4 @@
-use Rattle.dv_records.proofs.Vocabulary.{sym, ap, ◌∙◌, ◌==◌}
+use Rattle.dv_restore.proofs.Vocabulary.{ap, sym, ◌==◌, ◌∙◌}
 use Rattle.dv_restore.proofs.RowHalves.{ends_before, ends_nowhere, up_to_rows}
 use Rattle.dv_restore.proofs.halves.ends_at.Goals as goal
 

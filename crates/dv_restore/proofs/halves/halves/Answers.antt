@@ -1,6 +1,4 @@
-use Rattle.dv_records.proofs.Vocabulary.{length, take, drop, ap, arith, ◌≡◌, ◌∙◌}
-use Rattle.std.specs.Prelude.{filter}
-use Rattle.dv_restore.specs.Halves.{is_of_other}
+use Rattle.dv_restore.proofs.Vocabulary.{ap, arith, drop, filter, is_of_other, length, take, ◌∙◌, ◌≡◌}
 use Rattle.dv_restore.proofs.RowHalves.{are_halves, front_within, up_to_rows}
 use Rattle.dv_restore.proofs.halves.halves.Goals as goal
 

@@ -1,4 +1,4 @@
-use Rattle.dv_vault.proofs.Vocabulary.{are_up_to, entry_of, map, subst, sym, true, ◌≡◌}
+use Rattle.dv_restore.proofs.Vocabulary.{are_up_to, entry_of, map, subst, sym, true, ◌≡◌}
 use Rattle.dv_restore.proofs.PartedTables.{first_up_to, none_parted, parted_more}
 use Rattle.dv_restore.proofs.parts.all_parts.Goals as goal
 

@@ -1,5 +1,4 @@
-use Rattle.dv_vault.proofs.Vocabulary.{are_up_to, entry_of, map, true, ◌≡◌}
-use Rattle.dv_restore.specs.Parts.{AreParted}
+use Rattle.dv_restore.proofs.Vocabulary.{AreParted, are_up_to, entry_of, map, true, ◌≡◌}
 use Rattle.dv_restore.proofs.parts.all_parts.Given as goal
 
 -- the tables so far, and those that are left

@@ -1,8 +1,4 @@
-use Rattle.dv_records.proofs.Vocabulary.{arith}
-use Rattle.dv_records.proofs.DatedRows.{in_load_order}
-use Rattle.dv_records.specs.Effects.{effect_cmp}
-use Rattle.dv_track.specs.EffectRows.{effect_order}
-use Rattle.dv_records.specs.EffectPlaces.{effect_place}
+use Rattle.dv_restore.proofs.Vocabulary.{arith, effect_cmp, effect_order, effect_place, in_load_order}
 use Rattle.dv_restore.proofs.RowHalves.{front_sorted}
 use Rattle.dv_restore.proofs.parts.effect_parts.Goals as goal
 

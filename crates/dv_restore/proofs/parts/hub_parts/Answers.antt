@@ -1,7 +1,4 @@
-use Rattle.dv_records.proofs.Vocabulary.{arith}
-use Rattle.dv_records.proofs.Vocabulary.{and_parts, are_in_load_order}
-use Rattle.dv_hub_link.specs.PlacedRows.{are_parents_apart}
-use Rattle.dv_records.specs.HubPlaces.{hub_place}
+use Rattle.dv_restore.proofs.Vocabulary.{and_parts, are_in_load_order, are_parents_apart, arith, hub_place}
 use Rattle.dv_restore.proofs.RowHalves.{front_placed}
 use Rattle.dv_restore.proofs.parts.hub_parts.Goals as goal
 

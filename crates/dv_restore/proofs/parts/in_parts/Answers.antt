@@ -1,4 +1,4 @@
-use Rattle.dv_vault.proofs.Vocabulary.{ap, arith, entry_of, map, rows_weight, sum_by}
+use Rattle.dv_restore.proofs.Vocabulary.{ap, arith, entry_of, map, rows_weight, sum_by}
 use Rattle.dv_restore.proofs.PartedTables.{weights_add_up}
 use Rattle.dv_restore.proofs.parts.in_parts.Goals as goal
 

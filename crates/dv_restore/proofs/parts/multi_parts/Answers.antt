@@ -1,8 +1,4 @@
-use Rattle.dv_records.proofs.Vocabulary.{arith}
-use Rattle.dv_records.proofs.DatedRows.{in_load_order}
-use Rattle.dv_records.specs.Satellites.{multi_cmp}
-use Rattle.dv_sat.specs.MultiRows.{multi_order}
-use Rattle.dv_records.specs.MultiPlaces.{multi_place}
+use Rattle.dv_restore.proofs.Vocabulary.{arith, in_load_order, multi_cmp, multi_order, multi_place}
 use Rattle.dv_restore.proofs.RowHalves.{front_sorted}
 use Rattle.dv_restore.proofs.parts.multi_parts.Goals as goal
 

@@ -1,8 +1,4 @@
-use Rattle.dv_records.proofs.Vocabulary.{arith}
-use Rattle.dv_records.proofs.DatedRows.{in_load_order}
-use Rattle.dv_records.specs.Satellites.{sat_cmp}
-use Rattle.dv_sat.specs.SatRows.{sat_order}
-use Rattle.dv_records.specs.SatPlaces.{sat_place}
+use Rattle.dv_restore.proofs.Vocabulary.{arith, in_load_order, sat_cmp, sat_order, sat_place}
 use Rattle.dv_restore.proofs.RowHalves.{front_sorted}
 use Rattle.dv_restore.proofs.parts.sat_parts.Goals as goal
 

@@ -1,8 +1,4 @@
-use Rattle.dv_records.proofs.Vocabulary.{arith}
-use Rattle.dv_records.proofs.DatedRows.{in_load_order}
-use Rattle.dv_records.specs.Statuses.{status_cmp}
-use Rattle.dv_track.specs.Tracks.{status_order}
-use Rattle.dv_records.specs.StatusPlaces.{status_place}
+use Rattle.dv_restore.proofs.Vocabulary.{arith, in_load_order, status_cmp, status_order, status_place}
 use Rattle.dv_restore.proofs.RowHalves.{front_sorted}
 use Rattle.dv_restore.proofs.parts.status_parts.Goals as goal
 

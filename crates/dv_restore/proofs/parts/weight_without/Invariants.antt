@@ -1,4 +1,4 @@
-use Rattle.dv_vault.proofs.Vocabulary.{rows_weight, sum_by, take, ◌+◌, ◌≡◌}
+use Rattle.dv_restore.proofs.Vocabulary.{rows_weight, sum_by, take, ◌+◌, ◌≡◌}
 use Rattle.dv_restore.proofs.parts.weight_without.Given as goal
 
 abbrev pub invariant-loop-rows : goal.invariant-loop-rows

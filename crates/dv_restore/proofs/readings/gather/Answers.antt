@@ -1,11 +1,5 @@
-use Rattle.dv_store_rules.proofs.Vocabulary.{◌≡◌, ◌∙◌, ◌<◌, Err, Result, ap, arith, err_from_is_err_and, flaw_in, get_or, get_or_default, hashes_of, length, option_map, rows_in, subst, sym, table_name, Mapping}
-use Rattle.dv_catalog.proofs.TablesIn.{table_at}
+use Rattle.dv_restore.proofs.Vocabulary.{Damaged, Err, IsNamed, Mapping, Result, ap, arith, damage_at, entries_in, err_from_is_err_and, flaw_in, get_or, get_or_default, hashes_of, is_table_of, known_first, length, option_map, rows_in, subst, sym, table_at, table_name, ◌<◌, ◌∙◌, ◌≡◌}
 use Rattle.dv_catalog.specs.declared.tables.TableId.TheVariants.{Hub}
-use Rattle.dv_catalog.specs.TableLookups.{is_table_of}
-use Rattle.dv_store_rules.specs.Damages.{damage_at}
-use Rattle.dv_restore.specs.Damages.{IsNamed}
-use Rattle.dv_restore.specs.declared.faults.StoreFault.TheVariants.{Damaged}
-use Rattle.dv_restore.specs.Readings.{entries_in, known_first}
 use Rattle.dv_restore.proofs.GatherSteps.{gathered_damaged, gathered_more}
 use Rattle.dv_restore.proofs.readings.gather.Goals as goal
 

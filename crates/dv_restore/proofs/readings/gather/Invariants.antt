@@ -1,6 +1,4 @@
-use Rattle.std.proofs.Common.{◌≡◌, ◌≤◌, take}
-use Rattle.dv_text.specs.Keys.{hashes_of}
-use Rattle.dv_restore.specs.Readings.{AreGathered, known_first}
+use Rattle.dv_restore.proofs.Vocabulary.{AreGathered, hashes_of, known_first, take, ◌≡◌, ◌≤◌}
 use Rattle.dv_restore.proofs.readings.gather.Given as goal
 
 -- the tables so far

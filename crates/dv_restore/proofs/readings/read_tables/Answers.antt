@@ -1,6 +1,4 @@
-use Rattle.dv_store_rules.proofs.Vocabulary.{[], ap, first_along, hashes_of, sym, tables, ◌∙◌, ◌≡◌}
-use Rattle.dv_store_rules.specs.Damages.{damage_in}
-use Rattle.dv_restore.specs.Readings.{entries_in, known_first}
+use Rattle.dv_restore.proofs.Vocabulary.{[], ap, damage_in, entries_in, first_along, hashes_of, known_first, sym, tables, ◌∙◌, ◌≡◌}
 use Rattle.dv_restore.proofs.ReadSteps.{read_undamaged}
 use Rattle.dv_restore.proofs.readings.read_tables.Goals as goal
 

@@ -1,14 +1,6 @@
-use Rattle.dv_store_rules.proofs.Vocabulary.{Option, Window, ap, hashes_of, inl, map, refl, rules, subst, true, sym, ◌∙◌, ◌≡◌}
-use Rattle.std.specs.Prelude.{IfSome}
-use Rattle.dv_store_rules.proofs.LightSnapshots.{keep_limits}
-use Rattle.dv_store_rules.specs.StoredHeads.{is_stage}
-use Rattle.dv_vault.specs.Vaults.{RawVault, entry_of}
-use Rattle.dv_restore.specs.Completions.{IsBegunAs, rows_there}
-use Rattle.dv_restore.specs.Restored.{are_in_order}
-use Rattle.dv_restore.proofs.HeadsInOrder.{in_order}
-use Rattle.dv_restore.proofs.StandingStores.{keeps_f15, none_broken, of_state}
-use Rattle.dv_restore.proofs.StoreReads.{goes_on, head_first, heads_are, rows_damaged, sealed_is, snapshots_damaged, stage_damaged, staged_is}
-use Rattle.dv_restore.proofs.StoredTables.{rows_read}
+use Rattle.dv_restore.proofs.Vocabulary.{IfSome, IsBegunAs, Option, RawVault, Window, ap, are_in_order, entry_of, hashes_of, inl, is_stage, keep_limits, map, refl, rows_there, rules, subst, sym, true, ◌∙◌, ◌≡◌}
+use Rattle.dv_restore.proofs.{HeadsInOrder.in_order, StandingStores.keeps_f15, StandingStores.none_broken, StandingStores.of_state, StoreReads.goes_on, StoreReads.head_first, StoreReads.heads_are, StoreReads.rows_damaged, StoreReads.sealed_is, StoreReads.snapshots_damaged}
+use Rattle.dv_restore.proofs.{StoreReads.stage_damaged, StoreReads.staged_is, StoredTables.rows_read}
 use Rattle.dv_restore.proofs.stores.read_store.Goals as goal
 
 pub returns-in_err-heads-clause-undamaged : goal.returns-in_err-heads-clause-undamaged

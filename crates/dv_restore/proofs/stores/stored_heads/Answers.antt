@@ -1,5 +1,4 @@
-use Rattle.dv_store_rules.proofs.Vocabulary.{subst, sym, ◌∙◌, ◌≡◌}
-use Rattle.dv_restore.specs.Damages.{IsNamed}
+use Rattle.dv_restore.proofs.Vocabulary.{IsNamed, subst, sym, ◌∙◌, ◌≡◌}
 use Rattle.dv_restore.proofs.NamedDamages.{windows_named}
 use Rattle.dv_restore.proofs.stores.stored_heads.Goals as goal
 

@@ -1,5 +1,4 @@
-use Rattle.dv_restore.proofs.NamedDamages.{table_named}
-use Rattle.dv_restore.proofs.TableReads.{damage_told, rows_told}
+use Rattle.dv_restore.proofs.{NamedDamages.table_named, TableReads.damage_told, TableReads.rows_told}
 use Rattle.dv_restore.proofs.table_reads.read_table.Goals as goal
 
 pub returns-clause-told : goal.returns-clause-told

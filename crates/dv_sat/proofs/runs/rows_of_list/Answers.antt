@@ -1,9 +1,5 @@
-use Rattle.dv_sat.proofs.Vocabulary.{◌≡◌, true, not, Equal, is_lt, NRow, refs_eq-Decides, refs_exact, tied_itself, refs_cmp, refs_total, refs_eq}
+use Rattle.dv_sat.proofs.Vocabulary.{Equal, IsPartitionPoint-from_clause, NRow, is_gt, is_lt, not, refs_cmp, refs_eq, refs_eq-Decides, refs_exact, refs_total, rules, take_rest, tied_itself, true, ◌≡◌}
 use Rattle.dv_sat.proofs.Together.{alike_tied, before_first, behind_last, not_less, parted_rest, run_is, sorted_by_key, unlike_greater, unlike_less}
-use Rattle.std.proofs.Common.{rules}
-use Rattle.std.proofs.lemmas.List.{take_rest}
-use Rattle.std.proofs.lemmas.List.Sorted.{IsPartitionPoint-from_clause}
-use Rattle.std.specs.Ordering.{is_gt}
 use Rattle.dv_sat.proofs.runs.rows_of_list.Goals as goal
 
 pub returns : goal.returns

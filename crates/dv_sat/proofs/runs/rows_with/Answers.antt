@@ -1,11 +1,5 @@
-use Rattle.dv_sat.proofs.Vocabulary.{◌==◌, ◌&&◌, not, is_lt, bytes_eq, MultiRow, Place, multi_place}
-use Rattle.dv_sat.proofs.RowPlacing.{place_total, rows_by_place, same_place, tied_place}
-use Rattle.dv_sat.proofs.Together.{alike_tied, before_first, behind_last, parted_rest, run_is, unlike_greater, unlike_less}
-use Rattle.dv_sat.specs.RowPlaces.{place_cmp}
-use Rattle.std.proofs.Common.{rules}
-use Rattle.std.proofs.lemmas.List.{take_rest}
-use Rattle.std.proofs.lemmas.List.Sorted.{IsPartitionPoint-from_clause}
-use Rattle.std.specs.Ordering.{is_gt}
+use Rattle.dv_sat.proofs.Vocabulary.{IsPartitionPoint-from_clause, MultiRow, Place, bytes_eq, is_gt, is_lt, multi_place, not, place_cmp, rules, take_rest, ◌&&◌, ◌==◌}
+use Rattle.dv_sat.proofs.{RowPlacing.place_total, RowPlacing.rows_by_place, RowPlacing.same_place, RowPlacing.tied_place, Together.alike_tied, Together.before_first, Together.behind_last, Together.parted_rest, Together.run_is, Together.unlike_greater, Together.unlike_less}
 use Rattle.dv_sat.proofs.runs.rows_with.Goals as goal
 
 pub returns : goal.returns

@@ -1,4 +1,4 @@
-use Rattle.dv_digest.proofs.Lengths.{attrs_text_fits}
+use Rattle.dv_sat.proofs.Vocabulary.{attrs_text_fits}
 use Rattle.dv_sat.proofs.sat_changes.diff.Goals as goal
 
 pub hash_diff-requires-after_bounds : goal.hash_diff-requires-after_bounds

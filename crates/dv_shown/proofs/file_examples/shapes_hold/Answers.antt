@@ -1,4 +1,4 @@
-use Rattle.dv_shown.proofs.Vocabulary.{digits, chars, is_utf8, toml_on_literals}
+use Rattle.dv_shown.proofs.Vocabulary.{chars, digits, is_utf8, toml_on_literals}
 use Rattle.dv_shown.proofs.file_examples.shapes_hold.Goals as goal
 
 pub returns-clause-entry : goal.returns-clause-entry

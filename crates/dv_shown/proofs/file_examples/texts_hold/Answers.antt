@@ -1,4 +1,4 @@
-use Rattle.dv_shown.proofs.Vocabulary.{refl, chars, is_utf8, toml_on_literals}
+use Rattle.dv_shown.proofs.Vocabulary.{chars, is_utf8, refl, toml_on_literals}
 use Rattle.dv_shown.proofs.ByteLimits.{mapping_document-past, mapping_document-within}
 use Rattle.dv_shown.proofs.file_examples.texts_hold.Goals as goal
 

@@ -1,12 +1,4 @@
-use Rattle.std.proofs.Common.{◌≡◌, refl, sym, subst, arith, rules}
-use Rattle.sqlite.specs.Tree.{Trees}
-use Rattle.sqlite.specs.Values.{bound}
-use Rattle.sqlite.specs.Effect.{Database}
-use Rattle.sqlite.specs.State.{HasCleanDisk, Survives}
-use Rattle.sqlite.specs.Held.{state}
-use Rattle.sqlite.proofs.StateLemmas.{survives_then}
-use Rattle.sqlite.proofs.Callers.{survives_begin}
-use Rattle.dv_sqlite.specs.Changes.{ChangedBoth}
+use Rattle.dv_sqlite.proofs.Vocabulary.{ChangedBoth, Database, HasCleanDisk, Survives, Trees, arith, bound, refl, rules, state, subst, survives_begin, survives_then, sym, ◌≡◌}
 use Rattle.dv_sqlite.proofs.changes.change_both.Goals as goal
 
 pub returns-clause-both : goal.returns-clause-both

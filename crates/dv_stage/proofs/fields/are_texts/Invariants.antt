@@ -1,4 +1,4 @@
-use Rattle.dv_stage.proofs.Vocabulary.{◌≡◌, drop, list_all, is_utf8, fields_of}
+use Rattle.dv_stage.proofs.Vocabulary.{drop, fields_of, is_utf8, list_all, ◌≡◌}
 use Rattle.dv_stage.proofs.fields.are_texts.Given as goal
 
 abbrev pub invariant-loop-place : goal.invariant-loop-place

@@ -1,4 +1,4 @@
-use Rattle.dv_stage.proofs.Vocabulary.{◌≡◌, drop, length, nat_lt, list_any, fields_of, most_field_bytes}
+use Rattle.dv_stage.proofs.Vocabulary.{drop, fields_of, length, list_any, most_field_bytes, nat_lt, ◌≡◌}
 use Rattle.dv_stage.proofs.fields.has_long_field.Given as goal
 
 abbrev pub invariant-loop-place : goal.invariant-loop-place

@@ -1,4 +1,4 @@
-use Rattle.dv_stage.proofs.Vocabulary.{◌∙◌, ℕ, List, length, not, refl, sym, slice_get_read, is_among}
+use Rattle.dv_stage.proofs.Vocabulary.{List, is_among, length, not, refl, slice_get_read, sym, ℕ, ◌∙◌}
 use Rattle.dv_stage.proofs.ColumnFacts.{find-flat_map}
 use Rattle.dv_stage.proofs.headers.first_missing_key.Goals as goal
 

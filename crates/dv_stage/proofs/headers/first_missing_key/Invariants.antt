@@ -1,4 +1,4 @@
-use Rattle.dv_stage.proofs.Vocabulary.{◌≡◌, ℕ, List, drop, not, find, flat_map, is_among}
+use Rattle.dv_stage.proofs.Vocabulary.{List, drop, find, flat_map, is_among, not, ℕ, ◌≡◌}
 use Rattle.dv_stage.proofs.headers.first_missing_key.Given as goal
 
 abbrev pub invariant-loop-columns : goal.invariant-loop-columns

@@ -1,4 +1,4 @@
-use Rattle.dv_stage.proofs.Vocabulary.{◌∙◌, [], ◌∷◌, ◌++◌, length, Some, ap, refl, sym, slice_get_read, not-false, not-true}
+use Rattle.dv_stage.proofs.Vocabulary.{Some, [], ap, length, not-false, not-true, refl, slice_get_read, sym, ◌++◌, ◌∙◌, ◌∷◌}
 use Rattle.dv_stage.proofs.SeenFacts.{again_here, again_more, seen_more}
 use Rattle.dv_stage.proofs.headers.first_twice.Goals as goal
 

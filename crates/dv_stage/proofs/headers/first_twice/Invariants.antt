@@ -1,4 +1,4 @@
-use Rattle.dv_stage.proofs.Vocabulary.{◌≡◌, ℕ, List, drop, bytes_eq, nat_cmp, slice_cmp, contains, again_after, is_among, text_twice}
+use Rattle.dv_stage.proofs.Vocabulary.{List, again_after, bytes_eq, contains, drop, is_among, nat_cmp, slice_cmp, text_twice, ℕ, ◌≡◌}
 use Rattle.dv_stage.proofs.headers.first_twice.Given as goal
 
 -- the set has the names so far

@@ -1,4 +1,4 @@
-use Rattle.dv_stage.proofs.Vocabulary.{◌∷◌, [], refl, take, map-append, fields_of, norm_field, take_got}
+use Rattle.dv_stage.proofs.Vocabulary.{[], fields_of, map-append, norm_field, refl, take, take_got, ◌∷◌}
 use Rattle.dv_stage.proofs.headers.header_names.Goals as goal
 
 pub loop-place-preserved : goal.loop-place-preserved

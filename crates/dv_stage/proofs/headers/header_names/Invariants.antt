@@ -1,4 +1,4 @@
-use Rattle.dv_stage.proofs.Vocabulary.{◌≡◌, map, take, fields_of, norm_field}
+use Rattle.dv_stage.proofs.Vocabulary.{fields_of, map, norm_field, take, ◌≡◌}
 use Rattle.dv_stage.proofs.headers.header_names.Given as goal
 
 abbrev pub invariant-loop-place : goal.invariant-loop-place

@@ -1,4 +1,4 @@
-use Rattle.dv_stage.proofs.Vocabulary.{◌≡◌, map, take, places_of}
+use Rattle.dv_stage.proofs.Vocabulary.{map, places_of, take, ◌≡◌}
 use Rattle.dv_stage.proofs.layouts.key_places.Given as goal
 
 abbrev pub invariant-loop-columns : goal.invariant-loop-columns

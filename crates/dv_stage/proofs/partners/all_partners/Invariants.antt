@@ -1,4 +1,4 @@
-use Rattle.dv_stage.proofs.Vocabulary.{◌≡◌, map, take, partner_of}
+use Rattle.dv_stage.proofs.Vocabulary.{map, partner_of, take, ◌≡◌}
 use Rattle.dv_stage.proofs.partners.all_partners.Given as goal
 
 abbrev pub invariant-loop-row : goal.invariant-loop-row

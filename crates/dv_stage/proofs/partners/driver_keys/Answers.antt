@@ -1,6 +1,6 @@
-use Rattle.dv_stage.proofs.Vocabulary.{◌∙◌, sym, slice_get, append-nil, filter_map_more}
-use Rattle.dv_stage.proofs.partners.driver_keys.Goals as goal
+use Rattle.dv_stage.proofs.Vocabulary.{append-nil, filter_map_more, slice_get, sym, ◌∙◌}
 use Rattle.dv_stage.proofs.partners.driver_keys.Goals.{in-Some+in_ok-copy+in_ok-push, in_default}
+use Rattle.dv_stage.proofs.partners.driver_keys.Goals as goal
 
 pub loop-place-preserved : goal.loop-place-preserved
 loop-place-preserved c =

@@ -1,4 +1,4 @@
-use Rattle.dv_stage.proofs.Vocabulary.{◌≡◌, take, filter_map, slice_get}
+use Rattle.dv_stage.proofs.Vocabulary.{filter_map, slice_get, take, ◌≡◌}
 use Rattle.dv_stage.proofs.partners.driver_keys.Given as goal
 
 abbrev pub invariant-loop-place : goal.invariant-loop-place

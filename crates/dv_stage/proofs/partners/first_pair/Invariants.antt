@@ -1,4 +1,4 @@
-use Rattle.dv_stage.proofs.Vocabulary.{◌≡◌, ◌-◌, drop, first_pair}
+use Rattle.dv_stage.proofs.Vocabulary.{drop, first_pair, ◌-◌, ◌≡◌}
 use Rattle.dv_stage.proofs.partners.first_pair.Given as goal
 
 abbrev pub invariant-loop-i : goal.invariant-loop-i

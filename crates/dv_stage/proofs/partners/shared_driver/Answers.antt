@@ -1,4 +1,4 @@
-use Rattle.dv_stage.proofs.Vocabulary.{◌∙◌, ap, sym, Some}
+use Rattle.dv_stage.proofs.Vocabulary.{Some, ap, sym, ◌∙◌}
 use Rattle.dv_stage.proofs.PartnerFacts.{shared-none, shared-some}
 use Rattle.dv_stage.proofs.partners.shared_driver.Goals as goal
 

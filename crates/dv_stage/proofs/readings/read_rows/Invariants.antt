@@ -1,4 +1,4 @@
-use Rattle.dv_stage.proofs.Vocabulary.{◌≡◌, ◌+◌, ◌≤◌, ◌++◌, [], length, map, true, records_rule, row_of, IsExtractReader, records_left, IsTakenRows}
+use Rattle.dv_stage.proofs.Vocabulary.{IsExtractReader, IsTakenRows, [], length, map, records_left, records_rule, row_of, true, ◌++◌, ◌+◌, ◌≡◌, ◌≤◌}
 use Rattle.dv_stage.proofs.readings.read_rows.Given as goal
 
 -- what the records that are left still say, behind the rows that were taken

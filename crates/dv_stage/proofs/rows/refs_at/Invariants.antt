@@ -1,4 +1,4 @@
-use Rattle.dv_stage.proofs.Vocabulary.{◌≡◌, map, take, fields_of, key_at}
+use Rattle.dv_stage.proofs.Vocabulary.{fields_of, key_at, map, take, ◌≡◌}
 use Rattle.dv_stage.proofs.rows.refs_at.Given as goal
 
 abbrev pub invariant-loop-places : goal.invariant-loop-places

@@ -1,7 +1,6 @@
-use Rattle.dv_stage.proofs.Vocabulary.{◌∙◌, sym, slice_get, append-nil, fields_of, norm_field}
-use Rattle.dv_stage.proofs.RowFacts.{map-filter_map-more}
+use Rattle.dv_stage.proofs.Vocabulary.{append-nil, fields_of, norm_field, slice_get, sym, ◌∙◌}
+use Rattle.dv_stage.proofs.{RowFacts.map-filter_map-more, rows.texts_at.Goals.in-Some+in_ok-text+in_ok-push, rows.texts_at.Goals.in_default}
 use Rattle.dv_stage.proofs.rows.texts_at.Goals as goal
-use Rattle.dv_stage.proofs.rows.texts_at.Goals.{in-Some+in_ok-text+in_ok-push, in_default}
 
 pub loop-place-preserved : goal.loop-place-preserved
 loop-place-preserved c =

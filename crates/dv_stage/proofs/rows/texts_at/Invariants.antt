@@ -1,4 +1,4 @@
-use Rattle.dv_stage.proofs.Vocabulary.{◌≡◌, map, take, fields_of, norm_field, fields_at}
+use Rattle.dv_stage.proofs.Vocabulary.{fields_at, fields_of, map, norm_field, take, ◌≡◌}
 use Rattle.dv_stage.proofs.rows.texts_at.Given as goal
 
 abbrev pub invariant-loop-place : goal.invariant-loop-place

@@ -1,4 +1,4 @@
-use Rattle.dv_stage.proofs.Vocabulary.{◌≡◌, ◌-◌, drop, repeats_name}
+use Rattle.dv_stage.proofs.Vocabulary.{drop, repeats_name, ◌-◌, ◌≡◌}
 use Rattle.dv_stage.proofs.whole.repeats_name.Given as goal
 
 abbrev pub invariant-loop-i : goal.invariant-loop-i

@@ -1,4 +1,4 @@
-use Rattle.dv_stage.proofs.Vocabulary.{◌≡◌, ◌∙◌, arith, length, sym, fields_of, records_left}
+use Rattle.dv_stage.proofs.Vocabulary.{arith, fields_of, length, records_left, sym, ◌∙◌, ◌≡◌}
 use Rattle.dv_stage.proofs.WholeFacts.{whole_read}
 use Rattle.dv_stage.proofs.whole.whole_behind.Goals as goal
 

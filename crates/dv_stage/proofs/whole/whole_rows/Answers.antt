@@ -1,4 +1,4 @@
-use Rattle.dv_stage.proofs.Vocabulary.{◌∙◌, ◌∷◌, [], arith, length-append, fields_of, records_left}
+use Rattle.dv_stage.proofs.Vocabulary.{[], arith, fields_of, length-append, records_left, ◌∙◌, ◌∷◌}
 use Rattle.dv_stage.proofs.WholeFacts.{left_more, rows_more, rule_more}
 use Rattle.dv_stage.proofs.whole.whole_rows.Goals as goal
 

@@ -1,4 +1,4 @@
-use Rattle.dv_stage.proofs.Vocabulary.{◌≡◌, ◌+◌, ◌≤◌, ◌++◌, [], length, map, records_rule, row_of, IsExtractReader, records_left, HasNoRivals}
+use Rattle.dv_stage.proofs.Vocabulary.{HasNoRivals, IsExtractReader, [], length, map, records_left, records_rule, row_of, ◌++◌, ◌+◌, ◌≡◌, ◌≤◌}
 use Rattle.dv_stage.proofs.whole.whole_rows.Given as goal
 
 -- what the records that are left still say, behind the rows that were read

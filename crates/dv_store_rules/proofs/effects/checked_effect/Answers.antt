@@ -1,7 +1,5 @@
 use Rattle.dv_store_rules.proofs.Vocabulary.{err_from_is_err_and, hashes_of, is_under}
-use Rattle.dv_store_rules.proofs.FeedForms.{looks_up}
-use Rattle.dv_store_rules.proofs.FirstFlaws.{first_told, none_flawed}
-use Rattle.dv_store_rules.proofs.EffectForms.{effect_ascends, effect_same}
+use Rattle.dv_store_rules.proofs.{FeedForms.looks_up, FirstFlaws.first_told, FirstFlaws.none_flawed, EffectForms.effect_ascends, EffectForms.effect_same}
 use Rattle.dv_store_rules.proofs.effects.checked_effect.Goals as goal
 
 pub returns-in_err-made-clause-flawed : goal.returns-in_err-made-clause-flawed

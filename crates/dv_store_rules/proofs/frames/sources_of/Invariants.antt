@@ -1,4 +1,4 @@
-use Rattle.dv_store_rules.proofs.Vocabulary.{◌≡◌, Some, map, source_by, take}
+use Rattle.dv_store_rules.proofs.Vocabulary.{Some, map, source_by, take, ◌≡◌}
 use Rattle.dv_store_rules.proofs.frames.sources_of.Given as goal
 
 -- the record sources so far

@@ -1,4 +1,4 @@
-use Rattle.dv_store_rules.proofs.Vocabulary.{◌∙◌, sym}
+use Rattle.dv_store_rules.proofs.Vocabulary.{sym, ◌∙◌}
 use Rattle.dv_store_rules.proofs.Ascending.{ascends_on, ascends_whole}
 use Rattle.dv_store_rules.proofs.heads.ascend.Goals as goal
 

@@ -1,4 +1,4 @@
-use Rattle.dv_store_rules.proofs.Vocabulary.{◌≡◌, ◌-◌, ascends, drop}
+use Rattle.dv_store_rules.proofs.Vocabulary.{ascends, drop, ◌-◌, ◌≡◌}
 use Rattle.dv_store_rules.proofs.heads.ascend.Given as goal
 
 -- the numbers ascend as those from the last one on do

@@ -1,6 +1,5 @@
-use Rattle.dv_store_rules.proofs.Vocabulary.{◌∙◌, Some, ap, length, refl, slice_get-get_or, sym}
+use Rattle.dv_store_rules.proofs.Vocabulary.{Some, ap, head_rule, length, refl, slice_get-get_or, sym, ◌∙◌}
 use Rattle.dv_store_rules.proofs.FirstFlaws.{clear_fewer, clear_more, flaw_is, no_flaw}
-use Rattle.dv_store_rules.specs.StoredHeads.{head_rule}
 use Rattle.dv_store_rules.proofs.heads.head_flaw.Goals as goal
 
 pub returns-then-not-is_head : goal.returns-then-not-is_head

@@ -1,5 +1,4 @@
-use Rattle.dv_store_rules.proofs.Vocabulary.{AreClear}
-use Rattle.dv_store_rules.specs.StoredHeads.{head_rule}
+use Rattle.dv_store_rules.proofs.Vocabulary.{AreClear, head_rule}
 use Rattle.dv_store_rules.proofs.heads.head_flaw.Given as goal
 
 -- no head so far breaks the rule

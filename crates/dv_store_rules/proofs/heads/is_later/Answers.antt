@@ -1,6 +1,5 @@
-use Rattle.dv_store_rules.proofs.Vocabulary.{◌∙◌}
+use Rattle.dv_store_rules.proofs.Vocabulary.{WindowHead, ◌∙◌}
 use Rattle.dv_store_rules.proofs.LastRows.{later_than}
-use Rattle.dv_text.specs.declared.rows.WindowHead.{WindowHead}
 use Rattle.dv_store_rules.proofs.heads.is_later.Goals as goal
 
 pub returns-in-Some : goal.returns-in-Some

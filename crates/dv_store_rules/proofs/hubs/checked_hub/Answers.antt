@@ -1,6 +1,5 @@
 use Rattle.dv_store_rules.proofs.Vocabulary.{err_from_is_err_and, hashes_of}
-use Rattle.dv_store_rules.proofs.FirstFlaws.{first_told, none_flawed}
-use Rattle.dv_store_rules.proofs.HubForms.{hub_same, hub_placed}
+use Rattle.dv_store_rules.proofs.{FirstFlaws.first_told, FirstFlaws.none_flawed, HubForms.hub_same, HubForms.hub_placed}
 use Rattle.dv_store_rules.proofs.hubs.checked_hub.Goals as goal
 
 pub returns-in_err-made-clause-flawed : goal.returns-in_err-made-clause-flawed

@@ -1,4 +1,4 @@
-use Rattle.dv_store_rules.proofs.Vocabulary.{◌≡◌, ℕ, has_number, is_delivered, take}
+use Rattle.dv_store_rules.proofs.Vocabulary.{has_number, is_delivered, take, ℕ, ◌≡◌}
 use Rattle.dv_store_rules.proofs.loads.dates_with.Given as goal
 
 -- the load dates so far

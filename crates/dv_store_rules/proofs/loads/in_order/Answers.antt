@@ -1,4 +1,4 @@
-use Rattle.dv_store_rules.proofs.Vocabulary.{◌==◌, list_any-IsPermutation, sym}
+use Rattle.dv_store_rules.proofs.Vocabulary.{list_any-IsPermutation, sym, ◌==◌}
 use Rattle.dv_store_rules.proofs.loads.in_order.Goals as goal
 
 pub returns : goal.returns

@@ -1,7 +1,5 @@
 use Rattle.dv_store_rules.proofs.Vocabulary.{err_from_is_err_and, hashes_of, is_under}
-use Rattle.dv_store_rules.proofs.FeedForms.{looks_up}
-use Rattle.dv_store_rules.proofs.FirstFlaws.{first_told, none_flawed}
-use Rattle.dv_store_rules.proofs.MultiForms.{multi_ascends, multi_same}
+use Rattle.dv_store_rules.proofs.{FeedForms.looks_up, FirstFlaws.first_told, FirstFlaws.none_flawed, MultiForms.multi_ascends, MultiForms.multi_same}
 use Rattle.dv_store_rules.proofs.multis.checked_multi.Goals as goal
 
 pub returns-in_err-made-clause-flawed : goal.returns-in_err-made-clause-flawed

@@ -1,4 +1,4 @@
-use Rattle.dv_store_rules.proofs.Vocabulary.{◌≡◌, ◌+◌, ◌-◌, ◌≤◌, AreFirst, IsTrue, Told, is_of_kind, most_weight, rows_in, rows_weight}
+use Rattle.dv_store_rules.proofs.Vocabulary.{AreFirst, IsTrue, Told, is_of_kind, most_weight, rows_in, rows_weight, ◌+◌, ◌-◌, ◌≡◌, ◌≤◌}
 use Rattle.dv_store_rules.proofs.pages.read_rows.Given as goal
 
 -- the rows read so far, and what all that was read weighs

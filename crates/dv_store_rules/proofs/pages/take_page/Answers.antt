@@ -1,6 +1,5 @@
-use Rattle.dv_store_rules.proofs.Vocabulary.{AreFirst, TellsPage, Last, More, IsGrown, arith, rows_in, sym, subst, ◌≡◌, ◌∙◌, ap, page, is_of_kind, true, row_count, ◌<◌}
-use Rattle.dv_store_rules.proofs.PageSteps.{empty_page, first_then, foreign_page, heavy, heavy_page, light_page, short_page, well_kinds}
-use Rattle.dv_store_rules.proofs.RowPages.{kind_in}
+use Rattle.dv_store_rules.proofs.Vocabulary.{AreFirst, IsGrown, Last, More, TellsPage, ap, arith, is_of_kind, page, row_count, rows_in, subst, sym, true, ◌<◌, ◌∙◌, ◌≡◌}
+use Rattle.dv_store_rules.proofs.{PageSteps.empty_page, PageSteps.first_then, PageSteps.foreign_page, PageSteps.heavy, PageSteps.heavy_page, PageSteps.light_page, PageSteps.short_page, PageSteps.well_kinds, RowPages.kind_in}
 use Rattle.dv_store_rules.proofs.pages.take_page.Goals as goal
 
 pub returns-then-taken-eq0-clause-told : goal.returns-then-taken-eq0-clause-told

@@ -1,6 +1,5 @@
-use Rattle.dv_store_rules.proofs.Vocabulary.{◌∙◌, Some, ap, hashes_of, own_of, or_none, length, rules, sym}
-use Rattle.dv_store_rules.proofs.Turns.{plain_broken, plain_clear, plain_heavy}
-use Rattle.dv_store_rules.proofs.Chains.{all_in_order}
+use Rattle.dv_store_rules.proofs.Vocabulary.{Some, ap, hashes_of, length, or_none, own_of, rules, sym, ◌∙◌}
+use Rattle.dv_store_rules.proofs.{Turns.plain_broken, Turns.plain_clear, Turns.plain_heavy, Chains.all_in_order}
 use Rattle.dv_store_rules.proofs.row_checks.checked_rows.Goals as goal
 
 pub from_rows-requires : goal.from_rows-requires

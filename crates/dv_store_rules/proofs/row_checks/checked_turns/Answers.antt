@@ -1,6 +1,5 @@
-use Rattle.dv_store_rules.proofs.Vocabulary.{◌∙◌, ◌+◌, Some, ap, hashes_of, own_of, or_none, arith, length, rules, sym, unwrap_or}
-use Rattle.dv_store_rules.proofs.Turns.{turning_broken_or, turning_clear, turning_heavy_or, turning_whole}
-use Rattle.dv_store_rules.proofs.Chains.{all_in_order, first_in_order}
+use Rattle.dv_store_rules.proofs.Vocabulary.{Some, ap, arith, hashes_of, length, or_none, own_of, rules, sym, unwrap_or, ◌+◌, ◌∙◌}
+use Rattle.dv_store_rules.proofs.{Turns.turning_broken_or, Turns.turning_clear, Turns.turning_heavy_or, Turns.turning_whole, Chains.all_in_order, Chains.first_in_order}
 use Rattle.dv_store_rules.proofs.row_checks.checked_turns.Goals as goal
 
 pub from_rows-requires : goal.from_rows-requires

@@ -1,6 +1,5 @@
-use Rattle.dv_store_rules.proofs.Vocabulary.{◌≡◌, ◌∙◌, None, Some, ap, hashes_of, own_of, own_rule, slice_get-get_or, sym, take, weight_rule}
-use Rattle.dv_store_rules.proofs.Turns.{still_light, too_heavy}
-use Rattle.dv_store_rules.proofs.FirstFlaws.{clear_more}
+use Rattle.dv_store_rules.proofs.Vocabulary.{None, Some, ap, hashes_of, own_of, own_rule, slice_get-get_or, sym, take, weight_rule, ◌∙◌, ◌≡◌}
+use Rattle.dv_store_rules.proofs.{Turns.still_light, Turns.too_heavy, FirstFlaws.clear_more}
 use Rattle.dv_store_rules.proofs.row_walks.walk.Goals as goal
 
 pub returns-in_default-added : goal.returns-in_default-added

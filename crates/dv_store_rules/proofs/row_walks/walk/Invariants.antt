@@ -1,4 +1,4 @@
-use Rattle.dv_store_rules.proofs.Vocabulary.{◌≡◌, ◌+◌, AreClear, hashes_of, own_of, own_rule, sum_by, take, weight_rule}
+use Rattle.dv_store_rules.proofs.Vocabulary.{AreClear, hashes_of, own_of, own_rule, sum_by, take, weight_rule, ◌+◌, ◌≡◌}
 use Rattle.dv_store_rules.proofs.row_walks.walk.Given as goal
 
 -- the weight so far; no row so far breaks a rule by itself, or weighs too much

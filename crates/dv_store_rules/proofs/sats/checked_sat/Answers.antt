@@ -1,7 +1,5 @@
 use Rattle.dv_store_rules.proofs.Vocabulary.{err_from_is_err_and, hashes_of, is_under}
-use Rattle.dv_store_rules.proofs.FeedForms.{looks_up}
-use Rattle.dv_store_rules.proofs.FirstFlaws.{first_told, none_flawed}
-use Rattle.dv_store_rules.proofs.SatForms.{sat_ascends, sat_same}
+use Rattle.dv_store_rules.proofs.{FeedForms.looks_up, FirstFlaws.first_told, FirstFlaws.none_flawed, SatForms.sat_ascends, SatForms.sat_same}
 use Rattle.dv_store_rules.proofs.sats.checked_sat.Goals as goal
 
 pub returns-in_err-made-clause-flawed : goal.returns-in_err-made-clause-flawed

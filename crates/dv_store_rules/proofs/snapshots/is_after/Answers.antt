@@ -1,6 +1,5 @@
-use Rattle.dv_store_rules.proofs.Vocabulary.{◌∙◌}
+use Rattle.dv_store_rules.proofs.Vocabulary.{SnapHead, ◌∙◌}
 use Rattle.dv_store_rules.proofs.LastRows.{later_than}
-use Rattle.dv_records.specs.declared.snapshots.SnapHead.{SnapHead}
 use Rattle.dv_store_rules.proofs.snapshots.is_after.Goals as goal
 
 pub returns-in-Some : goal.returns-in-Some

@@ -1,10 +1,5 @@
-use Rattle.dv_store_rules.proofs.Vocabulary.{◌∙◌, ◌+◌, ◌≡◌, ◌≤◌, Some, ap, arith, length, refl, slice_get-get_or, sym, take}
-use Rattle.std.proofs.lemmas.List.Sums.{sum_by_more}
-use Rattle.dv_store_rules.proofs.FirstFlaws.{clear_fewer, clear_more, flaw_is, no_flaw}
-use Rattle.dv_store_rules.proofs.LightSnapshots.{light_with}
-use Rattle.dv_store_rules.specs.SnapshotHeads.{heads_weight, snapshot_rule}
-use Rattle.dv_records.specs.declared.snapshots.SnapHead.{SnapHead}
-use Rattle.dv_records.specs.Limits.{most_snapshot_weight}
+use Rattle.dv_store_rules.proofs.Vocabulary.{SnapHead, Some, ap, arith, heads_weight, length, most_snapshot_weight, refl, slice_get-get_or, snapshot_rule, sum_by_more, sym, take, ◌+◌, ◌∙◌, ◌≡◌, ◌≤◌}
+use Rattle.dv_store_rules.proofs.{FirstFlaws.clear_fewer, FirstFlaws.clear_more, FirstFlaws.flaw_is, FirstFlaws.no_flaw, LightSnapshots.light_with}
 use Rattle.dv_store_rules.proofs.snapshots.snapshot_flaw.Goals as goal
 
 pub returns-then-not-is_snapshot : goal.returns-then-not-is_snapshot

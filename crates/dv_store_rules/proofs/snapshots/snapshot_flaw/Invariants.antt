@@ -1,6 +1,4 @@
-use Rattle.dv_store_rules.proofs.Vocabulary.{◌≡◌, ◌≤◌, AreClear, take}
-use Rattle.dv_store_rules.specs.SnapshotHeads.{heads_weight, snapshot_rule}
-use Rattle.dv_records.specs.Limits.{most_snapshot_weight}
+use Rattle.dv_store_rules.proofs.Vocabulary.{AreClear, heads_weight, most_snapshot_weight, snapshot_rule, take, ◌≡◌, ◌≤◌}
 use Rattle.dv_store_rules.proofs.snapshots.snapshot_flaw.Given as goal
 
 -- no head so far breaks the rule, and so many of them weigh this

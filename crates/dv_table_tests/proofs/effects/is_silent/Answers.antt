@@ -1,5 +1,4 @@
-use Rattle.dv_table_tests.proofs.Vocabulary.{◌≡◌, true, list_all, nat_le, subst, sym, ◌∙◌, list_all-map}
-use Rattle.dv_records.specs.declared.raw_rows.EffectRow.{EffectRow}
+use Rattle.dv_table_tests.proofs.Vocabulary.{EffectRow, list_all, list_all-map, nat_le, subst, sym, true, ◌∙◌, ◌≡◌}
 use Rattle.dv_table_tests.proofs.effects.is_silent.Goals as goal
 
 pub additions-requires-clause-not_later : goal.additions-requires-clause-not_later

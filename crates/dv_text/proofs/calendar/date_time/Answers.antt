@@ -1,4 +1,4 @@
-use Rattle.dv_text.proofs.Vocabulary.{arith, ◌≡◌, pos, ◌-ℤ◌, ◌<◌, ◌^◌, ℕ, to_z, of_z, w64, unsigned_abs, ints, signed_arith, back_small, unsigned_abs-parts, one_part}
+use Rattle.dv_text.proofs.Vocabulary.{arith, back_small, ints, of_z, one_part, pos, signed_arith, to_z, unsigned_abs, unsigned_abs-parts, w64, ℕ, ◌-ℤ◌, ◌<◌, ◌^◌, ◌≡◌}
 use Rattle.dv_text.proofs.Days.{Placed, placed}
 use Rattle.dv_text.proofs.calendar.date_time.Goals as goal
 

@@ -1,4 +1,4 @@
-use Rattle.dv_text.proofs.Vocabulary.{arith, ◌≡◌, ℤ, pos, ◌+ℤ◌, ◌+◌, ◌*◌, ◌<◌, ◌^◌, to_z, of_z, w64, ℕ, refl, false≢true, unsigned_abs, signed_arith, back_small, unsigned_abs-parts, one_part, time_seconds, days_since_1900}
+use Rattle.dv_text.proofs.Vocabulary.{arith, back_small, days_since_1900, false≢true, of_z, one_part, pos, refl, signed_arith, time_seconds, to_z, unsigned_abs, unsigned_abs-parts, w64, ℕ, ℤ, ◌*◌, ◌+ℤ◌, ◌+◌, ◌<◌, ◌^◌, ◌≡◌}
 use Rattle.dv_text.proofs.Days.{day_range, day_since, has_instant, second_since}
 use Rattle.dv_text.proofs.calendar.seconds_at.Goals as goal
 

@@ -1,6 +1,5 @@
 use Rattle.dv_text.proofs.Vocabulary.{sym}
-use Rattle.dv_text.proofs.Forms.{shown, there-parts}
-use Rattle.dv_text.proofs.Shown.{stamp_text-is}
+use Rattle.dv_text.proofs.{Forms.shown, Forms.there-parts, Shown.stamp_text-is}
 use Rattle.dv_text.proofs.calendar.shown.Goals as goal
 
 pub returns-clause-value : goal.returns-clause-value

@@ -1,4 +1,4 @@
-use Rattle.dv_text.proofs.Vocabulary.{◌≡◌, ◌∷◌, take, join_with_byte}
+use Rattle.dv_text.proofs.Vocabulary.{join_with_byte, take, ◌∷◌, ◌≡◌}
 use Rattle.dv_text.proofs.normal.joined.Given as goal
 
 -- the parts so far, joined

@@ -1,5 +1,4 @@
-use Rattle.dv_text.proofs.Distinct.{ascending-sort_dedup, members-sort_dedup}
-use Rattle.dv_text.proofs.SortedLists.{sorted_by-members}
+use Rattle.dv_text.proofs.{Distinct.ascending-sort_dedup, Distinct.members-sort_dedup, SortedLists.sorted_by-members}
 use Rattle.dv_text.proofs.orders.sorted_distinct.Goals as goal
 
 pub returns-clause-ascending : goal.returns-clause-ascending

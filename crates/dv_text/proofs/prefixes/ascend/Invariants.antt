@@ -1,4 +1,4 @@
-use Rattle.dv_text.proofs.Vocabulary.{◌≡◌, ℕ, ◌+◌, ◌<◌, get_or, Less}
+use Rattle.dv_text.proofs.Vocabulary.{Less, get_or, ℕ, ◌+◌, ◌<◌, ◌≡◌}
 use Rattle.dv_text.proofs.prefixes.ascend.Given as goal
 
 -- each item before the place is less than the next

@@ -1,6 +1,6 @@
-use Rattle.dv_text.proofs.Vocabulary.{◌≡◌, ◌+◌, ◌-◌, ◌∙◌, suc, sym, ap, arith, drop, zero}
-unfoldable use Rattle.dv_text.proofs.Vocabulary.{spelt}
+use Rattle.dv_text.proofs.Vocabulary.{ap, arith, drop, suc, sym, zero, ◌+◌, ◌-◌, ◌∙◌, ◌≡◌}
 use Rattle.dv_text.proofs.PrefixFacts.{byte_more, spelt_more}
+unfoldable use Rattle.dv_text.proofs.Vocabulary.{spelt}
 use Rattle.dv_text.proofs.prefixes.number_of.Goals as goal
 
 pub overflow_mul-number : goal.overflow_mul-number

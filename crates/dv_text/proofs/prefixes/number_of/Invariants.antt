@@ -1,4 +1,4 @@
-use Rattle.dv_text.proofs.Vocabulary.{◌≡◌, ◌-◌, ◌<◌, ◌^◌, drop, spelt}
+use Rattle.dv_text.proofs.Vocabulary.{drop, spelt, ◌-◌, ◌<◌, ◌^◌, ◌≡◌}
 use Rattle.dv_text.proofs.prefixes.number_of.Given as goal
 
 -- what the bytes that are left spell behind the number

@@ -1,4 +1,4 @@
-use Rattle.dv_text.proofs.Vocabulary.{◌∙◌, sym}
+use Rattle.dv_text.proofs.Vocabulary.{sym, ◌∙◌}
 use Rattle.dv_text.proofs.SortedLists.{ascending-sorted_by, member_after_sort, member_before_sort, sorted_by-sorted}
 use Rattle.dv_text.proofs.prefixes.sorted_by_prefix.Goals as goal
 

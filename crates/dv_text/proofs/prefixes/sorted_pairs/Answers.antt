@@ -1,4 +1,4 @@
-use Rattle.dv_text.proofs.Vocabulary.{◌∙◌, IfOk-weaker}
+use Rattle.dv_text.proofs.Vocabulary.{IfOk-weaker, ◌∙◌}
 use Rattle.dv_text.proofs.PrefixFacts.{items-sort_dedup}
 use Rattle.dv_text.proofs.prefixes.sorted_pairs.Goals as goal
 

@@ -1,4 +1,4 @@
-use Rattle.dv_text.proofs.Vocabulary.{◌≡◌, map, fronted}
+use Rattle.dv_text.proofs.Vocabulary.{fronted, map, ◌≡◌}
 use Rattle.dv_text.proofs.prefixes.with_prefixes.Given as goal
 
 abbrev pub invariant-loop-item : goal.invariant-loop-item

@@ -1,4 +1,4 @@
-use Rattle.dv_text.proofs.Vocabulary.{◌≡◌, map}
+use Rattle.dv_text.proofs.Vocabulary.{map, ◌≡◌}
 use Rattle.dv_text.proofs.prefixes.without_prefixes.Given as goal
 
 abbrev pub invariant-loop-pair : goal.invariant-loop-pair

@@ -1,4 +1,4 @@
-use Rattle.dv_track.proofs.Vocabulary.{◌≡◌, ◌++◌, ◌∙◌, Some, refl, sym, ap, append_assoc, option_to_list, change_between, changes_between, least}
+use Rattle.dv_track.proofs.Vocabulary.{Some, ap, append_assoc, change_between, changes_between, least, option_to_list, refl, sym, ◌++◌, ◌∙◌, ◌≡◌}
 use Rattle.dv_track.proofs.Walked.{head_first, head_there, left, left_ascends}
 use Rattle.dv_track.proofs.changes.changes_between.Goals as goal
 

@@ -1,4 +1,4 @@
-use Rattle.dv_track.proofs.Vocabulary.{◌≡◌, ◌+◌, ◌++◌, length, IsStrictlySortedBy, digest_cmp, changes_between}
+use Rattle.dv_track.proofs.Vocabulary.{IsStrictlySortedBy, changes_between, digest_cmp, length, ◌++◌, ◌+◌, ◌≡◌}
 use Rattle.dv_track.proofs.changes.changes_between.Given as goal
 
 -- the rows so far are before those of what is left of both lists

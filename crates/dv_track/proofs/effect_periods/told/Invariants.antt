@@ -1,5 +1,4 @@
-use Rattle.dv_track.proofs.Vocabulary.{◌≡◌, filter, map, nat_le, take}
-use Rattle.dv_records.specs.EffectPeriods.{period_in}
+use Rattle.dv_track.proofs.Vocabulary.{filter, map, nat_le, period_in, take, ◌≡◌}
 use Rattle.dv_track.proofs.effect_periods.told.Given as goal
 
 -- what the rows so far tell

@@ -1,4 +1,4 @@
-use Rattle.dv_track.proofs.Vocabulary.{◌∙◌, sym, StatusRow, status_cmp, last_load}
+use Rattle.dv_track.proofs.Vocabulary.{StatusRow, last_load, status_cmp, sym, ◌∙◌}
 use Rattle.dv_track.proofs.loads.has_load.Goals as goal
 
 pub returns-in-Some : goal.returns-in-Some

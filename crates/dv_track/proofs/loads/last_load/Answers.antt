@@ -1,5 +1,4 @@
-use Rattle.dv_track.proofs.Vocabulary.{sym, nat_le, all_pass, le-leb}
-use Rattle.dv_records.proofs.DatedRows.{up_to_last}
+use Rattle.dv_track.proofs.Vocabulary.{all_pass, le-leb, nat_le, sym, up_to_last}
 use Rattle.dv_track.proofs.loads.last_load.Goals as goal
 
 pub returns-in-Some : goal.returns-in-Some

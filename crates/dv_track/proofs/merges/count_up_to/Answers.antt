@@ -1,5 +1,4 @@
-use Rattle.dv_track.proofs.Vocabulary.{rules, not, is_lt, digest_cmp, IsPartitionPoint-from_clause}
-use Rattle.dv_index.proofs.Merging.{up_to_first}
+use Rattle.dv_track.proofs.Vocabulary.{IsPartitionPoint-from_clause, digest_cmp, is_lt, not, rules, up_to_first}
 use Rattle.dv_track.proofs.PutIn.{digest_lt, digest_order}
 use Rattle.dv_track.proofs.merges.count_up_to.Goals as goal
 

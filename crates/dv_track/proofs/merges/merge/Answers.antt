@@ -1,5 +1,4 @@
-use Rattle.dv_track.proofs.Vocabulary.{◌≡◌, ◌-◌, ◌++◌, arith, ap, drop, length, take, ◌∙◌, length-take-le, take_at}
-use Rattle.dv_index.proofs.Merging.{begins, ends, goes_on}
+use Rattle.dv_track.proofs.Vocabulary.{ap, arith, begins, drop, ends, goes_on, length, length-take-le, take, take_at, ◌++◌, ◌-◌, ◌∙◌, ◌≡◌}
 use Rattle.dv_track.proofs.PutIn.{digest_lt, digest_order}
 use Rattle.dv_track.proofs.merges.merge.Goals as goal
 

@@ -1,4 +1,4 @@
-use Rattle.dv_index.proofs.Merging.{IsMerging}
+use Rattle.dv_track.proofs.Vocabulary.{IsMerging}
 use Rattle.dv_track.proofs.PutIn.{digest_lt, digest_order}
 use Rattle.dv_track.proofs.merges.merge.Given as goal
 

@@ -1,5 +1,4 @@
-use Rattle.dv_track.proofs.Vocabulary.{◌≡◌, ◌≤◌, ◌++◌, take, vec_capacity}
-use Rattle.dv_index.specs.Numbers.{parents_of}
+use Rattle.dv_track.proofs.Vocabulary.{parents_of, take, vec_capacity, ◌++◌, ◌≡◌, ◌≤◌}
 use Rattle.dv_track.proofs.presences.put_parents.Given as goal
 
 -- the parents of the rows so far

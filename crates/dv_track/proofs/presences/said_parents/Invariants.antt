@@ -1,5 +1,4 @@
-use Rattle.dv_track.proofs.Vocabulary.{◌≡◌, Some, filter, map, take}
-use Rattle.dv_index.specs.Numbers.{parents_of}
+use Rattle.dv_track.proofs.Vocabulary.{Some, filter, map, parents_of, take, ◌≡◌}
 use Rattle.dv_track.proofs.presences.said_parents.Given as goal
 
 -- the parents of those rows so far

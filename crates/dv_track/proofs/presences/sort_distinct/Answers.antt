@@ -1,4 +1,4 @@
-use Rattle.dv_track.proofs.Vocabulary.{nat_list_cmp_total, texts_ties, ascending-sort_dedup, members-sort_dedup, sorted_by-members}
+use Rattle.dv_track.proofs.Vocabulary.{ascending-sort_dedup, members-sort_dedup, nat_list_cmp_total, sorted_by-members, texts_ties}
 use Rattle.dv_track.proofs.Amongst.{exact}
 use Rattle.dv_track.proofs.presences.sort_distinct.Goals as goal
 

@@ -1,4 +1,4 @@
-use Rattle.dv_track.proofs.Vocabulary.{◌≡◌, ◌∙◌, ℕ, Bool, List, refl, filter, nat_list_cmp_total, ascending-sorted_by, digest_cmp, missing_in, sorted_by, there_at}
+use Rattle.dv_track.proofs.Vocabulary.{Bool, List, ascending-sorted_by, digest_cmp, filter, missing_in, nat_list_cmp_total, refl, sorted_by, there_at, ℕ, ◌∙◌, ◌≡◌}
 use Rattle.dv_track.proofs.PutIn.{both_sorted, merged}
 use Rattle.dv_track.proofs.presences.update.Goals as goal
 

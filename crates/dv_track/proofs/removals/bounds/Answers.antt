@@ -1,6 +1,5 @@
-use Rattle.dv_track.proofs.Vocabulary.{◌≡◌, ◌+◌, suc, arith, get_or, nat_list_cmp_total, searchable_from_sorted}
-use Rattle.dv_track.proofs.Amongst.{exact, sorted_from_strictly}
-use Rattle.dv_track.proofs.Parted.{found_parted, missed_parted}
+use Rattle.dv_track.proofs.Vocabulary.{arith, get_or, nat_list_cmp_total, searchable_from_sorted, suc, ◌+◌, ◌≡◌}
+use Rattle.dv_track.proofs.{Amongst.exact, Amongst.sorted_from_strictly, Parted.found_parted, Parted.missed_parted}
 use Rattle.dv_track.proofs.removals.bounds.Goals as goal
 
 pub returns-in-Ok-clause-before : goal.returns-in-Ok-clause-before

@@ -1,4 +1,4 @@
-use Rattle.dv_track.proofs.Vocabulary.{◌≡◌, ◌+◌, ◌-◌, ◌++◌, ◌∙◌, ap, arith, drop, take, take-add}
+use Rattle.dv_track.proofs.Vocabulary.{ap, arith, drop, take, take-add, ◌++◌, ◌+◌, ◌-◌, ◌∙◌, ◌≡◌}
 use Rattle.dv_track.proofs.Removed.{moved_up}
 use Rattle.dv_track.proofs.removals.move_up.Goals as goal
 

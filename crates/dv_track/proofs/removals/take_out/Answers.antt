@@ -1,6 +1,5 @@
-use Rattle.dv_track.proofs.Vocabulary.{◌≡◌, ◌+◌, ◌-◌, [], ◌∷◌, ◌++◌, ◌∙◌, refl, sym, ap, arith, drop, length, take, is_lt, drop_all, drop_more, length-drop, take_all, take_at, IsStrictlySortedBy-filter, digest_cmp, missing_in}
-use Rattle.dv_track.proofs.Amongst.{ascending-drop}
-use Rattle.dv_track.proofs.Removed.{none_out, out_more}
+use Rattle.dv_track.proofs.Vocabulary.{IsStrictlySortedBy-filter, [], ap, arith, digest_cmp, drop, drop_all, drop_more, is_lt, length, length-drop, missing_in, refl, sym, take, take_all, take_at, ◌++◌, ◌+◌, ◌-◌, ◌∙◌, ◌∷◌, ◌≡◌}
+use Rattle.dv_track.proofs.{Amongst.ascending-drop, Removed.none_out, Removed.out_more}
 use Rattle.dv_track.proofs.removals.take_out.Goals as goal
 
 pub loop-other-preserved : goal.loop-other-preserved

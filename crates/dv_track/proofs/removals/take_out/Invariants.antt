@@ -1,4 +1,4 @@
-use Rattle.dv_track.proofs.Vocabulary.{◌≡◌, ◌≤◌, ◌++◌, drop, length, take, vec_capacity, IsStrictlySortedBy, digest_cmp, missing_in}
+use Rattle.dv_track.proofs.Vocabulary.{IsStrictlySortedBy, digest_cmp, drop, length, missing_in, take, vec_capacity, ◌++◌, ◌≡◌, ◌≤◌}
 use Rattle.dv_track.proofs.removals.take_out.Given as goal
 
 -- the first places are done, and the others have to be taken out of what is left

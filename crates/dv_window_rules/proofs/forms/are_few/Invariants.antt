@@ -1,4 +1,4 @@
-use Rattle.dv_window_rules.proofs.Vocabulary.{◌≡◌, ◌≤◌, ◌+◌, drop, length, sum_by, most_window_records}
+use Rattle.dv_window_rules.proofs.Vocabulary.{drop, length, most_window_records, sum_by, ◌+◌, ◌≡◌, ◌≤◌}
 use Rattle.dv_window_rules.proofs.forms.are_few.Given as goal
 
 -- what room there is left for the rows of the extracts that are left

@@ -1,4 +1,4 @@
-use Rattle.dv_window_rules.proofs.Vocabulary.{◌≡◌, drop, list_all, is_staged}
+use Rattle.dv_window_rules.proofs.Vocabulary.{drop, is_staged, list_all, ◌≡◌}
 use Rattle.dv_window_rules.proofs.forms.are_staged.Given as goal
 
 -- those so far pass

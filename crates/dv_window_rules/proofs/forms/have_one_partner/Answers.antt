@@ -1,4 +1,4 @@
-use Rattle.dv_window_rules.proofs.Vocabulary.{◌∙◌, ap, is_none}
+use Rattle.dv_window_rules.proofs.Vocabulary.{ap, is_none, ◌∙◌}
 use Rattle.dv_window_rules.proofs.PartnerForms.{partners_told}
 use Rattle.dv_window_rules.proofs.forms.have_one_partner.Goals as goal
 

@@ -1,4 +1,4 @@
-use Rattle.dv_window_rules.proofs.Vocabulary.{◌∙◌, ap, is_some}
+use Rattle.dv_window_rules.proofs.Vocabulary.{ap, is_some, ◌∙◌}
 use Rattle.dv_window_rules.proofs.GivenSteps.{feed_place}
 use Rattle.dv_window_rules.proofs.given_rules.is_feed.Goals as goal
 

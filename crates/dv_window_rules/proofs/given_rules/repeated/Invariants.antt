@@ -1,4 +1,4 @@
-use Rattle.dv_window_rules.proofs.Vocabulary.{◌≡◌, [], map, take, drop, reverse, repeated_name}
+use Rattle.dv_window_rules.proofs.Vocabulary.{[], drop, map, repeated_name, reverse, take, ◌≡◌}
 use Rattle.dv_window_rules.proofs.given_rules.repeated.Given as goal
 
 -- the names so far are none again, and those behind them tell

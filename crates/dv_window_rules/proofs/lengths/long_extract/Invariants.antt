@@ -1,4 +1,4 @@
-use Rattle.dv_window_rules.proofs.Vocabulary.{◌≡◌, ◌≤◌, drop, first_long, most_window_bytes}
+use Rattle.dv_window_rules.proofs.Vocabulary.{drop, first_long, most_window_bytes, ◌≡◌, ◌≤◌}
 use Rattle.dv_window_rules.proofs.lengths.long_extract.Given as goal
 
 -- the extracts so far keep the limits, and those behind them tell

@@ -1,4 +1,4 @@
-use Rattle.dv_window_rules.proofs.Vocabulary.{◌∙◌, length}
+use Rattle.dv_window_rules.proofs.Vocabulary.{length, ◌∙◌}
 use Rattle.dv_window_rules.proofs.RowForms.{fit_hubs_told, not_equal, other_count}
 use Rattle.dv_window_rules.proofs.row_forms.fit_hubs.Goals as goal
 

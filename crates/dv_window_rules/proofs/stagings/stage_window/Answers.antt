@@ -1,6 +1,5 @@
-use Rattle.dv_window_rules.proofs.Vocabulary.{Taken, rules, ◌<◌, length, sym, arith, err_from_is_err_and}
-use Rattle.dv_window_rules.proofs.FeedSteps.{fault_told, feed_absent, feed_read, rows_taken}
-use Rattle.dv_window_rules.proofs.stagings.stage_window.Goals.{in-Some+in_ok-push, in_default}
+use Rattle.dv_window_rules.proofs.Vocabulary.{Taken, arith, err_from_is_err_and, length, rules, sym, ◌<◌}
+use Rattle.dv_window_rules.proofs.{FeedSteps.fault_told, FeedSteps.feed_absent, FeedSteps.feed_read, FeedSteps.rows_taken, stagings.stage_window.Goals.in-Some+in_ok-push, stagings.stage_window.Goals.in_default}
 use Rattle.dv_window_rules.proofs.stagings.stage_window.Goals as goal
 
 pub returns-in_err-read-clause-broken : goal.returns-in_err-read-clause-broken

@@ -1,4 +1,4 @@
-use Rattle.dv_window_rules.proofs.Vocabulary.{◌≡◌, ◌≤◌, ◌*◌, ◌++◌, length, ◌-◌, ◌^◌, window_of, window_rule}
+use Rattle.dv_window_rules.proofs.Vocabulary.{length, window_of, window_rule, ◌*◌, ◌++◌, ◌-◌, ◌^◌, ◌≡◌, ◌≤◌}
 use Rattle.dv_window_rules.proofs.FeedSteps.{rows_from, rule_from}
 use Rattle.dv_window_rules.proofs.stagings.stage_window.Given as goal
 

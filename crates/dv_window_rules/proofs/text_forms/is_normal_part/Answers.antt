@@ -1,4 +1,4 @@
-use Rattle.dv_window_rules.proofs.Vocabulary.{◌∙◌, sym}
+use Rattle.dv_window_rules.proofs.Vocabulary.{sym, ◌∙◌}
 use Rattle.dv_window_rules.proofs.TextForms.{raised_part, untrimmed_part}
 use Rattle.dv_window_rules.proofs.text_forms.is_normal_part.Goals as goal
 

@@ -1,6 +1,5 @@
-use Rattle.dv_window_rules.proofs.Vocabulary.{◌∙◌, ◌==◌, ap, sym}
-use Rattle.dv_window_rules.proofs.RowForms.{not_equal}
-use Rattle.dv_window_rules.proofs.TextForms.{not_trimmed, trimmed_last}
+use Rattle.dv_window_rules.proofs.Vocabulary.{ap, sym, ◌==◌, ◌∙◌}
+use Rattle.dv_window_rules.proofs.{RowForms.not_equal, TextForms.not_trimmed, TextForms.trimmed_last}
 use Rattle.dv_window_rules.proofs.text_forms.is_trimmed.Goals as goal
 
 pub returns-then-leading-eq0 : goal.returns-then-leading-eq0

@@ -1,4 +1,4 @@
-use Rattle.dv_catalog.proofs.Vocabulary.{◌≡◌, drop, find, bytes_eq, table_named}
+use Rattle.dv_catalog.proofs.Vocabulary.{bytes_eq, drop, find, table_named, ◌≡◌}
 use Rattle.dv_catalog.specs.Tables as spec
 use Rattle.dv_catalog.proofs.catalogs.Catalog.find_table.Given as goal
 

@@ -1,4 +1,4 @@
-use Rattle.dv_contents.proofs.Vocabulary.{◌∙◌, sym, key_cmp, lex_map, refs_cmp}
+use Rattle.dv_contents.proofs.Vocabulary.{key_cmp, lex_map, refs_cmp, sym, ◌∙◌}
 use Rattle.dv_contents.proofs.content_rows.ContentRow.refs_compared.Goals as goal
 
 pub returns : goal.returns

@@ -1,5 +1,4 @@
-use Rattle.dv_contents.proofs.Vocabulary.{◌∙◌, sym}
-use Rattle.dv_text.specs.Orders.{row_cmp}
+use Rattle.dv_contents.proofs.Vocabulary.{row_cmp, sym, ◌∙◌}
 use Rattle.dv_contents.proofs.FirstNumbers.{first_greater, first_less}
 use Rattle.dv_contents.proofs.fronts.FrontRanked.compared.Goals as goal
 

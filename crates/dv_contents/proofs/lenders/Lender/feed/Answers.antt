@@ -1,4 +1,4 @@
-use Rattle.dv_contents.proofs.Vocabulary.{◌≡◌, Some, slice_get, subst, valid_feed, Mapping}
+use Rattle.dv_contents.proofs.Vocabulary.{Mapping, Some, slice_get, subst, valid_feed, ◌≡◌}
 use Rattle.dv_contents.proofs.ContentFacts.{parent_there}
 use Rattle.dv_contents.proofs.lenders.Lender.feed.Goals as goal
 

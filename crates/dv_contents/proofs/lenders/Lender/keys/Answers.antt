@@ -1,4 +1,4 @@
-use Rattle.dv_contents.proofs.Vocabulary.{◌≡◌, inl, inr, [], ◌++◌, sym, ◌∙◌, ap, append-nil, map, keys_read}
+use Rattle.dv_contents.proofs.Vocabulary.{[], ap, append-nil, inl, inr, keys_read, map, sym, ◌++◌, ◌∙◌, ◌≡◌}
 use Rattle.dv_contents.proofs.ContentFacts.{no_keys}
 use Rattle.dv_contents.proofs.lenders.Lender.keys.Goals as goal
 

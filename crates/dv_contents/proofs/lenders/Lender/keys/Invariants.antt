@@ -1,4 +1,4 @@
-use Rattle.dv_contents.proofs.Vocabulary.{◌≡◌, ◌++◌, true, length, map, nat_lt, list_all, keys_read}
+use Rattle.dv_contents.proofs.Vocabulary.{keys_read, length, list_all, map, nat_lt, true, ◌++◌, ◌≡◌}
 use Rattle.dv_contents.proofs.lenders.Lender.keys.Given as goal
 
 -- the keys so far and those behind them are all

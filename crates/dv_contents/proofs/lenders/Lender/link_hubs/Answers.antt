@@ -1,5 +1,4 @@
-use Rattle.dv_contents.proofs.Vocabulary.{◌≡◌, ◌∙◌, Some, ap, list_all, slice_get, subst, sym, link_hubs, valid_link, Mapping}
-use Rattle.dv_catalog.specs.Mappings.{is_hub}
+use Rattle.dv_contents.proofs.Vocabulary.{Mapping, Some, ap, is_hub, link_hubs, list_all, slice_get, subst, sym, valid_link, ◌∙◌, ◌≡◌}
 use Rattle.dv_contents.proofs.lenders.Lender.link_hubs.Goals as goal
 
 pub returns-clause-value : goal.returns-clause-value

@@ -1,4 +1,4 @@
-use Rattle.dv_contents.proofs.Vocabulary.{◌<◌, ◌∙◌, subst, sym}
+use Rattle.dv_contents.proofs.Vocabulary.{subst, sym, ◌<◌, ◌∙◌}
 use Rattle.dv_contents.proofs.ContentFacts.{missing_at, missing_count}
 use Rattle.dv_contents.proofs.lenders.Lender.missing_of.Goals as goal
 

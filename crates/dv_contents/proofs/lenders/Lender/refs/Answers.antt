@@ -1,4 +1,4 @@
-use Rattle.dv_contents.proofs.Vocabulary.{[], ◌∷◌, ◌++◌, ◌∙◌, ap, map}
+use Rattle.dv_contents.proofs.Vocabulary.{[], ap, map, ◌++◌, ◌∙◌, ◌∷◌}
 use Rattle.dv_contents.proofs.ContentFacts.{hub_within, link_within, refs_of_hub, refs_of_link}
 use Rattle.dv_contents.proofs.lenders.Lender.refs.Goals as goal
 

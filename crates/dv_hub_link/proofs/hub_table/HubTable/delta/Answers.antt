@@ -1,8 +1,5 @@
-use Rattle.dv_hub_link.proofs.Vocabulary.{List, ◌∷◌, [], Ok, Err, ◌∙◌, ap, filter_map, err_from_is_err_and, delivered, hashes_of, HubRow, IsLeastClash, hub_place, LentList, sym, told, hub_hashed, hub_row_of}
-use Rattle.dv_hub_link.proofs.Clashes.{filter_map-map}
-use Rattle.dv_hub_link.proofs.HubItems.{are_items}
-use Rattle.dv_hub_link.proofs.HubWindows.{answers_held, answers_next, hub_row_has}
-use Rattle.dv_hub_link.proofs.KeyDeltas.{fault_collides, made_are}
+use Rattle.dv_hub_link.proofs.Vocabulary.{Err, HubRow, IsLeastClash, LentList, List, Ok, [], ap, delivered, err_from_is_err_and, filter_map, hashes_of, hub_hashed, hub_place, hub_row_of, sym, told, ◌∙◌, ◌∷◌}
+use Rattle.dv_hub_link.proofs.{Clashes.filter_map-map, HubItems.are_items, HubWindows.answers_held, HubWindows.answers_next, HubWindows.hub_row_has, KeyDeltas.fault_collides, KeyDeltas.made_are}
 use Rattle.dv_hub_link.proofs.hub_table.HubTable.delta.Goals as goal
 
 pub lists_for-requires-clause-items : goal.lists_for-requires-clause-items

@@ -1,7 +1,6 @@
-use Rattle.dv_hub_link.proofs.Vocabulary.{◌≡◌, List, Ok, Err, Some, true, ◌∙◌, ap, subst, sym, filter_map, err_from_is_err_and, delivered, hashes_of, LinkRow, IsLeastClash, link_place, LentList, map, map-map, told, are_of_links, hubs_of, keys_under, stored, all_hashed, link_row}
-use Rattle.dv_hub_link.proofs.KeyDeltas.{fault_collides, made_are, map_filter}
-use Rattle.dv_hub_link.proofs.LinkItems.{are_items, items_of_links}
-use Rattle.dv_hub_link.proofs.LinkWindows.{answers_held, answers_next, link_row_digest, link_row_load, told_apart, told_least}
+use Rattle.dv_hub_link.proofs.Vocabulary.{Err, IsLeastClash, LentList, LinkRow, List, Ok, Some, all_hashed, ap, are_of_links, delivered, err_from_is_err_and, filter_map, hashes_of, hubs_of, keys_under, link_place, link_row, map, map-map, stored, subst, sym, told, true, ◌∙◌, ◌≡◌}
+use Rattle.dv_hub_link.proofs.{KeyDeltas.fault_collides, KeyDeltas.made_are, KeyDeltas.map_filter, LinkItems.are_items, LinkItems.items_of_links, LinkWindows.answers_held, LinkWindows.answers_next, LinkWindows.link_row_digest, LinkWindows.link_row_load, LinkWindows.told_apart}
+use Rattle.dv_hub_link.proofs.{LinkWindows.told_least}
 use Rattle.dv_hub_link.proofs.link_table.LinkTable.delta.Goals as goal
 
 pub hubs_of-requires : goal.hubs_of-requires

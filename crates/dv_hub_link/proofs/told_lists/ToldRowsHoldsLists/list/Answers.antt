@@ -1,4 +1,4 @@
-use Rattle.dv_hub_link.proofs.Vocabulary.{Some, sym, ◌∙◌, ap}
+use Rattle.dv_hub_link.proofs.Vocabulary.{Some, ap, sym, ◌∙◌}
 use Rattle.dv_hub_link.proofs.KeyDeltas.{none_found, one_found}
 use Rattle.dv_hub_link.proofs.told_lists.ToldRowsHoldsLists.list.Goals as goal
 

@@ -1,4 +1,4 @@
-use Rattle.dv_hub_link.proofs.Vocabulary.{◌∙◌, ap, map, row_under}
+use Rattle.dv_hub_link.proofs.Vocabulary.{ap, map, row_under, ◌∙◌}
 use Rattle.dv_hub_link.proofs.KeyDeltas.{beside_rows}
 use Rattle.dv_hub_link.proofs.told_lists.ToldRowsHoldsLists.standings.Goals as goal
 

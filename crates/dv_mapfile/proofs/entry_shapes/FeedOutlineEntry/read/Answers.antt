@@ -1,4 +1,4 @@
-use Rattle.dv_mapfile.proofs.Vocabulary.{refl, err_from_is_err_and}
+use Rattle.dv_mapfile.proofs.Vocabulary.{err_from_is_err_and, refl}
 use Rattle.dv_mapfile.proofs.Stopped.{stopped}
 use Rattle.dv_mapfile.proofs.entry_shapes.FeedOutlineEntry.read.Goals as goal
 

@@ -1,4 +1,4 @@
-use Rattle.dv_outside.proofs.Vocabulary.{Some, ◌≡◌, ◌-◌, ◌∙◌, ap, arith, drop, length, take}
+use Rattle.dv_outside.proofs.Vocabulary.{Some, ap, arith, drop, length, take, ◌-◌, ◌∙◌, ◌≡◌}
 use Rattle.dv_outside.proofs.Told.{copied_front, tail_slice}
 use Rattle.dv_outside.proofs.memory_links.MemoryLinkLink.read.Goals as goal
 

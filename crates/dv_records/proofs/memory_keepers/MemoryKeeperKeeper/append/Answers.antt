@@ -1,4 +1,4 @@
-use Rattle.dv_records.proofs.Vocabulary.{refl, and_from, and_parts, ◌&&◌, are_apart, are_snapshots_in_order, have_kinds}
+use Rattle.dv_records.proofs.Vocabulary.{and_from, and_parts, are_apart, are_snapshots_in_order, have_kinds, refl, ◌&&◌}
 use Rattle.dv_records.proofs.WellFormedTables.{well_formed-appended_to}
 use Rattle.dv_records.proofs.memory_keepers.MemoryKeeperKeeper.append.Goals as goal
 

@@ -1,4 +1,4 @@
-use Rattle.dv_sat.proofs.Vocabulary.{◌∙◌, append-nil, sym}
+use Rattle.dv_sat.proofs.Vocabulary.{append-nil, sym, ◌∙◌}
 use Rattle.dv_sat.proofs.SideBySide.{all_ended}
 use Rattle.dv_sat.proofs.multi_tables.MultiTable.changes.Goals as goal
 

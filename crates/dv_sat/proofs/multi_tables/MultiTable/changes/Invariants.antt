@@ -1,4 +1,4 @@
-use Rattle.dv_sat.proofs.Vocabulary.{◌≡◌, ◌++◌, ◌&&◌, true, bytes_eq, filter_map, find, list_all, map, nat_le, option_map, reverse, hashes_of, attrs_fit, MultiRow, multi_change}
+use Rattle.dv_sat.proofs.Vocabulary.{MultiRow, attrs_fit, bytes_eq, filter_map, find, hashes_of, list_all, map, multi_change, nat_le, option_map, reverse, true, ◌&&◌, ◌++◌, ◌≡◌}
 use Rattle.dv_sat.proofs.multi_tables.MultiTable.changes.Given as goal
 
 -- what the rows so far add, and the rows behind them with their hash keys and the last rows of these

@@ -1,7 +1,5 @@
-use Rattle.dv_sat.proofs.Vocabulary.{◌∙◌, filter_map, ascending-sorted_by, batch_of, hashes_of, source, MultiRow, multi_cmp, multi_change, delta_follows, delta_stamped}
-use Rattle.dv_sat.proofs.MultiDeltaBatch.{delta_is_batch}
-use Rattle.dv_sat.proofs.MultiFollowing.{made_stamped}
-use Rattle.dv_records.specs.Ranks.{multi_total}
+use Rattle.dv_sat.proofs.Vocabulary.{MultiRow, ascending-sorted_by, batch_of, delta_follows, delta_stamped, filter_map, hashes_of, multi_change, multi_cmp, multi_total, source, ◌∙◌}
+use Rattle.dv_sat.proofs.{MultiDeltaBatch.delta_is_batch, MultiFollowing.made_stamped}
 use Rattle.dv_sat.proofs.multi_tables.MultiTable.delta.Goals as goal
 
 pub returns-clause-stamped : goal.returns-clause-stamped

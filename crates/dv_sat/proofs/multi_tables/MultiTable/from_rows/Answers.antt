@@ -1,4 +1,4 @@
-use Rattle.dv_sat.proofs.Vocabulary.{arith, multi_place, multi_cmp, in_load_order}
+use Rattle.dv_sat.proofs.Vocabulary.{arith, in_load_order, multi_cmp, multi_place}
 use Rattle.dv_sat.proofs.multi_tables.MultiTable.from_rows.Goals as goal
 
 pub from_rows-requires : goal.from_rows-requires

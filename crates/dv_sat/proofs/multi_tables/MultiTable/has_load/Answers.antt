@@ -1,4 +1,4 @@
-use Rattle.dv_sat.proofs.Vocabulary.{◌∙◌, sym, MultiRow, multi_cmp, last_load}
+use Rattle.dv_sat.proofs.Vocabulary.{MultiRow, last_load, multi_cmp, sym, ◌∙◌}
 use Rattle.dv_sat.proofs.multi_tables.MultiTable.has_load.Goals as goal
 
 pub returns-in-Some-clause-value : goal.returns-in-Some-clause-value

@@ -1,4 +1,4 @@
-use Rattle.dv_sat.proofs.Vocabulary.{◌≡◌, ◌∙◌, sym, nat_le, All-map, list_all-map, SatRow}
+use Rattle.dv_sat.proofs.Vocabulary.{All-map, SatRow, list_all-map, nat_le, sym, ◌∙◌, ◌≡◌}
 use Rattle.dv_sat.proofs.sat_tables.SatTable.additions.Goals as goal
 
 pub delta-requires-clause-not_later : goal.delta-requires-clause-not_later

@@ -1,4 +1,4 @@
-use Rattle.dv_sat.proofs.Vocabulary.{◌++◌, arith, sat_place, sat_cmp, in_load_order}
+use Rattle.dv_sat.proofs.Vocabulary.{arith, in_load_order, sat_cmp, sat_place, ◌++◌}
 use Rattle.dv_sat.proofs.sat_tables.SatTable.apply.Goals as goal
 
 pub apply-requires : goal.apply-requires

@@ -1,4 +1,4 @@
-use Rattle.dv_sat.proofs.Vocabulary.{◌≡◌, ◌++◌, true, filter_map, list_all, map, option_map, hashes_of, attrs_fit, valid_at, sat_change}
+use Rattle.dv_sat.proofs.Vocabulary.{attrs_fit, filter_map, hashes_of, list_all, map, option_map, sat_change, true, valid_at, ◌++◌, ◌≡◌}
 use Rattle.dv_sat.proofs.sat_tables.SatTable.changes.Given as goal
 
 -- what the rows so far add, and the rows behind them with their hash keys and the rows that are valid for these

@@ -1,4 +1,4 @@
-use Rattle.dv_sat.proofs.Vocabulary.{◌∙◌, sym, bytes_eq, SatRow, sat_cmp, found_up_to_last}
+use Rattle.dv_sat.proofs.Vocabulary.{SatRow, bytes_eq, found_up_to_last, sat_cmp, sym, ◌∙◌}
 use Rattle.dv_sat.proofs.sat_tables.SatTable.current.Goals as goal
 
 pub returns : goal.returns

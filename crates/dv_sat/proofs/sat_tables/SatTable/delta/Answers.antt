@@ -1,6 +1,5 @@
-use Rattle.dv_sat.proofs.Vocabulary.{◌∙◌, filter_map, ascending-sorted_by, batch_of, hashes_of, source, SatRow, sat_cmp, sat_change, delta_follows, delta_stamped}
-use Rattle.dv_sat.proofs.SatDeltaBatch.{delta_is_batch}
-use Rattle.dv_sat.proofs.SatFollowing.{made_stamped, sat_total}
+use Rattle.dv_sat.proofs.Vocabulary.{SatRow, ascending-sorted_by, batch_of, delta_follows, delta_stamped, filter_map, hashes_of, sat_change, sat_cmp, source, ◌∙◌}
+use Rattle.dv_sat.proofs.{SatDeltaBatch.delta_is_batch, SatFollowing.made_stamped, SatFollowing.sat_total}
 use Rattle.dv_sat.proofs.sat_tables.SatTable.delta.Goals as goal
 
 pub returns-clause-stamped : goal.returns-clause-stamped

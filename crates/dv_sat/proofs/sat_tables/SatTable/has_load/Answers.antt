@@ -1,4 +1,4 @@
-use Rattle.dv_sat.proofs.Vocabulary.{◌∙◌, sym, SatRow, sat_cmp, last_load}
+use Rattle.dv_sat.proofs.Vocabulary.{SatRow, last_load, sat_cmp, sym, ◌∙◌}
 use Rattle.dv_sat.proofs.sat_tables.SatTable.has_load.Goals as goal
 
 pub returns-in-Some-clause-value : goal.returns-in-Some-clause-value

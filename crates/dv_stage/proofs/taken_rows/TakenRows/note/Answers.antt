@@ -1,4 +1,4 @@
-use Rattle.dv_stage.proofs.Vocabulary.{◌≡◌, ◌∙◌, sym, arith, length, vec_len, name_of}
+use Rattle.dv_stage.proofs.Vocabulary.{arith, length, name_of, sym, vec_len, ◌∙◌, ◌≡◌}
 use Rattle.dv_stage.proofs.RivalFacts.{firsts_more-new, firsts_more-old, rival-bare, rival-new}
 use Rattle.dv_stage.proofs.taken_rows.TakenRows.note.Goals as goal
 

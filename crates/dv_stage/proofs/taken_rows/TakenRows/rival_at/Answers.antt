@@ -1,4 +1,4 @@
-use Rattle.dv_stage.proofs.Vocabulary.{◌∙◌, length, refl, sym, slice_get_read, is_named, name_of, placed_within}
+use Rattle.dv_stage.proofs.Vocabulary.{is_named, length, name_of, placed_within, refl, slice_get_read, sym, ◌∙◌}
 use Rattle.dv_stage.proofs.RivalFacts.{rival-first, rival-none}
 use Rattle.dv_stage.proofs.taken_rows.TakenRows.rival_at.Goals as goal
 

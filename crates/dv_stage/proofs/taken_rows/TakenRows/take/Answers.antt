@@ -1,4 +1,4 @@
-use Rattle.dv_stage.proofs.Vocabulary.{◌∙◌, sym}
+use Rattle.dv_stage.proofs.Vocabulary.{sym, ◌∙◌}
 use Rattle.dv_stage.proofs.RivalFacts.{taken_more}
 use Rattle.dv_stage.proofs.taken_rows.TakenRows.take.Goals as goal
 

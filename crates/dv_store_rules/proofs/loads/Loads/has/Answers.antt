@@ -1,4 +1,4 @@
-use Rattle.dv_store_rules.proofs.Vocabulary.{◌∙◌, ap, has_number}
+use Rattle.dv_store_rules.proofs.Vocabulary.{ap, has_number, ◌∙◌}
 use Rattle.dv_store_rules.proofs.DateLookups.{looked_up}
 use Rattle.dv_store_rules.proofs.loads.Loads.has.Goals as goal
 

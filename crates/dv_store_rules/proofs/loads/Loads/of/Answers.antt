@@ -1,4 +1,4 @@
-use Rattle.dv_store_rules.proofs.Vocabulary.{◌∙◌, ◌==◌, list_any-map}
+use Rattle.dv_store_rules.proofs.Vocabulary.{list_any-map, ◌==◌, ◌∙◌}
 use Rattle.dv_store_rules.proofs.loads.Loads.of.Goals as goal
 
 pub returns : goal.returns

@@ -1,4 +1,4 @@
-use Rattle.dv_text.proofs.Vocabulary.{◌≡◌, take}
+use Rattle.dv_text.proofs.Vocabulary.{take, ◌≡◌}
 use Rattle.dv_text.proofs.lists.ListDuplicate.copy.Given as goal
 
 -- the copies so far are the first items

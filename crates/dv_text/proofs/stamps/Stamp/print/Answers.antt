@@ -1,4 +1,4 @@
-use Rattle.dv_text.proofs.Vocabulary.{sym, ◌∙◌, ap, eqb-true, stamp_text}
+use Rattle.dv_text.proofs.Vocabulary.{ap, eqb-true, stamp_text, sym, ◌∙◌}
 use Rattle.dv_text.proofs.Shown.{stamp_text-open}
 use Rattle.dv_text.proofs.stamps.Stamp.print.Goals as goal
 

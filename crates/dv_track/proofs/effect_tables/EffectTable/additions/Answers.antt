@@ -1,5 +1,4 @@
-use Rattle.dv_track.proofs.Vocabulary.{◌≡◌, ◌∙◌, sym, nat_le, All-map, list_all-map}
-use Rattle.dv_records.specs.declared.raw_rows.EffectRow.{EffectRow}
+use Rattle.dv_track.proofs.Vocabulary.{All-map, EffectRow, list_all-map, nat_le, sym, ◌∙◌, ◌≡◌}
 use Rattle.dv_track.proofs.effect_tables.EffectTable.additions.Goals as goal
 
 pub delta-requires-clause-not_later : goal.delta-requires-clause-not_later

@@ -1,6 +1,4 @@
-use Rattle.dv_track.proofs.Vocabulary.{◌++◌, arith, in_load_order}
-use Rattle.dv_records.specs.EffectPlaces.{effect_place}
-use Rattle.dv_records.specs.Effects.{effect_cmp}
+use Rattle.dv_track.proofs.Vocabulary.{arith, effect_cmp, effect_place, in_load_order, ◌++◌}
 use Rattle.dv_track.proofs.effect_tables.EffectTable.apply.Goals as goal
 
 pub apply-requires : goal.apply-requires

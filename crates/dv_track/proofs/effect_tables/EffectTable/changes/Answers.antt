@@ -1,8 +1,5 @@
-use Rattle.dv_track.proofs.Vocabulary.{◌∙◌, refl}
-use Rattle.dv_records.specs.EffectPlaces.{effect_place}
-use Rattle.dv_track.specs.EffectRows.{says_in_effect}
-use Rattle.dv_track.proofs.EffectChanged.{all_changes}
-use Rattle.dv_track.proofs.Presence.{there_ascend}
+use Rattle.dv_track.proofs.Vocabulary.{effect_place, refl, says_in_effect, ◌∙◌}
+use Rattle.dv_track.proofs.{EffectChanged.all_changes, Presence.there_ascend}
 use Rattle.dv_track.proofs.effect_tables.EffectTable.changes.Goals as goal
 
 pub changes_between-requires-clause-was : goal.changes_between-requires-clause-was

@@ -1,6 +1,4 @@
-use Rattle.dv_track.proofs.Vocabulary.{◌≡◌, ◌++◌, ◌∙◌, Some, refl, sym, ap, append_assoc, option_to_list, is_among, least}
-use Rattle.dv_records.specs.EffectPeriods.{in_effect_since}
-use Rattle.dv_track.specs.EffectRows.{effect_turn, effect_turns}
+use Rattle.dv_track.proofs.Vocabulary.{Some, ap, append_assoc, effect_turn, effect_turns, in_effect_since, is_among, least, option_to_list, refl, sym, ◌++◌, ◌∙◌, ◌≡◌}
 use Rattle.dv_track.proofs.Walked.{head_there, left, left_ascends, turn_first}
 use Rattle.dv_track.proofs.effect_tables.EffectTable.changes_between.Goals as goal
 

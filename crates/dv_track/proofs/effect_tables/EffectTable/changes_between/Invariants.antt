@@ -1,5 +1,4 @@
-use Rattle.dv_track.proofs.Vocabulary.{◌≡◌, ◌+◌, ◌++◌, length, IsStrictlySortedBy, digest_cmp}
-use Rattle.dv_track.specs.EffectRows.{effect_turns}
+use Rattle.dv_track.proofs.Vocabulary.{IsStrictlySortedBy, digest_cmp, effect_turns, length, ◌++◌, ◌+◌, ◌≡◌}
 use Rattle.dv_track.proofs.effect_tables.EffectTable.changes_between.Given as goal
 
 -- the rows so far are before those of what is left of both lists

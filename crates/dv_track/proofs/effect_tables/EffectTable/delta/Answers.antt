@@ -1,6 +1,5 @@
-use Rattle.dv_track.proofs.Vocabulary.{◌∙◌, source}
-use Rattle.dv_track.proofs.EffectBatches.{delta_is_batch}
-use Rattle.dv_track.proofs.EffectFollowing.{all_have, follows, keys_tell}
+use Rattle.dv_track.proofs.Vocabulary.{source, ◌∙◌}
+use Rattle.dv_track.proofs.{EffectBatches.delta_is_batch, EffectFollowing.all_have, EffectFollowing.follows, EffectFollowing.keys_tell}
 use Rattle.dv_track.proofs.effect_tables.EffectTable.delta.Goals as goal
 
 pub returns-clause-follows : goal.returns-clause-follows

@@ -1,6 +1,4 @@
-use Rattle.dv_track.proofs.Vocabulary.{◌∙◌, sym, last_load}
-use Rattle.dv_records.specs.declared.raw_rows.EffectRow.{EffectRow}
-use Rattle.dv_records.specs.Effects.{effect_cmp}
+use Rattle.dv_track.proofs.Vocabulary.{EffectRow, effect_cmp, last_load, sym, ◌∙◌}
 use Rattle.dv_track.proofs.effect_tables.EffectTable.has_load.Goals as goal
 
 pub returns-in-Some-clause-value : goal.returns-in-Some-clause-value

@@ -1,5 +1,4 @@
-use Rattle.dv_track.proofs.Vocabulary.{◌∙◌, filter, nat_le}
-use Rattle.dv_records.specs.declared.raw_rows.EffectRow.{EffectRow}
+use Rattle.dv_track.proofs.Vocabulary.{EffectRow, filter, nat_le, ◌∙◌}
 use Rattle.dv_track.proofs.EffectTold.{newest_told}
 use Rattle.dv_track.proofs.effect_tables.EffectTable.periods.Goals as goal
 

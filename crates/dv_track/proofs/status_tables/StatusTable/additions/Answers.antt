@@ -1,4 +1,4 @@
-use Rattle.dv_track.proofs.Vocabulary.{◌≡◌, ◌∙◌, sym, nat_le, All-map, list_all-map, StatusRow}
+use Rattle.dv_track.proofs.Vocabulary.{All-map, StatusRow, list_all-map, nat_le, sym, ◌∙◌, ◌≡◌}
 use Rattle.dv_track.proofs.status_tables.StatusTable.additions.Goals as goal
 
 pub delta-requires-clause-not_later : goal.delta-requires-clause-not_later

@@ -1,4 +1,4 @@
-use Rattle.dv_track.proofs.Vocabulary.{◌++◌, arith, in_load_order, status_cmp, status_place}
+use Rattle.dv_track.proofs.Vocabulary.{arith, in_load_order, status_cmp, status_place, ◌++◌}
 use Rattle.dv_track.proofs.status_tables.StatusTable.apply.Goals as goal
 
 pub apply-requires : goal.apply-requires

@@ -1,6 +1,5 @@
-use Rattle.dv_track.proofs.Vocabulary.{◌∙◌, refl, says_present, status_place}
-use Rattle.dv_track.proofs.Changed.{all_changes}
-use Rattle.dv_track.proofs.Presence.{there_ascend}
+use Rattle.dv_track.proofs.Vocabulary.{refl, says_present, status_place, ◌∙◌}
+use Rattle.dv_track.proofs.{Changed.all_changes, Presence.there_ascend}
 use Rattle.dv_track.proofs.status_tables.StatusTable.changes.Goals as goal
 
 pub changes_between-requires-clause-was : goal.changes_between-requires-clause-was

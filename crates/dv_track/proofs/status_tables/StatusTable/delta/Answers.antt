@@ -1,6 +1,5 @@
-use Rattle.dv_track.proofs.Vocabulary.{◌∙◌, source}
-use Rattle.dv_track.proofs.DeltaBatch.{delta_is_batch}
-use Rattle.dv_track.proofs.Following.{all_have, follows, keys_tell}
+use Rattle.dv_track.proofs.Vocabulary.{source, ◌∙◌}
+use Rattle.dv_track.proofs.{DeltaBatch.delta_is_batch, Following.all_have, Following.follows, Following.keys_tell}
 use Rattle.dv_track.proofs.status_tables.StatusTable.delta.Goals as goal
 
 pub returns-clause-follows : goal.returns-clause-follows

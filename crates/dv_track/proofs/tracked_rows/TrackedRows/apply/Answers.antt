@@ -1,5 +1,4 @@
-use Rattle.dv_track.proofs.Vocabulary.{◌≡◌, ◌++◌, ◌∙◌, refl, ap, arith, length, length-map}
-use Rattle.dv_index.specs.Numbers.{parents_of}
+use Rattle.dv_track.proofs.Vocabulary.{ap, arith, length, length-map, parents_of, refl, ◌++◌, ◌∙◌, ◌≡◌}
 use Rattle.dv_track.proofs.Presence.{kept_ascend, updated_there}
 use Rattle.dv_track.proofs.tracked_rows.TrackedRows.apply.Goals as goal
 
