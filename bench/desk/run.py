@@ -1,13 +1,13 @@
 #!/usr/bin/env python3
 """Requests a second of the desk over a kept connection, against Python's http.server that has the replies in memory.
 
-Usage: python3 bench/desk/run.py [--program FILE] [--customers N] [--repeat N] [--keep FOLDER]
+Usage: python3 bench/desk/run.py [--program FILE] [--before FILE] [--customers N] [--repeat N] [--keep FOLDER]
 
 FILE, or what the environment's VAULTDESK names, is a built vaultdesk; where none is named, the script vaultdesk builds
-the repository's. Loads four windows of N customers, serves the vault, and prints of a list of windows, a mart and a
-small load the requests a second, the median and the 99th percentile of their times, and the MB of replies a second, in
-the best of REPEAT rounds, in which both servers are asked in turn. Then what a request in single bytes costs, and how
-much memory long bodies take.
+the repository's. `--before` names another build, such as the release before, which serves a copy of the same vault. Loads
+four windows of N customers, serves the vault, and prints of a list of windows, a mart and a small load the requests a
+second, the median and the 99th percentile of their times, and the MB of replies a second, in the best of REPEAT rounds, in
+which all servers are asked in turn. Then what a request in single bytes costs, and how much memory long bodies take.
 """
 import argparse
 import datetime
@@ -141,22 +141,31 @@ def show_rates(asked, found):
              f"{late * 1e3:.3f}", f"{size / 1e6 / seconds:.1f}", f"{ours / middle:.2f}"])
 
 
-def compare_rates(program, vault, folder, repeat):
-    """Serves a copy of the vault, and asks it and the peer."""
+def made_desk(name, program, vault, folder):
+    """A desk over a copy of the vault."""
+    return Server(name, copied(vault, folder / name), lambda port: [program, "serve", str(port)])
+
+
+def compare_rates(programs, vault, folder, repeat):
+    """Serves a copy of the vault by each program, and asks these and the peer."""
     all_kinds = kinds()
-    desk = Server("ours", copied(vault, folder / "served"), lambda port: [program, "serve", str(port)])
-    peer = made_peer(folder / "peer", replies_of(desk, all_kinds))
+    desks = [made_desk(name, program, vault, folder) for name, program in programs.items()]
+    replies = [replies_of(desk, all_kinds) for desk in desks]
+    if any(reply[MART] != replies[0][MART] for reply in replies):
+        raise SystemExit("the marts of the programs differ")
+    servers = [*desks, made_peer(folder / "peer", replies[0])]
     head(["asked", "bytes of a reply", "who", "requests a second", "median, ms", "99th percentile, ms", "MB/s",
           "ours takes, times"])
     for asked in all_kinds:
-        show_rates(asked, best_rounds((desk, peer), asked, repeat))
-    for server in (desk, peer):
+        show_rates(asked, best_rounds(servers, asked, repeat))
+    for server in servers:
         server.end()
 
 
 def arguments():
     parser = argparse.ArgumentParser(description=__doc__, formatter_class=argparse.RawDescriptionHelpFormatter)
     parser.add_argument("--program", type=pathlib.Path, default=os.environ.get("VAULTDESK"))
+    parser.add_argument("--before", type=pathlib.Path)
     parser.add_argument("--customers", type=int, default=20_000)
     parser.add_argument("--repeat", type=int, default=3)
     parser.add_argument("--keep", type=pathlib.Path)
@@ -166,11 +175,12 @@ def arguments():
 def main():
     given = arguments()
     program = pathlib.Path(given.program).resolve() if given.program else built_program()
+    programs = {"ours": program} | ({"before": given.before.resolve()} if given.before else {})
     with tempfile.TemporaryDirectory() as made:
         made = pathlib.Path(made)
         (given.keep or made).mkdir(parents=True, exist_ok=True)
         vault = loaded(program, (given.keep or made) / f"customers_{given.customers}", given.customers)
-        compare_rates(program, vault, made, given.repeat)
+        compare_rates(programs, vault, made, given.repeat)
         print()
         show_single_bytes(program, copied(vault, made / "pieces"))
         print()

@@ -1,14 +1,16 @@
 #!/usr/bin/env python3
 """Records a second of `vaultdesk try`, against loaders in Rust that nobody proved, in one run.
 
-Usage: python3 bench/load/run.py [--shared FOLDER] [--program FILE] [--customers N,N,..] [--repeat N] [--keep FOLDER]
-       python3 bench/load/run.py --phones N,N,.. [--program FILE] [--repeat N] [--keep FOLDER]
+Usage: python3 bench/load/run.py [--shared FOLDER] [--program FILE] [--before FILE] [--customers N,N,..] [--repeat N]
+                                 [--keep FOLDER]
+       python3 bench/load/run.py --phones N,N,.. [--program FILE] [--before FILE] [--repeat N] [--keep FOLDER]
 
 FOLDER (`shared/bench` beside the repository, where it isn't said) has gen.py, which writes mappings and windows, and
 rust_peer/, whose two programs are built with cargo into a folder of this run. With --phones, phones.py and phones_peer.rs
 beside this file stand for them. FILE is a built vaultdesk; where it isn't said, the script vaultdesk builds the
-repository's. Loads four windows of each size, REPEAT times in turn, ours also with settings of the allocator, compares
-what all write, and prints the best rates, the growth and the peaks of memory.
+repository's. `--before` names another build, such as the release before. Loads four windows of each size, REPEAT times in
+turn, ours also with settings of the allocator, compares what all write, and prints the best rates, the growth and the peaks
+of memory.
 """
 import argparse
 import os
@@ -29,8 +31,7 @@ MANIFESTS = [f"w{number}.toml" for number in range(1, WINDOWS + 1)]
 # Huge pages, no bins of small blocks, and no memory given back before the end.
 TUNED = ["hugetlb=1", "mxfast=0", "trim_threshold=4000000000", "mmap_threshold=4000000000"]
 
-# Our runs, by what each adds to the environment.
-OURS = {"ours": {}, "ours_tuned": {"GLIBC_TUNABLES": ":".join(f"glibc.malloc.{setting}" for setting in TUNED)}}
+TUNES = {"GLIBC_TUNABLES": ":".join(f"glibc.malloc.{setting}" for setting in TUNED)}
 
 
 class Orders:
@@ -98,9 +99,9 @@ def run_peer(program, data, out):
     return taken, used, peak, [int(words[2]) for words in lines if words[1].startswith("added_")]
 
 
-def compare_marts(out, name):
+def compare_marts(builds, out, name):
     """Whether the mart of each of our runs is that of a peer, byte for byte."""
-    for ours in OURS:
+    for ours in builds:
         if (out / f"{ours}.csv").read_bytes() != (out / "mart_last.csv").read_bytes():
             raise SystemExit(f"the mart of {ours} differs from that of {name}: see {out}")
 
@@ -118,17 +119,17 @@ def compare_tables(program, peer, data, out):
     return len(names)
 
 
-def measure(program, peers, feed, data, out, repeat):
+def measure(builds, peers, feed, data, out, repeat):
     """What each took at best, where they run in turn."""
-    runs = {name: [] for name in [*OURS, *peers]}
+    runs = {name: [] for name in [*builds, *peers]}
     for _ in range(repeat):
-        for name, settings in OURS.items():
+        for name, (program, settings) in builds.items():
             runs[name].append(run_ours(program, settings, feed, data, out / f"{name}.csv"))
         for name, peer in peers.items():
             runs[name].append(run_peer(peer, data, out))
-            compare_marts(out, name)
+            compare_marts(builds, out, name)
     added = {name: all_runs[0][3] for name, all_runs in runs.items()}
-    for name in OURS:
+    for name in builds:
         if added[name] != added["rust_peer"]:
             raise SystemExit(f"the windows add other numbers of rows: {added[name]} and {added['rust_peer']}")
     return {name: best(all_runs) for name, all_runs in runs.items()}
@@ -158,6 +159,7 @@ def main():
     parser = argparse.ArgumentParser(description=__doc__, formatter_class=argparse.RawDescriptionHelpFormatter)
     parser.add_argument("--shared", type=pathlib.Path, default=TOP.parent / "shared/bench")
     parser.add_argument("--program", type=pathlib.Path)
+    parser.add_argument("--before", type=pathlib.Path)
     parser.add_argument("--customers", default="2000,20000,200000")
     parser.add_argument("--phones")
     parser.add_argument("--repeat", type=int, default=3)
@@ -167,6 +169,10 @@ def main():
     out = folder / "out"
     out.mkdir(parents=True, exist_ok=True)
     program = (given.program or built_program()).resolve()
+    # Our runs, each a program and what it adds to the environment.
+    builds = {"ours": (program, {}), "ours_tuned": (program, TUNES)}
+    if given.before:
+        builds["before"] = (given.before.resolve(), {})
     work = Phones() if given.phones else Orders(given.shared.resolve())
     peers = work.build_peers(folder)
     print(f"load average before: {os.getloadavg()[0]:.1f} on {os.cpu_count()} processors")
@@ -174,7 +180,7 @@ def main():
     found = {}
     for size in sizes:
         data = make_data(work, folder, size)
-        found[size] = count_records(data), measure(program, peers, work.feed, data, out, given.repeat)
+        found[size] = count_records(data), measure(builds, peers, work.feed, data, out, given.repeat)
     tables = compare_tables(program, peers["rust_peer"], make_data(work, folder, sizes[0]), out)
     print(f"load average after: {os.getloadavg()[0]:.1f}")
     print(f"marts of all sizes, and {tables} tables of the smallest, are equal byte for byte\n")

@@ -1,13 +1,15 @@
 #!/usr/bin/env python3
 """Seconds and MB a second of marts, point-in-time tables and bridges over a kept vault, against PostgreSQL 15.
 
-Usage: python3 bench/marts/run.py [--program FILE] [--sizes N,N,..] [--only hub|paths] [--repeat N] [--keep FOLDER] [--peers-only]
+Usage: python3 bench/marts/run.py [--program FILE] [--before FILE] [--sizes N,N,..] [--only hub|paths] [--repeat N]
+                                  [--keep FOLDER] [--peers-only]
 
 FILE, or what the environment's VAULTDESK names, is a built vaultdesk; where none is named, the script vaultdesk builds
 the repository's. Of each subject, a hub and paths, loads four windows of each size once with each, asks each query
 REPEAT times in turn, compares what is answered, and prints the best times. At the smallest size every query is also
 asked at the date of each window, and compared with what the extracts themselves say (`model.py`, `path_model.py`).
-`--peers-only` leaves the program out.
+`--before` names another build, such as the release before, which is asked in the same turns. `--peers-only` leaves the
+program out.
 """
 import argparse
 import contextlib
@@ -40,10 +42,8 @@ class Asked(NamedTuple):
 class Ours:
     """A process for each query, which reads and checks the whole of vault.db first."""
 
-    name = "ours"
-
-    def __init__(self, program):
-        self.program = program
+    def __init__(self, program, name="ours"):
+        self.program, self.name = pathlib.Path(program).resolve(), name
 
     def load(self, subject, data, out):
         """Keeps the vault as the windows leave it, since a snapshot is stored once."""
@@ -181,6 +181,7 @@ def show_empty(subject, found):
 def arguments():
     parser = argparse.ArgumentParser(description=__doc__, formatter_class=argparse.RawDescriptionHelpFormatter)
     parser.add_argument("--program", type=pathlib.Path, default=os.environ.get("VAULTDESK"))
+    parser.add_argument("--before", type=pathlib.Path)
     parser.add_argument("--sizes", default="20000,200000")
     parser.add_argument("--only", choices=SUBJECTS)
     parser.add_argument("--repeat", type=int, default=3)
@@ -194,6 +195,14 @@ def make_data(subject, folder, size):
     if not data.exists():
         subject.write(data, size, WINDOWS)
     return data
+
+
+def builds(given):
+    """The program, and another build of it where one is named."""
+    if given.peers_only:
+        return []
+    ours = [Ours(given.program or built_program())]
+    return [*ours, Ours(given.before, "before")] if given.before else ours
 
 
 def measure_all(subject, peers, folder, sizes, repeat):
@@ -216,7 +225,7 @@ def main():
     subjects = [SUBJECTS[given.only]] if given.only else SUBJECTS.values()
     print(f"load average before: {os.getloadavg()[0]:.1f} on {os.cpu_count()} processors")
     with contextlib.ExitStack() as ending:
-        peers = [] if given.peers_only else [Ours(pathlib.Path(given.program or built_program()).resolve())]
+        peers = builds(given)
         if postgres.is_there():
             peers.append(OverPostgres(ending.enter_context(postgres.Server(folder / "server", HERE))))
         else:
