@@ -1,16 +1,16 @@
 #!/usr/bin/env python3
 """Records a second of `vaultdesk try`, against loaders in Rust that nobody proved, in one run.
 
-Usage: python3 bench/load/run.py [--shared FOLDER] [--program FILE] [--before FILE] [--customers N,N,..] [--repeat N]
-                                 [--keep FOLDER]
-       python3 bench/load/run.py --phones N,N,.. [--program FILE] [--before FILE] [--repeat N] [--keep FOLDER]
+Usage: python3 bench/load/run.py [--shared FOLDER] [--program FILE] [--before FILE] [--workers N] [--customers N,N,..]
+                                 [--repeat N] [--keep FOLDER]
+       python3 bench/load/run.py --phones N,N,.. [--program FILE] [--before FILE] [--workers N] [--repeat N] [--keep FOLDER]
 
 FOLDER (`shared/bench` beside the repository, where it isn't said) has gen.py, which writes mappings and windows, and
 rust_peer/, whose two programs are built with cargo into a folder of this run. With --phones, phones.py and phones_peer.rs
 beside this file stand for them. FILE is a built vaultdesk; where it isn't said, the script vaultdesk builds the
-repository's. `--before` names another build, such as the release before. Loads four windows of each size, REPEAT times in
-turn, ours also with settings of the allocator, compares what all write, and prints the best rates, the growth and the peaks
-of memory.
+repository's. `--before` names another build, such as the release before. Ours have one worker where `--workers` doesn't
+say otherwise, since the peers have one thread. Loads four windows of each size, REPEAT times in turn, ours also with
+settings of the allocator, compares what all write, and prints the best rates, the growth and the peaks of memory.
 """
 import argparse
 import os
@@ -84,9 +84,9 @@ def last_date(data):
     return (data / MANIFESTS[-1]).read_text().split('"')[1]
 
 
-def run_ours(program, settings, feed, data, mart):
+def run_ours(program, settings, workers, feed, data, mart):
     """Our time is that of the process, and what it says of each window is compared with what the peer added."""
-    command = [program, "try", f"feed:{feed}", last_date(data), *MANIFESTS]
+    command = [program, "try", "--workers", str(workers), f"feed:{feed}", last_date(data), *MANIFESTS]
     taken, used, peak, said = run(command, data, mart, settings)
     return taken, used, peak, [int(line.rpartition(" ")[2]) for line in said]
 
@@ -123,8 +123,8 @@ def measure(builds, peers, feed, data, out, repeat):
     """What each took at best, where they run in turn."""
     runs = {name: [] for name in [*builds, *peers]}
     for _ in range(repeat):
-        for name, (program, settings) in builds.items():
-            runs[name].append(run_ours(program, settings, feed, data, out / f"{name}.csv"))
+        for name, build in builds.items():
+            runs[name].append(run_ours(*build, feed, data, out / f"{name}.csv"))
         for name, peer in peers.items():
             runs[name].append(run_peer(peer, data, out))
             compare_marts(builds, out, name)
@@ -160,6 +160,7 @@ def main():
     parser.add_argument("--shared", type=pathlib.Path, default=TOP.parent / "shared/bench")
     parser.add_argument("--program", type=pathlib.Path)
     parser.add_argument("--before", type=pathlib.Path)
+    parser.add_argument("--workers", type=int, default=1)
     parser.add_argument("--customers", default="2000,20000,200000")
     parser.add_argument("--phones")
     parser.add_argument("--repeat", type=int, default=3)
@@ -169,10 +170,10 @@ def main():
     out = folder / "out"
     out.mkdir(parents=True, exist_ok=True)
     program = (given.program or built_program()).resolve()
-    # Our runs, each a program and what it adds to the environment.
-    builds = {"ours": (program, {}), "ours_tuned": (program, TUNES)}
+    # Our runs, each a program, what it adds to the environment, and how many workers it has.
+    builds = {"ours": (program, {}, given.workers), "ours_tuned": (program, TUNES, given.workers)}
     if given.before:
-        builds["before"] = (given.before.resolve(), {})
+        builds["before"] = (given.before.resolve(), {}, given.workers)
     work = Phones() if given.phones else Orders(given.shared.resolve())
     peers = work.build_peers(folder)
     print(f"load average before: {os.getloadavg()[0]:.1f} on {os.cpu_count()} processors")

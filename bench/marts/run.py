@@ -2,14 +2,14 @@
 """Seconds and MB a second of marts, point-in-time tables and bridges over a kept vault, against PostgreSQL 15.
 
 Usage: python3 bench/marts/run.py [--program FILE] [--before FILE] [--sizes N,N,..] [--only hub|paths] [--repeat N]
-                                  [--keep FOLDER] [--peers-only]
+                                  [--keep FOLDER] [--desk] [--peers-only]
 
 FILE, or what the environment's VAULTDESK names, is a built vaultdesk; where none is named, the script vaultdesk builds
-the repository's. Of each subject, a hub and paths, loads four windows of each size once with each, asks each query
-REPEAT times in turn, compares what is answered, and prints the best times. At the smallest size every query is also
-asked at the date of each window, and compared with what the extracts themselves say (`model.py`, `path_model.py`).
-`--before` names another build, such as the release before, which is asked in the same turns. `--peers-only` leaves the
-program out.
+the repository's. Of each subject, a hub and paths, loads four windows of each size once with each, asks each query and an
+empty one REPEAT times in turn, compares what is answered, and prints the best times. At the smallest size every query is
+also asked at the date of each window, and compared with what the extracts themselves say (`model.py`, `path_model.py`).
+`--before` names another build, such as the release before, which is asked in the same turns. With `--desk` marts alone are
+asked, and ours of a desk, which has read the vault before. `--peers-only` leaves the program out.
 """
 import argparse
 import contextlib
@@ -18,11 +18,13 @@ import pathlib
 import shutil
 import sys
 import tempfile
+import time
 from typing import NamedTuple
 
 HERE = pathlib.Path(__file__).resolve().parent
-sys.path[1:1] = [str(HERE.parent), str(HERE.parent / "kept")]
+sys.path[1:1] = [str(HERE.parent), str(HERE.parent / "kept"), str(HERE.parent / "desk")]
 import postgres  # noqa: E402
+from asking import Link, Server, get  # noqa: E402
 from runs import built_program, head, row, run  # noqa: E402
 from subjects import SUBJECTS  # noqa: E402
 
@@ -32,11 +34,15 @@ DATES = [f"2024-03-{number:02d}T02:00:00" for number in range(1, WINDOWS + 1)]
 
 
 class Asked(NamedTuple):
-    """The best seconds of a query, the bytes of its text, and how many rows that has."""
+    """The best seconds of a query and of an empty one in the same turns, the bytes of its text, and how many rows that has."""
 
     seconds: float
+    empty: float
     size: int
     rows: int
+
+    def beyond(self):
+        return self.seconds - self.empty
 
 
 class Ours:
@@ -64,6 +70,34 @@ class Ours:
         folder = out if query in ("snapshot", *subject.stored) else out / "loaded"
         dated = [] if query == "nothing" else [date]
         return run([self.program, *subject.words[query], *dated], folder, text)[0]
+
+
+class AtDesk(Ours):
+    """A desk, which reads and checks vault.db once: a request for each mart."""
+
+    desk = None
+
+    def load(self, subject, data, out):
+        self.end()
+        super().load(subject, data, out)
+        self.desk = Server(self.name, out / "loaded", lambda port: [self.program, "serve", str(port)])
+
+    def ask(self, subject, query, date, out, text):
+        link = Link(self.desk)
+        target = "/windows" if query == "nothing" else f"/marts/{subject.words[query][1]}?at={date}"
+        begun = time.perf_counter()
+        size = link.ask(get(target))
+        taken = time.perf_counter() - begun
+        head, _, body = bytes(link.room[:size]).partition(b"\r\n\r\n")
+        link.close()
+        if not head.startswith(b"HTTP/1.1 200 "):
+            raise SystemExit(f"{target}: {head}")
+        text.write_bytes(body)
+        return taken
+
+    def end(self):
+        if self.desk:
+            self.desk.end()
 
 
 class OverPostgres:
@@ -104,37 +138,44 @@ def has_text(query):
     return query not in ("nothing", "snapshot")
 
 
-def measure(subject, peers, data, folder, repeat):
-    """The best of each query at the last date, where the peers are asked in turn."""
+def best_times(subject, peers, query, folder, repeat):
+    """The best seconds of a query at the last date and of an empty one by each peer, where both and all are asked in turn."""
+    times = {peer.name: ([], []) for peer in peers}
+    for _ in range(repeat):
+        for peer in peers:
+            for asked, taken in zip((query, "nothing"), times[peer.name]):
+                taken.append(peer.ask(subject, asked, DATES[-1], folder / peer.name, text_of(peer, asked, folder)))
+    return {name: tuple(map(min, taken)) for name, taken in times.items()}
+
+
+def measure(subject, peers, queries, data, folder, repeat):
+    """What is found of each query at the last date."""
     for peer in peers:
         out = folder / peer.name
         shutil.rmtree(out, ignore_errors=True)
         out.mkdir()
         peer.load(subject, data, out)
     found = {peer.name: {} for peer in peers}
-    for query in subject.queries():
-        best = {peer.name: [] for peer in peers}
-        for _ in range(repeat):
-            for peer in peers:
-                best[peer.name].append(peer.ask(subject, query, DATES[-1], folder / peer.name, text_of(peer, query, folder)))
+    for query in queries:
+        best = best_times(subject, peers, query, folder, repeat)
         text = compared(peers, query, folder, DATES[-1]) if has_text(query) else b""
         for name, seconds in best.items():
-            found[name][query] = Asked(min(seconds), len(text), text.count(b"\n") - 1)
-    for asked in found.values():
+            found[name][query] = Asked(*seconds, len(text), text.count(b"\n") - 1)
+    for asked in found.values() if "snapshot" in queries else ():
         # what a snapshot stores is what is read of it then
         stored = [asked[query] for query in subject.stored]
-        asked["snapshot"] = Asked(asked["snapshot"].seconds, sum(one.size for one in stored), sum(one.rows for one in stored))
+        asked["snapshot"] = asked["snapshot"]._replace(size=sum(one.size for one in stored), rows=sum(one.rows for one in stored))
     return found
 
 
-def compare_dates(subject, peers, data, folder):
+def compare_dates(subject, peers, queries, data, folder):
     """At the date of each window, and at one before all and one between two, each answer is what the extracts say."""
     model = subject.model(data, MANIFESTS)
     dates = ["2024-02-29T00:00:00", *DATES, "2024-03-02T12:00:00"]
     for date in dates:
-        for query in subject.queries():
+        for query in queries:
             # a snapshot is stored at the date of a sealed window or behind one, and never before the first
-            if query == "nothing" or date < DATES[0] and query in ("snapshot", *subject.stored):
+            if date < DATES[0] and query in ("snapshot", *subject.stored):
                 continue
             for peer in peers:
                 peer.ask(subject, query, date, folder / peer.name, text_of(peer, query, folder))
@@ -148,12 +189,12 @@ def show(subject, found):
     head([subject.unit, "asked", "rows", "MB", "who", "s", "s beyond an empty query", "MB/s", "MB/s beyond it", "ours takes, times", "growth a row"])
     sizes = sorted(found)
     for at, size in enumerate(sizes):
-        for query in subject.shown:
+        for query in next(iter(found[size].values())):
             for name, asked in found[size].items():
-                one, empty = asked[query], asked["nothing"].seconds
+                one = asked[query]
                 before = found[sizes[at - 1]][name][query] if at else None
-                row([f"{size:,}", subject.shown[query], f"{one.rows:,}", f"{one.size / 1e6:.2f}", name, f"{one.seconds:.3f}", f"{one.seconds - empty:.3f}",
-                     f"{one.size / 1e6 / one.seconds:.1f}", f"{rate(one.size, one.seconds - empty)}", times(found[size], query, one), growth(one, before)])
+                row([f"{size:,}", subject.shown[query], f"{one.rows:,}", f"{one.size / 1e6:.2f}", name, f"{one.seconds:.3f}", f"{one.beyond():.3f}",
+                     f"{one.size / 1e6 / one.seconds:.1f}", f"{rate(one.size, one.beyond())}", times(found[size], query, one), growth(one, before)])
 
 
 def rate(size, seconds):
@@ -174,7 +215,7 @@ def show_empty(subject, found):
     head([subject.unit, "who", "empty query, s"])
     for size, by_name in sorted(found.items()):
         for name, asked in by_name.items():
-            row([f"{size:,}", name, f"{asked['nothing'].seconds:.3f}"])
+            row([f"{size:,}", name, f"{min(one.empty for one in asked.values()):.3f}"])
     print()
 
 
@@ -186,6 +227,7 @@ def arguments():
     parser.add_argument("--only", choices=SUBJECTS)
     parser.add_argument("--repeat", type=int, default=3)
     parser.add_argument("--keep", type=pathlib.Path)
+    parser.add_argument("--desk", action="store_true")
     parser.add_argument("--peers-only", action="store_true")
     return parser.parse_args()
 
@@ -201,18 +243,19 @@ def builds(given):
     """The program, and another build of it where one is named."""
     if given.peers_only:
         return []
-    ours = [Ours(given.program or built_program())]
-    return [*ours, Ours(given.before, "before")] if given.before else ours
+    kind = AtDesk if given.desk else Ours
+    ours = [kind(given.program or built_program())]
+    return [*ours, kind(given.before, "before")] if given.before else ours
 
 
-def measure_all(subject, peers, folder, sizes, repeat):
+def measure_all(subject, peers, queries, folder, sizes, repeat):
     """What was found at each size, and at how many dates the answers were compared with the extracts."""
     found, dates = {}, 0
     for size in sizes:
         data = make_data(subject, folder, size)
-        found[size] = measure(subject, peers, data, folder, repeat)
+        found[size] = measure(subject, peers, queries, data, folder, repeat)
         if size == sizes[0]:
-            dates = compare_dates(subject, peers, data, folder)
+            dates = compare_dates(subject, peers, queries, data, folder)
     return found, dates
 
 
@@ -226,12 +269,15 @@ def main():
     print(f"load average before: {os.getloadavg()[0]:.1f} on {os.cpu_count()} processors")
     with contextlib.ExitStack() as ending:
         peers = builds(given)
+        for peer in peers if given.desk else ():
+            ending.callback(peer.end)
         if postgres.is_there():
             peers.append(OverPostgres(ending.enter_context(postgres.Server(folder / "server", HERE))))
         else:
             print("PostgreSQL is absent here (Debian package postgresql), so it is left out")
         for subject in subjects:
-            found, dates = measure_all(subject, peers, folder, sizes, given.repeat)
+            queries = subject.marts() if given.desk else list(subject.shown)
+            found, dates = measure_all(subject, peers, queries, folder, sizes, given.repeat)
             print(f"load average after: {os.getloadavg()[0]:.1f}")
             print(f"all texts are equal byte for byte; at {sizes[0]:,} {subject.unit} also those at {dates} dates, and to what the extracts say\n")
             show(subject, found)

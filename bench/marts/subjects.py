@@ -28,8 +28,8 @@ class Subject(NamedTuple):
     # the queries that write what `snapshot` stored
     stored: tuple
 
-    def queries(self):
-        return [*self.words]
+    def marts(self):
+        return [query for query in self.shown if self.words[query][0] == "mart"]
 
 
 NOTHING = {"nothing": ["windows"]}
