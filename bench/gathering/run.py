@@ -58,7 +58,7 @@ def own_keys(number):
 
 
 def shared_keys(number):
-    """Four of a thousand keys each; no two records have the same four."""
+    """Four of a thousand keys each, at most; no two records have the same four."""
     first, second = number % SHARED_KEYS, number // SHARED_KEYS
     third = (7 * first + second) % SHARED_KEYS
     return f"N{first:03},E{second:03},S{third:03},W{(first + third) % SHARED_KEYS:03}"
