@@ -12,6 +12,7 @@ use Rattle.dv_http.specs.declared.requests.Request.{Request}
 use Rattle.dv_serving.specs.Exchanges.{Chain, Exchange}
 use Rattle.dv_serving.specs.Serving.{IsServedWhole, ServesOn, Tells}
 use Rattle.dv_serving.specs.declared.served.Served.{Served}
+use Rattle.dv_serving.specs.declared.served.Served.TheVariants as served
 use Rattle.dv_desk.specs.declared.answers.Answer.{Answer}
 use Rattle.dv_desk.specs.declared.answers.Answer.TheVariants as answers
 use Rattle.dv_desk.specs.Answers.{refusal, reply_of}
@@ -87,3 +88,7 @@ pub record IsSurelyReplied (function : DigestFunction) (before : Moment) (reques
 pub record ServesWhole {L : Type 0} (function : DigestFunction) (tells : Tells L) (line back : L) (before after : Moment) (how : Served) : Type 0 where
   pub whole : IsServedWhole how
   pub sure : NoFault before.faults after.faults → ServesOn (IsSurelyReplied function) refusal tells line back before after how
+
+-- that is so, unless memory ran out
+abbrev pub LinkCompletes : {L : Type 0} → DigestFunction → Tells L → L → L → Moment → Moment → Served → Type 0
+LinkCompletes function tells line back before after how = (how ≡ served.Memory → ⊥) → ServesWhole function tells line back before after how

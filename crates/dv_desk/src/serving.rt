@@ -1,11 +1,11 @@
 // A connection is served by the desk.
-ghost use Rattle.std.specs.Prelude.{◌≡◌, ◌≤◌};
+ghost use Rattle.std.specs.Prelude.{◌≤◌};
 ghost use Rattle.dv_outside.specs.Seen.{NoFault};
 ghost use Rattle.dv_serving.specs.Serving.{IsServedCause, tells};
 ghost use Rattle.dv_serving.specs.declared.served.Served.{Served};
 ghost use Rattle.dv_serving.specs.declared.served.Served.TheVariants as served;
 ghost use Rattle.dv_window.specs.Offices.{AgreesUnlessStale};
-ghost use Rattle.dv_desk.specs.Serving.{Serves, ServesWhole};
+ghost use Rattle.dv_desk.specs.Serving.{LinkCompletes, Serves};
 ghost use Rattle.dv_desk.specs.Turns.{moment};
 
 use crate::desks::{Desk, Loading};
@@ -48,7 +48,7 @@ pub fn serve_link<R: Threads + Sync, L: Link, K: Keeper, H: KeyDigest, G: Gate>(
 
     // With no fault of the connection and memory enough, all that was taken was answered, and each reply was written whole; with
     // no fault of the keeper either none was that it failed.
-    ensures complete { NoFault (L.faults link.old) (L.faults link.new) → (result ≡ served.Memory → ⊥) → ServesWhole H.function (tells L.Link) link.old link.new
+    ensures complete { NoFault (L.faults link.old) (L.faults link.new) → LinkCompletes H.function (tells L.Link) link.old link.new
         (moment K.store K.faults office.old keeper.old) (moment K.store K.faults office.new keeper.new) result }
     ensures agrees { AgreesUnlessStale office.new (K.store keeper.new) }
     ensures later { L.faults link.old ≤ L.faults link.new }
