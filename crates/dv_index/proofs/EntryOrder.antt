@@ -1,7 +1,7 @@
 -- Entries stand in the order of their rows.
 use Rattle.dv_index.proofs.Vocabulary.{All, All-append, All-get_or, All-permutation, AreEntries, Bool, Entry, Equal, Greater, IsDigest, IsEntry, IsIndex, IsPermutation, IsPermutation-map, IsSorted, IsStrictWeakOrder, IsTotalOrder, Less, List, Ordering, Place, [], ap, arith, digest_prefix}
 use Rattle.dv_index.proofs.Vocabulary.{entry_at, entry_cmp, get_or, get_or-map, get_or-take, is_entry_reached, is_lt, is_reached, is_reached_by, length, length-append, length-map, length-take-le, map, map-append, nat_cmp_total, number_cmp, numbers_of, on_total, ordering_then, parent_at}
-use Rattle.dv_index.proofs.Vocabulary.{parents_of, prefix_first, range_with_len, ranks_by, refl, subst, sym, take, take_at, then_total, ℕ, ◌++◌, ◌+◌, ◌-◌, ◌<◌, ◌∙◌, ◌∷◌, ◌≡◌, ◌≤◌}
+use Rattle.dv_index.proofs.Vocabulary.{parents_of, prefix_first, range_with_len, ranks_by, refl, subst, sym, take, then_total, ℕ, ◌++◌, ◌+◌, ◌-◌, ◌<◌, ◌∙◌, ◌∷◌, ◌≡◌, ◌≤◌}
 use Rattle.dv_index.proofs.{Grown.grown_numbers, Grown.index_length, Grown.still_sorted, Order.number_total, Order.within}
 
 -- the entry that is read where there is none
@@ -114,11 +114,6 @@ module _ (parents : List (List ℕ)) where
 -- there are as many entries as rows
 pub entries_length : (parents : List (List ℕ)) (index : List Entry) → AreEntries parents index → length index ≡ length parents
 entries_length parents index is = sym (length-map index (λ entry. entry.number)) ∙ index_length parents (numbers_of index) is.index
-
--- the index of some rows is one of the first of these and others
-pub kept_entries : {X : Type 0} (place : X → Place) (old more all : List X) (index : List Entry) → all ≡ old ++ more → AreEntries (parents_of place old) index → AreEntries (take (length index) (parents_of place all)) index
-kept_entries place old more all index e is =
-    rw (e, map-append, take_at (parents_of place old) (parents_of place more) (length index) (sym (entries_length (parents_of place old) index is))) is
 
 -- with others behind some rows, there are as many as these have entries, and the others
 pub counted : {X : Type 0} (place : X → Place) (old more all : List X) (index : List Entry) → all ≡ old ++ more → AreEntries (parents_of place old) index → length all ≡ length index + length more

@@ -1,7 +1,7 @@
 -- The row before another one of its parent in an index is the last one of the parent before it.
-use Rattle.dv_index.proofs.Vocabulary.{AllPairs, AllPairs-from_IsDistinct, Bool, Decides-eqb, Equal, Greater, IsDistinct-IsPermutation, IsDistinct-from_AllPairs, IsIndex, Less, List, None, Option, Ordering, Place, Some, [], ap, arith, bytes_eq, bytes_eq-Decides, cases_lt, false}
-use Rattle.dv_index.proofs.Vocabulary.{false_from_ne_true, false≢true, fits_at, get_or, get_or-map, get_or-range_with_len, get_or-take, get_or_default, inl, inr, is_lt, last_of, length, length-map, length-range_with_len, length-take-le, min, nat_cmp, nat_list_cmp_total, nat_tests, ordering_then}
-use Rattle.dv_index.proofs.Vocabulary.{parent_at, parents_of, range_with_len, refl, row_before, slice_get, slice_get-get_or, sym, take, text_cmp, text_cmp-IsAntisymmetric, true, turned, ℕ, ◌+◌, ◌-◌, ◌<◌, ◌==◌, ◌∙◌, ◌≡◌, ◌≤◌, ◌⊎◌}
+use Rattle.dv_index.proofs.Vocabulary.{AllPairs, AllPairs-from_IsDistinct, Bool, Decides-eqb, Equal, Greater, IsDistinct-IsPermutation, IsDistinct-from_AllPairs, IsIndex, Less, List, None, Ordering, Place, Some, [], arith, bytes_eq, bytes_eq-Decides, cases_lt, false}
+use Rattle.dv_index.proofs.Vocabulary.{false_from_ne_true, false≢true, get_or, get_or-map, get_or-range_with_len, get_or-take, get_or_default, inl, inr, is_lt, last_of, length, length-map, length-range_with_len, length-take-le, nat_cmp, nat_list_cmp_total, nat_tests, ordering_then}
+use Rattle.dv_index.proofs.Vocabulary.{parent_at, parents_of, range_with_len, refl, row_before, slice_get, slice_get-get_or, sym, take, text_cmp, text_cmp-IsAntisymmetric, true, turned, ℕ, ◌-◌, ◌<◌, ◌==◌, ◌∙◌, ◌≡◌, ◌≤◌, ◌⊎◌}
 use Rattle.dv_index.proofs.{LastFound.last_none, LastFound.last_found, Latest.same_cmp, Order.in_order, Order.le_from_not_lt, Order.number_there, Order.within}
 
 -- ---- each number once
@@ -151,12 +151,6 @@ module _ {X : Type 0} (place : X → Place) (rows : List X) (index : List ℕ) (
           at_row true same = rw (counted, same, there) (sym (last_found_before some other itself (sym its ∙ (bytes_eq-Decides (parent_at (parents_of place rows) last) (place row).parent).0 same)))
           at_row false differs = rw (counted, differs) (sym (last_missing_before some other itself (λ same. false≢true (sym differs ∙ (bytes_eq-Decides (parent_at (parents_of place rows) last) (place row).parent).1 (its ∙ same)))))
 
-  -- so the row fits as it does beside the row before it in the index
-  pub fit_is : (fits : Option X → X → Bool) → fits (row_before place rows index (place row).parent p) row ≡ fits_at place fits rows (get_or index p 0)
-  fit_is fits =
-      let there : slice_get rows (get_or index p 0) ≡ Some row = slice_get-get_or rows (get_or index p 0) row inside ∙ ap Some (sym read) in
-      rw (there, before_is) refl
-
 -- ---- the least number that doesn't fit
 
 -- among the first numbers of an index
@@ -164,41 +158,6 @@ pub record IsLeast (fits : ℕ → Bool) (rows : ℕ) (index : List ℕ) (count 
   pub low : least ≤ rows
   pub below : (k : ℕ) → k < count → fits (get_or index k 0) ≡ false → least ≤ get_or index k 0
   pub unfit : least < rows → fits least ≡ false
-
-pub least_kept : (fits : ℕ → Bool) (rows : ℕ) (index : List ℕ) (count least : ℕ) → IsLeast fits rows index count least → fits (get_or index count 0) ≡ true → IsLeast fits rows index (count + 1) least
-least_kept fits rows index count least so_far fit = record {
-  low = so_far.low;
-  below = λ k under fails. elim (cases_lt k count) [
-    | inl earlier ↦ so_far.below k earlier fails
-    | inr here ↦ let same : k ≡ count = omega arith in absurd (false≢true (sym fails ∙ rw same fit))
-  ];
-  unfit = so_far.unfit;
-}
-
-pub least_taken : (fits : ℕ → Bool) (rows : ℕ) (index : List ℕ) (count least : ℕ) → IsLeast fits rows index count least → fits (get_or index count 0) ≡ false → IsLeast fits rows index (count + 1) (min least (get_or index count 0))
-least_taken fits rows index count least so_far fails = by (cases_lt (get_or index count 0) least)
-  where
-    by : (get_or index count 0 < least) ⊎ (least ≤ get_or index count 0) → IsLeast fits rows index (count + 1) (min least (get_or index count 0))
-    by (inl less) =
-        let is : min least (get_or index count 0) ≡ get_or index count 0 = omega arith in
-        rw is (record {
-          low = omega (arith, so_far.low);
-          below = λ k under unfit. elim (cases_lt k count) [
-            | inl earlier ↦ omega (arith, so_far.below k earlier unfit)
-            | inr here ↦ let same : k ≡ count = omega arith in rw same (omega arith)
-          ];
-          unfit = λ under. fails;
-        })
-    by (inr le) =
-        let is : min least (get_or index count 0) ≡ least = omega arith in
-        rw is (record {
-          low = so_far.low;
-          below = λ k under unfit. elim (cases_lt k count) [
-            | inl earlier ↦ so_far.below k earlier unfit
-            | inr here ↦ let same : k ≡ count = omega arith in rw same le
-          ];
-          unfit = so_far.unfit;
-        })
 
 -- all before it fit
 pub least_fit : (parents : List (List ℕ)) (index : List ℕ) (is : IsIndex parents index) (fits : ℕ → Bool) (count least : ℕ) → IsLeast fits (length parents) index count least → length index ≤ count

@@ -1,7 +1,7 @@
 -- Rows with an index of the first ones and another one of the rest: what is looked up in both is what is looked up in all.
-use Rattle.dv_index.proofs.Vocabulary.{AreEntries, AreRuns, Bool, Contains, Contains-append_right, Contains-get_or, Entry, IsPermutation-refl, List, None, Option, Place, Some, [], and_from, and_parts, ap, append-nil, are_in_load_order, arith, bytes_eq, cases_lt, drop, drop-append-le, drop-take}
+use Rattle.dv_index.proofs.Vocabulary.{AreEntries, AreRuns, Bool, Contains, Contains-append_right, Entry, IsPermutation-refl, List, None, Option, Place, Some, [], and_from, and_parts, ap, append-nil, are_in_load_order, arith, bytes_eq, cases_lt, drop, drop-take}
 use Rattle.dv_index.proofs.Vocabulary.{drop_all, false, find-append, fits_at, get_or, get_or-append-add, get_or_append_left, inl, inr, last_of, latest_at, length, length-append, length-drop, length-map, length-take, list_all, list_all-append, nat_le, nat_tests, option_map, option_or, parents_of}
-use Rattle.dv_index.proofs.Vocabulary.{passes_at, refl, reverse, reverse-append, slice_get, slice_get-get_or, sym, take, take-append-add, take-append-drop, take-append-le, take-map, take-take, take_all, true, ℕ, ◌&&◌, ◌++◌, ◌+◌, ◌-◌, ◌<◌, ◌==◌, ◌∙◌, ◌∷◌, ◌≡◌, ◌≤◌, ◌⊎◌}
+use Rattle.dv_index.proofs.Vocabulary.{passes_at, refl, reverse, reverse-append, slice_get, slice_get-get_or, sym, take, take-append-add, take-append-le, take-map, take_all, true, ℕ, ◌&&◌, ◌++◌, ◌+◌, ◌-◌, ◌<◌, ◌==◌, ◌∙◌, ◌∷◌, ◌≡◌, ◌≤◌}
 use Rattle.dv_index.proofs.{EntryOrder.entries_length, Latest.some_row}
 
 -- ---- the parts
@@ -46,12 +46,6 @@ whole_runs place rows index is =
 
 -- indexes of the first of some rows
 module _ {X : Type 0} (place : X → Place) (rows : List X) (index recent : List Entry) (is : AreRuns place (take (length index + length recent) rows) index recent) where
-  pub first_older : AreEntries (parents_of place (take (length index) rows)) index
-  first_older = rw (take-take (length index) (length index + length recent) rows (omega arith)) at is.older
-
-  pub first_entries : AreEntries (take (length index) (parents_of place rows)) index
-  first_entries = rw take-map first_older
-
   pub first_newer : AreEntries (take (length recent) (parents_of place (drop (length index) rows))) recent
   first_newer = rw take-map (rw (drop-take (length index) (length recent) rows) at is.newer)
 

@@ -8,10 +8,6 @@ module _ {X Y A : Type 0} (value : Y → A) (answer : X → A) (xs : List X) whe
     pub long : length ys ≡ length xs
     pub told : (i : ℕ) (x : X) (y : Y) → Contains places i → i < length xs → value (get_or ys i y) ≡ answer (get_or xs i x)
 
-  -- nothing is asked at first
-  pub none_answered : (ys : List Y) → length ys ≡ length xs → AreAnswered [] ys
-  none_answered ys long = record { long = long; told = λ i x y has under. Contains-nil i has }
-
   last_or_before : (places : List ℕ) (place i : ℕ) → Contains (places ++ place ∷ []) i → Contains places i ⊎ (i ≡ place)
   last_or_before places place i has =
       elim (Contains-append_cases places (place ∷ []) i has) [
