@@ -31,7 +31,7 @@ def build_program(folder):
     program = crates / "board_bench"
     shutil.rmtree(crates / "dv_board", ignore_errors=True)
     shutil.copytree(TOP / "crates/dv_board", crates / "dv_board", ignore=shutil.ignore_patterns("out", "must-fail"))
-    (folder / "crates.txt").write_text("dv_board: atomic_table\nboard_bench: dv_board anyhow\n")
+    (folder / "crates.txt").write_text("dv_board: atomic_table\nboard_bench: dv_board anyhow arrayvec\n")
     shutil.copy(TOP / "HANDLES", folder / "HANDLES")
     for source in (HERE / "program").rglob("*.in"):
         target = program / source.relative_to(HERE / "program").with_suffix("")

@@ -1,6 +1,7 @@
 pub mod BoardMoves
 pub mod KeyCalls
 pub mod KeyClosing
+pub mod KeyLooks
 pub mod KeyMoves
 pub mod KeyProbes
 pub mod KeyRoom

@@ -1,7 +1,7 @@
 -- What holds of a key table's words, the slots, and of the views of its seats between any two steps.
 -- A slot is 0, or an item plus 1, and is then taken by that item. A new table's only seat learns what the items are by a
 -- load, the first step of all; from then on `Holds` is the rule.
-use Rattle.std.specs.Prelude.{◌≡◌, ◌≢◌, ◌⊎◌, ℕ, ◌+◌, ◌-◌, ◌*◌, ◌<◌, ◌≤◌, List, [], ◌∷◌, ◌++◌, slice_index_or, length, replicate, true, false, cond, ◌==◌}
+use Rattle.std.specs.Prelude.{◌≡◌, ◌≢◌, ◌⊎◌, ℕ, ◌+◌, ◌-◌, ◌*◌, ◌<◌, ◌≤◌, List, [], ◌∷◌, ◌++◌, slice_index_or, length, replicate, Bool, true, false, cond, ◌==◌, ◌&&◌, nat_lt, nat_le}
 use mathlib.Core.Option.{some}
 use lib.ListN.{get_elem?}
 use Rattle.atomic_table.specs.Table.{State, Me, Step}
@@ -71,7 +71,7 @@ pub record Holds (k : Keys) (s : State ℕ KeyView) : Type 0 where
   pub sized : length s.words ≡ 3 * length k.classes + 1
   pub each : (id : ℕ) (v : KeyView) → get_elem? s.views id ≡ some v → Fits k v
   pub taken : (slot : ℕ) → word_at s.words slot ≢ 0 → IsTaken k s slot (word_at s.words slot - 1)
-  -- Each finished offer has a slot whose item is the same and not greater, since the step that finishes an offer puts its item into a slot or lowers a slot of its class to it, and no step raises an item.
+  -- Each finished offer has a slot whose item is the same and not greater, since the step that finishes an offer puts its item into a slot, lowers a slot of its class to it or sees such a slot, and no step raises an item.
   pub finished : (id : ℕ) (v : KeyView) → get_elem? s.views id ≡ some v → (a : ℕ) → 1 ≤ times a v.offers → HasSlot k s.words a
   pub probing : (id : ℕ) (v : KeyView) → get_elem? s.views id ≡ some v → v.is_probing ≡ true → IsUnderWay k s.words v
   -- The shares sum to the first seat's, since a split cuts a share in two and a join adds two.
@@ -96,6 +96,18 @@ offered v = record v { offers = v.offers ++ v.item ∷ []; is_probing = false; h
 -- the probe that is under way, or a new one for the item
 abbrev pub begun : KeyView → ℕ → KeyView
 begun v a = cond v.is_probing v (record v { is_probing = true; item = a; passed = 0; has_met = false })
+
+-- a look that found n saw the slot taken by an item that is the same as a and not greater, so the offer of a needs no more
+abbrev pub is_settled_by : KeyView → ℕ → ℕ → Bool
+is_settled_by v a n = nat_lt 0 n && nat_le (n - 1) a && (slice_index_or v.classes (n - 1) 0 == slice_index_or v.classes a 0)
+
+-- What a look for the item a that found n tells: the view after it, in which the offer is finished where it is settled by n, and that n names an item.
+abbrev pub Looked : ℕ → Step ℕ → Me ℕ KeyView → ℕ → Me ℕ KeyView → Type 0
+Looked a _ me n after = (after ≡ (cond (is_settled_by me.0 a n) (offered (begun me.0 a)) me.0, me.1)) × (n ≢ 0 → n - 1 < length me.0.classes)
+
+-- What a look that found n tells where it finishes nothing: the view stays, and n names an item.
+abbrev pub Peeked : Step ℕ → Me ℕ KeyView → ℕ → Me ℕ KeyView → Type 0
+Peeked _ me n after = (after ≡ me) × (n ≢ 0 → n - 1 < length me.0.classes)
 
 -- an exchange that found n: it took the empty slot, or met an item that is the same, or passes the slot
 abbrev pub met_by : KeyView → ℕ → KeyView

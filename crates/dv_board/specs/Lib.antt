@@ -5,6 +5,7 @@ pub mod Items
 pub mod KeyTables
 pub mod KeyRule
 pub mod Listing
+pub mod Looking
 pub mod Probing
 pub mod TaggedItems
 pub mod TaggedLaws

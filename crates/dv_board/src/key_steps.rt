@@ -36,6 +36,33 @@ impl<A: About> Play<u8, KeyView> for Begin<A> {
     ghost then = { Begun A.keys };
 }
 
+/// The item of an offer, which a load can't be told: a caller picks it by `Brand`.
+pub trait Offer {
+    ghost use Rattle.std.specs.Prelude.{ℕ};
+
+    ghost item: { ℕ };
+}
+
+impl Offer for Brand {
+    ghost item = { 0 };
+}
+
+pub struct Look<O: Offer>(PhantomData<O>);
+
+impl<O: Offer> Play<u8, KeyView> for Look<O> {
+    ghost use Rattle.dv_board.specs.KeyRule.{Looked};
+
+    ghost then = { Looked O.item };
+}
+
+pub struct Peek;
+
+impl Play<u8, KeyView> for Peek {
+    ghost use Rattle.dv_board.specs.KeyRule.{Peeked};
+
+    ghost then = { Peeked };
+}
+
 pub struct Place;
 
 impl Play<u8, KeyView> for Place {

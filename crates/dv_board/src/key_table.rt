@@ -1,17 +1,23 @@
-ghost use Rattle.std.specs.Prelude.{◌≡◌, ℕ, ◌+◌, ◌-◌, ◌*◌, ◌<◌, ◌≤◌, [], ◌∷◌, ◌++◌, length, true, false, IfOk};
+ghost use Rattle.std.specs.Prelude.{◌≡◌, ℕ, ◌+◌, ◌-◌, ◌*◌, ◌<◌, ◌≤◌, [], ◌∷◌, ◌++◌, length, true, false, IfOk, All};
 ghost use Rattle.dv_board.specs.Items.{home_of};
 ghost use Rattle.dv_board.specs.KeyRule.{begun, fresh_view, first_view};
+ghost use Rattle.dv_board.specs.Looking.{AreFirstSlots, AreSlots, AreWords};
 ghost use Rattle.dv_board.specs.Probing.{IsProbing, HasOffered};
 ghost use Rattle.dv_board.specs.KeyTables.{IsSeatOf, AreLeastOffered};
 
 use crate::board_steps::Portion;
 use crate::key_items::KeyItems;
-use crate::key_steps::{About, Begin, CutOffers, KeyRule, Lower, MergeOffers, Place};
+use crate::key_steps::{
+    About, Begin, CutOffers, KeyRule, Look, Lower, MergeOffers, Offer, Peek, Place,
+};
 use crate::listing::{list_marked, mark_taken};
 use crate::views::KeyView;
 use atomic_table::{Seat, Table};
 use std::alloc::{AllocError, Global};
 use std::marker::{Brand, Model};
+
+/// The most items that are offered together.
+pub const TOGETHER: usize = 32;
 
 /// A table into which workers offer items, and which keeps the least item of each key. It is shared by `&`, and no call
 /// waits.
@@ -88,15 +94,122 @@ impl<I: KeyItems> KeyTable<I> {
         requires item { item < length (I.keys self.now.items).classes }
         ensures { seat.new ≡ record seat.old { offers = seat.old.offers ++ item ∷ [] } }
     {
+        let home = self.first_slot(item);
+        self.probe(seat, item, home, true);
+    }
+
+    /// Offers items in their order, at most `TOGETHER`. The slots at which their probes begin, and the items found there, are
+    /// looked at before, for all items together, so that the processor waits for many of them at once.
+    pub fn offer_all(&self, seat: &mut KeySeat, items: &[u32])
+        requires mine { IsSeatOf I.keys self.now seat.old }
+        requires few { length items.now ≤ 32 }
+        requires items { All (λ item. item < length (I.keys self.now.items).classes) items.now }
+        ensures { seat.new ≡ record seat.old { offers = seat.old.offers ++ items.now } }
+    {
+        let homes = self.first_slots(items);
+        let words = self.words_at(&mut seat.seat, &homes, items.len());
+        let is_met = self.are_met(items, &words);
+        'offers: for place in 0..items.len() {
+            self.probe(seat, items[place], homes[place], is_met[place]);
+        }
+    }
+
+    // The slot at which a probe for the item begins.
+    fn first_slot(&self, item: u32) -> usize
+        requires { item < length (I.keys self.now.items).classes }
+        ensures { result ≡ home_of (I.keys self.now.items) item }
+    {
         let count = self.items.count();
-        let home = self.items.home(item) % (2 * u64::from(count) + 1);
-        'probe: for passed in 0..count {
-            let slot = (home + u64::from(passed)) as usize;
+        (self.items.home(item) % (2 * u64::from(count) + 1)) as usize
+    }
+
+    // The slots at which probes for these items begin, in the items' order.
+    fn first_slots(&self, items: &[u32]) -> [usize; TOGETHER]
+        requires few { length items.now ≤ 32 }
+        requires items { All (λ item. item < length (I.keys self.now.items).classes) items.now }
+        ensures { AreFirstSlots (I.keys self.now.items) items.now result }
+    {
+        let mut homes = [0; TOGETHER];
+        'homes: for place in 0..items.len() {
+            homes[place] = self.first_slot(items[place]);
+        }
+        homes
+    }
+
+    // What stands in the first of these slots.
+    fn words_at(
+        &self,
+        seat: &mut Seat<u8, KeyView>,
+        slots: &[usize; TOGETHER],
+        count: usize,
+    ) -> [u64; TOGETHER]
+        requires mine { seat.old.table_id ≡ self.now.table }
+        requires classes { seat.old.me.0.classes ≡ (I.keys self.now.items).classes }
+        requires homes { seat.old.me.0.homes ≡ (I.keys self.now.items).homes }
+        requires live { (seat.old.me.0.is_spent ≡ false) × (1 ≤ seat.old.me.0.share) }
+        requires few { count ≤ 32 }
+        requires slots { AreSlots (I.keys self.now.items) count slots.now }
+        ensures stays { (seat.new.table_id ≡ seat.old.table_id) × (seat.new.me ≡ seat.old.me) }
+        ensures words { AreWords (I.keys self.now.items) result }
+    {
+        let mut words = [0; TOGETHER];
+        'words: for place in 0..count {
+            words[place] = self.table.shared.load::<Peek>(seat, slots[place]);
+        }
+        words
+    }
+
+    // Whether each of these items is the same as the one that was found where its probe begins.
+    fn are_met(&self, items: &[u32], words: &[u64; TOGETHER]) -> [bool; TOGETHER]
+        requires few { length items.now ≤ 32 }
+        requires items { All (λ item. item < length (I.keys self.now.items).classes) items.now }
+        requires words { AreWords (I.keys self.now.items) words.now }
+        ensures { length result ≡ 32 }
+    {
+        let mut is_met = [false; TOGETHER];
+        'items: for place in 0..items.len() {
+            let word = words[place];
+            is_met[place] = word != 0 && self.items.same((word - 1) as u32, items[place]);
+        }
+        is_met
+    }
+
+    // Offers the item by a probe that begins at `home`, and looks at each slot before it writes there, or writes at once.
+    fn probe(&self, seat: &mut KeySeat, item: u32, home: usize, looks: bool)
+        requires mine { IsSeatOf I.keys self.now seat.old }
+        requires item { item < length (I.keys self.now.items).classes }
+        requires home { home ≡ home_of (I.keys self.now.items) item }
+        ensures { seat.new ≡ record seat.old { offers = seat.old.offers ++ item ∷ [] } }
+    {
+        'probe: for passed in 0..self.items.count() {
+            let slot = home + passed as usize;
+            if looks && self.is_settled::<Brand>(&mut seat.seat, slot, item) {
+                return;
+            }
             if self.try_slot(&mut seat.seat, slot, item) {
                 return;
             }
         }
         unreachable!()
+    }
+
+    // Whether the slot is taken by an item that is the same and not greater: to have seen it finishes the offer.
+    fn is_settled<O: Offer>(&self, seat: &mut Seat<u8, KeyView>, slot: usize, item: u32) -> bool
+        requires mine { seat.old.table_id ≡ self.now.table }
+        requires classes { seat.old.me.0.classes ≡ (I.keys self.now.items).classes }
+        requires homes { seat.old.me.0.homes ≡ (I.keys self.now.items).homes }
+        requires item { item < length (I.keys self.now.items).classes }
+        requires probing { IsProbing seat.old.me.0 item (begun seat.old.me.0 item).passed seat.old.me.0 }
+        requires share { 1 ≤ seat.old.me.0.share }
+        requires slot { slot < 3 * length (I.keys self.now.items).classes + 1 }
+        requires picked { item ≡ O.item }
+        ensures mine { seat.new.table_id ≡ seat.old.table_id }
+        ensures free { seat.new.me.1 ≡ seat.old.me.1 }
+        ensures finished { result ≡ true → HasOffered seat.old.me.0 item seat.new.me.0 }
+        ensures left { result ≡ false → seat.new.me.0 ≡ seat.old.me.0 }
+    {
+        let found = self.table.shared.load::<Look<O>>(seat, slot);
+        found != 0 && found - 1 <= u64::from(item) && self.items.same((found - 1) as u32, item)
     }
 
     // Takes the slot for the item, or lowers it to the item where it is taken by one that is the same. Whether the offer

@@ -13,7 +13,7 @@ mod views;
 
 pub use board::{Board, BoardSeat};
 pub use key_items::KeyItems;
-pub use key_table::{KeySeat, KeyTable};
+pub use key_table::{KeySeat, KeyTable, TOGETHER};
 pub use laws::least_is_one_list;
 pub use views::{BoardView, KeyView, Keys, Sizes};
 

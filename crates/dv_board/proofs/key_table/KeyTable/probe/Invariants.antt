@@ -1,5 +1,5 @@
 use Rattle.dv_board.proofs.Vocabulary.{IsProbing, [], length, ◌<◌, ◌≡◌, ◌≤◌}
-use Rattle.dv_board.proofs.key_table.KeyTable.offer.Given as goal
+use Rattle.dv_board.proofs.key_table.KeyTable.probe.Given as goal
 
 abbrev pub invariant-probe : goal.invariant-probe
 invariant-probe g l = record {
@@ -9,3 +9,6 @@ invariant-probe g l = record {
   share : 1 ≤ l.initial.seat-inside.seat.me.0.share;
   probing : IsProbing l.initial.seat-inside.seat.me.0 l.item l.passed l.seat-inside.seat.me.0;
 }
+
+abbrev pub ghosts-is_settled : goal.ghosts-is_settled
+ghosts-is_settled g a = record { item = a.item }
