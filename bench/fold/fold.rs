@@ -24,7 +24,7 @@ fn list_home(factor: u64, parent: u64, parts: &[&[u8]]) -> u64 {
     home * home % PRIME * home % PRIME
 }
 
-/// The home, as `dv_vault` works it out.
+/// The home, as `dv_window_keys` works it out.
 fn home(factors: Factors, parent: u64, parts: &[&[u8]]) -> u64 {
     list_home(factors.0, parent, parts) * PRIME + list_home(factors.1, parent, parts)
 }

@@ -1,5 +1,5 @@
 #!/usr/bin/env python3
-"""How the homes of a window's keys spread, and what keys of one home cost, by a model of dv_vault's fold in Rust.
+"""How the homes of a window's keys spread, and what keys of one home cost, by a model of dv_window_keys' fold in Rust.
 
 Usage: python3 bench/fold/run.py [--keys N] [--worst N]
 

@@ -1,15 +1,11 @@
 -- What a window adds to a hub or a link, and what clashes there, depends on its deliveries as a set.
-use Rattle.dv_vault.proofs.Vocabulary.{AreDeliveriesOf, AreHubItems, AreLinkItems, Collision, Contains, Contains-append_cases, Contains-append_left, Contains-append_right, Contains-cons_here, Contains-get_or, Contains-nil, Delivery, DeltaFault, Err, HasNoClash, Hashed, HashedList, Hashes, Hub}
-use Rattle.dv_vault.proofs.Vocabulary.{HubName, HubRow, IfCollides, IsClash, IsLeastClash, IsTotalOrder, Link, LinkRow, List, Mapping, Memory, Option, Pair, Parent, Place, Some, TableId, Window, [], ap, ascending-sorted_by, brought, brought_cases, deliveries, deliveries_member, delta, filter_map}
-use Rattle.dv_vault.proofs.Vocabulary.{filter_map_member, get_or_from_slice_get, hashed_by, hashed_item, hub_delta, hub_hashed, hub_place, hub_row_has, hub_row_of, hubs_of, inl, inr, item_in, link_delta, link_hashed, link_place, link_row, member_after_sort, member_before_sort}
-use Rattle.dv_vault.proofs.Vocabulary.{member_of_filter_map, missing_in, missing_there, nat_list_cmp_total, new_row, on_total, one_list, refl, row_cmp, same_Some, same_ascending, same_digest, slice_get, slice_get_within, stored, subst, sym, ℕ, ◌++◌, ◌∙◌, ◌∷◌, ◌≡◌}
+use Rattle.dv_vault.proofs.Vocabulary.{AreDeliveriesOf, AreHubItems, AreLinkItems, Collision, Contains, Contains-append_cases, Contains-append_left, Contains-append_right, Contains-cons_here, Contains-nil, Delivery, DeltaFault, Err, HasNoClash, Hashed, HashedList, Hashes, Hub, HubName, HubRow}
+use Rattle.dv_vault.proofs.Vocabulary.{IfCollides, IsClash, IsLeastClash, IsTotalOrder, Link, LinkRow, List, Mapping, Memory, Option, Pair, Parent, Place, Some, TableId, Window, [], ap, ascending-sorted_by, brought, brought_cases, deliveries, deliveries_member, delta, filter_map}
+use Rattle.dv_vault.proofs.Vocabulary.{filter_map_member, hashed_by, hashed_item, hub_delta, hub_hashed, hub_place, hub_row_has, hub_row_of, hubs_of, inl, inr, item_in, link_delta, link_hashed, link_place, link_row, member_after_sort, member_before_sort, member_of_filter_map, missing_in}
+use Rattle.dv_vault.proofs.Vocabulary.{missing_there, nat_list_cmp_total, new_row, on_total, one_list, refl, row_cmp, same_Some, same_ascending, same_digest, stored, subst, sym, ℕ, ◌++◌, ◌∙◌, ◌∷◌, ◌≡◌}
 use Rattle.dv_hub_link.specs.LinkLists.{hubs_in}
 use Rattle.dv_vault.proofs.Stamped.{row_made}
 use Rattle.dv_catalog.specs.declared.tables.TableId.TheVariants as ids
-
--- an element at a place is in the list
-pub got_in : {X : Type 0} (xs : List X) (i : ℕ) (x : X) → slice_get xs i ≡ Some x → Contains xs x
-got_in xs i x got = subst (Contains xs) (get_or_from_slice_get xs i x x got) (Contains-get_or xs i x (slice_get_within xs i x got))
 
 -- ---- clashes
 

@@ -1,8 +1,8 @@
 -- What the tables of feeds ask of a window with its hash keys, and what they get.
 use Rattle.dv_vault.proofs.Vocabulary.{All-contains, Bor, HasKeys, HashedExtract, HashedWindow, Hashes, IfSome, IsHashedWindow, IsStrictlySortedBy, Mapping, None, Option, Some, Staged, Window, ap, attrs_fit, eqb-true, extract_at, find, found_member, is_valid, is_window, list_all, option_map}
-use Rattle.dv_vault.proofs.Vocabulary.{staged_of, sym, true, ℕ, ◌==◌, ◌∙◌, ◌≡◌}
+use Rattle.dv_vault.proofs.Vocabulary.{staged_ascend, staged_attrs_fit, staged_of, sym, true, ℕ, ◌==◌, ◌∙◌, ◌≡◌}
 use Rattle.dv_text.specs.Orders.{row_cmp}
-use Rattle.dv_vault.proofs.{VaultFacts.find-seen, WindowFacts.staged_ascend, WindowFacts.staged_attrs_fit}
+use Rattle.dv_vault.proofs.VaultFacts.{find-seen}
 
 -- what a window has for a feed: its extract, the hash keys of the rows, their order, and that they fit what they are hashed in
 pub record IsExtractFor (hashes : Hashes) (feed : ℕ) (hashed : HashedWindow) (at : Option (Bor HashedExtract)) : Type 0 where

@@ -1,7 +1,7 @@
 -- What a window of the mapping delivers to a hub or a link is what its table takes.
-use Rattle.dv_vault.proofs.Vocabulary.{AreHubItems, AreLinkItems, Delivery, Hub, IsHubItem, IsItem, Key, Link, List, Mapping, Window, [], and_from, and_parts, ap, are_keys_of, deliveries, deliveries-apart, eq-eqb, eqb-true, false, fit_hubs, fits_hub, is_window, length, parent_hubs, refl, suc}
-use Rattle.dv_vault.proofs.Vocabulary.{true, ℕ, ◌<◌, ◌∷◌, ◌≡◌}
-use Rattle.dv_vault.proofs.WindowFacts.{IsDelivered, delivered, key_parts}
+use Rattle.dv_vault.proofs.Vocabulary.{AreHubItems, AreLinkItems, Delivery, Hub, IsDelivered, IsHubItem, IsItem, Key, Link, List, Mapping, Window, [], and_from, and_parts, ap, are_keys_of, deliveries, deliveries-apart, eq-eqb, eqb-true, false, fit_hubs, fits_hub, is_window, key_parts, length}
+use Rattle.dv_vault.proofs.Vocabulary.{parent_hubs, refl, suc, true, ℕ, ◌<◌, ◌∷◌, ◌≡◌}
+use Rattle.dv_window_keys.proofs.WindowFacts.{delivered}
 
 -- references that fit one hub are one key
 record OneKey (mapping : Mapping) (hub : ℕ) (refs : List Key) : Type 0 where

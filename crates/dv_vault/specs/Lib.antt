@@ -1,11 +1,5 @@
 pub mod Additions
-pub mod DeliverySets
-pub mod HashedWindows
-pub mod ItemClasses
-pub mod ItemKeys
 pub mod Keeping
 pub mod NamesApart
-pub mod Offered
-pub mod Tasks
+pub mod Results
 pub mod Vaults
-pub mod WindowItems

@@ -10,21 +10,20 @@ ghost use Rattle.dv_records.specs.RowViews.{are_up_to};
 ghost use Rattle.dv_records.specs.States.{is_window};
 ghost use Rattle.dv_records.specs.Stores.{no_rows as spec_no_rows, row_count};
 ghost use Rattle.dv_records.specs.Weights.{rows_weight};
+ghost use Rattle.dv_window_keys.specs.HashedWindows.{IsHashedWindow};
+ghost use Rattle.dv_window_keys.specs.WindowItems.{IsKept};
 ghost use Rattle.dv_vault.specs.Additions as spec;
-ghost use Rattle.dv_vault.specs.HashedWindows.{IsHashedWindow};
-ghost use Rattle.dv_vault.specs.Tasks.{IsDelta, IsFound};
+ghost use Rattle.dv_vault.specs.Results.{IsDelta, IsFound};
 ghost use Rattle.dv_vault.specs.Vaults.{added_to, entry_of, hashed_in, names_of_hubs};
-ghost use Rattle.dv_vault.specs.WindowItems.{IsKept};
 
 use crate::additions::{AdditionFault, fault_of};
-use crate::hashed_windows::HashedWindow;
 use crate::hub_keys::HubKeys;
-use crate::kept_keys::{KeptKeys, kept_keys};
 use crate::results::{Found, take_batch};
 use crate::tables::Table;
 use dv_catalog::Catalog;
 use dv_records::{DeltaFault, Rows, weight};
 use dv_text::{KeyDigest, List, Memory};
+use dv_window_keys::{HashedWindow, KeptKeys, kept_keys};
 use std::alloc::Global;
 
 // No rows for each of these tables.

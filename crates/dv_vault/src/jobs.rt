@@ -7,35 +7,32 @@ ghost use Rattle.dv_catalog.specs.Tables.{tables};
 ghost use Rattle.dv_crew.specs.Results.{AreResults};
 ghost use Rattle.dv_records.specs.RowViews.{are_up_to};
 ghost use Rattle.dv_records.specs.States.{is_window};
+ghost use Rattle.dv_window_keys.specs.HashedWindows.{IsHashedWindow};
+ghost use Rattle.dv_window_keys.specs.ItemKeys.{keys_in};
+ghost use Rattle.dv_window_keys.specs.Tasks as tasks_spec;
+ghost use Rattle.dv_window_keys.specs.WindowItems as items_spec;
+ghost use Rattle.dv_window_keys.specs.WindowItems.{IsKept};
 ghost use Rattle.dv_vault.specs.Additions as additions;
-ghost use Rattle.dv_vault.specs.HashedWindows.{IsHashedWindow};
-ghost use Rattle.dv_vault.specs.ItemKeys.{keys_in};
-ghost use Rattle.dv_vault.specs.Tasks as spec;
+ghost use Rattle.dv_vault.specs.Results as spec;
 ghost use Rattle.dv_vault.specs.Vaults.{IsVaultOf, added_to, entry_of, names_of_hubs};
-ghost use Rattle.dv_vault.specs.WindowItems as items_spec;
-ghost use Rattle.dv_vault.specs.WindowItems.{IsKept};
 
 use crate::additions::AdditionFault;
 use crate::batches::{delta_of, deltas_beside};
-use crate::gathered_items::window_items;
-use crate::hashed_windows::HashedWindow;
 use crate::hub_keys::HubKeys;
-use crate::item_ranges::ranges_of;
-use crate::kept_keys::KeptKeys;
-use crate::mixings::mixing_of;
-use crate::offered_items::{KeyOffers, offer_items};
 use crate::raw_tables::find_place;
 use crate::results::{Found, TableBatch, TaskResult, batches_of};
 use crate::tables::Table;
-use crate::tasks::{Task, tasks_of};
 use crate::teams::Team;
-use crate::window_items::{Mixing, WindowItem, WindowItems};
 use dv_board::{KeySeat, KeyTable};
 use dv_catalog::{Catalog, TableId};
 use dv_crew::{Order, run_tasks, run_tasks_with};
 use dv_outside::{Gate, OpenGate};
 use dv_records::Rows;
 use dv_text::{KeyDigest, List, Memory};
+use dv_window_keys::{
+    HashedWindow, KeptKeys, KeyOffers, Mixing, Task, WindowItem, WindowItems, mixing_of,
+    offer_items, ranges_of, tasks_of, window_items,
+};
 use std::alloc::Global;
 use std::thread::Threads;
 
@@ -89,7 +86,7 @@ impl<'t, 'n, 'b, 'a, H: KeyDigest> WindowJob<'t, 'n, 'b, 'a, H> {
 
     // What a task of the window gives.
     fn run(&self, alloc: Global, task: Task) -> TaskResult
-        requires { Contains (spec.tasks self.now.catalog.now self.now.window.now.window.now) task }
+        requires { Contains (tasks_spec.tasks self.now.catalog.now self.now.window.now.window.now) task }
         ensures { spec.IsResultOf self.now.catalog.now (hashes_of H.function) (names_of_hubs self.now.names.now) self.now.window.now.window.now (map entry_of self.now.tables.now) task result }
     {
         match task {
@@ -110,7 +107,7 @@ fn run_at<'b, H: KeyDigest, G: Gate>(
     seat: KeySeat,
 ) -> (KeySeat, TaskResult)
     requires place { place < length tasks.now }
-    requires tasks { tasks.now ≡ spec.tasks job.now.catalog.now job.now.window.now.window.now }
+    requires tasks { tasks.now ≡ tasks_spec.tasks job.now.catalog.now job.now.window.now.window.now }
     requires ranges { length offers.now.ranges.now ≡ length tasks.now }
     requires mine { IsSeatOf keys_in offers.now.table.now seat }
     ensures offers { items_spec.OffersOf (map items_spec.item_of offers.now.items.now) offers.now.ranges.now place seat result.0 }
@@ -132,7 +129,7 @@ fn results_by<'b, R: Threads + Sync, H: KeyDigest, G: Gate>(
     team: &Team<'_, G>,
 ) -> Result<(List<TaskResult>, KeySeat), Memory>
     requires few { length tasks.now ≤ 256 }
-    requires tasks { tasks.now ≡ spec.tasks job.now.catalog.now job.now.window.now.window.now }
+    requires tasks { tasks.now ≡ tasks_spec.tasks job.now.catalog.now job.now.window.now.window.now }
     requires ranges { length offers.now.ranges.now ≡ length tasks.now }
     requires mine { IsSeatOf keys_in offers.now.table.now seat }
     requires new { (seat.offers ≡ []) × (seat.share ≡ 64) }
@@ -143,7 +140,7 @@ fn results_by<'b, R: Threads + Sync, H: KeyDigest, G: Gate>(
 {
     let gate = team.gate;
     let task = |place: u32, seat: KeySeat| -> Result<(KeySeat, TaskResult), Memory>
-        requires { (place < length tasks.now) × (tasks.now ≡ spec.tasks job.now.catalog.now job.now.window.now.window.now) × (length offers.now.ranges.now ≡ length tasks.now) × IsSeatOf keys_in offers.now.table.now seat }
+        requires { (place < length tasks.now) × (tasks.now ≡ tasks_spec.tasks job.now.catalog.now job.now.window.now.window.now) × (length offers.now.ranges.now ≡ length tasks.now) × IsSeatOf keys_in offers.now.table.now seat }
         ensures { IfOk result (λ r. spec.IsDoneAt job.entry.now.catalog.now (hashes_of H.function) job.entry.now.names.now job.entry.now.window.now job.entry.now.tables.now offers.entry.now.items.now offers.entry.now.ranges.now place seat r.0 r.1) }
     { Ok(run_at(alloc, job, tasks, offers, gate, place, seat)) };
     let count = tasks.len() as u32;

@@ -11,7 +11,6 @@ ghost use Rattle.dv_vault.specs.Vaults as spec;
 
 use crate::additions::AdditionFault;
 use crate::batches::all_deltas;
-use crate::hashed_windows::{gathered, gathered_by};
 use crate::hub_keys::hub_keys;
 use crate::jobs::{WindowJob, deltas_by};
 use crate::tables::Table;
@@ -23,6 +22,7 @@ use dv_records::Rows;
 use dv_sat::{MultiTable, SatTable};
 use dv_text::{KeyDigest, List, Memory, Window};
 use dv_track::{EffectTable, StatusTable};
+use dv_window_keys::{gathered, gathered_by};
 use std::alloc::Global;
 use std::thread::Threads;
 

@@ -1,11 +1,11 @@
 // What the tasks of a window give, and what is found by them.
 ghost use Rattle.std.specs.Prelude.{◌≡◌, ◌==◌, ◌++◌, Contains, IfOk, IfSome, OnOk, position};
 ghost use Rattle.std.specs.List.{flat_map};
-ghost use Rattle.dv_vault.specs.Tasks as spec;
+ghost use Rattle.dv_vault.specs.Results as spec;
 
-use crate::kept_keys::KeptKeys;
 use dv_records::{DeltaFault, Rows};
 use dv_text::{List, Memory};
+use dv_window_keys::KeptKeys;
 use std::alloc::Global;
 
 /// The rows that a window adds to the table at a place, or why there are none.

@@ -12,14 +12,11 @@ ghost use Rattle.dv_records.specs.Deltas.{HasNoClash, IfCollides, IsLeastClash};
 ghost use Rattle.dv_records.specs.RowViews.{AreOfLoad, is_up_to};
 ghost use Rattle.dv_records.specs.States.{is_window};
 ghost use Rattle.dv_records.specs.Stores.{no_rows, row_count, rows_then};
-ghost use Rattle.dv_vault.specs.HashedWindows.{IsHashedWindow};
+ghost use Rattle.dv_window_keys.specs.HashedWindows.{IsHashedWindow};
+ghost use Rattle.dv_window_keys.specs.WindowItems.{IsKept};
 ghost use Rattle.dv_vault.specs.Vaults as spec;
 ghost use Rattle.dv_vault.specs.Vaults.{Follow, added_to, entry_of, hashed_in, spare_of};
-ghost use Rattle.dv_vault.specs.WindowItems.{IsKept};
 
-use crate::deliveries::deliveries;
-use crate::hashed_windows::HashedWindow;
-use crate::kept_keys::KeptKeys;
 use dv_catalog::{Catalog, Parent, TableId};
 use dv_digest::HashedExtract;
 use dv_hub_link::{HubTable, LinkTable};
@@ -27,6 +24,7 @@ use dv_records::{DeltaFault, HubNames, RawTable, Rows};
 use dv_sat::{MultiTable, SatTable};
 use dv_text::{KeyDigest, List, Memory, Stamp};
 use dv_track::{EffectTable, StatusTable};
+use dv_window_keys::{HashedWindow, KeptKeys, deliveries};
 use std::alloc::Global;
 
 /// A raw table of any kind, by the place of its hub, link or feed in declared order.

@@ -1,5 +1,5 @@
 use Rattle.dv_vault.proofs.Vocabulary.{All-contains, IsBatch, IsDelta, entry_of, hashes_of, map, names_of_hubs, same_Some, subst, sym, ◌∙◌}
-use Rattle.dv_vault.proofs.TaskFacts.{still_found}
+use Rattle.dv_vault.proofs.ResultFacts.{still_found}
 use Rattle.dv_vault.proofs.batches.delta_at.Goals as goal
 
 pub returns-in-Some-clause-delta : goal.returns-in-Some-clause-delta

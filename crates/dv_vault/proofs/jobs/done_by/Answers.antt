@@ -1,5 +1,4 @@
-use Rattle.dv_vault.proofs.Vocabulary.{AreLeastOffered, AreResults, HaveAllOffered, IsResultAt, List, OffersMore, Task, WindowItem, entry_of, hashes_of, item_of, keys_of, length, length-map, map, names_of_hubs, subst, sym, ◌∙◌}
-use Rattle.dv_vault.proofs.OfferedItems.{whole_offered}
+use Rattle.dv_vault.proofs.Vocabulary.{AreLeastOffered, AreResults, HaveAllOffered, IsResultAt, List, OffersMore, Task, WindowItem, entry_of, hashes_of, item_of, keys_of, length, length-map, map, names_of_hubs, subst, sym, whole_offered, ◌∙◌}
 use Rattle.dv_vault.proofs.jobs.done_by.Goals as goal
 
 pub returns-clause-results : goal.returns-clause-results

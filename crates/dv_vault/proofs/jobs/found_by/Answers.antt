@@ -1,5 +1,5 @@
 use Rattle.dv_vault.proofs.Vocabulary.{All, AreLeast, IsBatch, List, WindowItem, entry_of, hashes_of, item_of, map, names_of_hubs, refl, subst, sym, tasks}
-use Rattle.dv_vault.proofs.TaskFacts.{all_batches}
+use Rattle.dv_vault.proofs.ResultFacts.{all_batches}
 use Rattle.dv_vault.proofs.jobs.found_by.Goals as goal
 
 pub returns : goal.returns

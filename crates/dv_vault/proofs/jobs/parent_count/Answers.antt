@@ -1,5 +1,5 @@
 use Rattle.dv_vault.proofs.Vocabulary.{arith}
-use Rattle.dv_vault.proofs.TaskFacts.{parents_first}
+use Rattle.dv_vault.proofs.ResultFacts.{parents_first}
 use Rattle.dv_vault.proofs.jobs.parent_count.Goals as goal
 
 pub returns-clause-first : goal.returns-clause-first

@@ -1,7 +1,6 @@
-use Rattle.dv_vault.proofs.Vocabulary.{All, IfOk-weaker, IsBatch, IsSync, crosses, entry_of, hashes_of, map, names_of_hubs, sendable}
-use Rattle.dv_vault.proofs.TaskFacts.{of_results}
+use Rattle.dv_vault.proofs.Vocabulary.{All, IfOk-weaker, IsBatch, IsSync, crosses, entry_of, hashes_of, map, names_of_hubs, of_results, sendable}
 use Rattle.dv_vault.proofs.jobs.WindowJob.TheSendSync as job
-use Rattle.dv_vault.proofs.kept_keys.KeptKeys.TheSendSync as kept
+use Rattle.dv_window_keys.proofs.kept_items.KeptKeys.TheSendSync as kept
 use Rattle.dv_vault.proofs.results.TableBatch.TheSendSync as batch
 use Rattle.dv_vault.proofs.jobs.parents_by.Goals as goal
 

@@ -1,9 +1,8 @@
-use Rattle.dv_vault.proofs.Vocabulary.{AreResults, HaveAllOffered, IfOk-weaker, IsResultAt, IsSeatOf, IsSync, Offerer, ap, arith, crosses, entry_of, hashes_of, item_of, keys_of, length, map, names_of_hubs, sendable, slice_get_within, subst, sym, ◌<◌, ◌∙◌, ◌≡◌}
-use Rattle.dv_vault.proofs.OfferedItems.{none_offered, task_offered}
+use Rattle.dv_vault.proofs.Vocabulary.{AreResults, HaveAllOffered, IfOk-weaker, IsResultAt, IsSeatOf, IsSync, Offerer, ap, arith, crosses, entry_of, hashes_of, item_of, keys_of, length, map, names_of_hubs, none_offered, sendable, slice_get_within, subst, sym, task_offered, ◌<◌, ◌∙◌, ◌≡◌}
 use Rattle.dv_board.proofs.key_table.KeySeat.TheSendSync as seat
 use Rattle.dv_vault.proofs.jobs.WindowJob.TheSendSync as job
 use Rattle.dv_vault.proofs.results.TaskResult.TheSendSync as given
-use Rattle.dv_vault.proofs.offered_items.KeyOffers.TheSendSync as offers
+use Rattle.dv_window_keys.proofs.offered_items.KeyOffers.TheSendSync as offers
 use Rattle.dv_vault.proofs.jobs.results_by.Goals as goal
 
 pub run_tasks_with-requires-send-S : goal.run_tasks_with-requires-send-S

@@ -1,5 +1,5 @@
 use Rattle.dv_vault.proofs.Vocabulary.{Bool, Contains, Contains-append_cases, Contains-get_or, TableBatch, ap, drop, eqb-true, inl, inr, placed_within, position, position-Some, rules, subst, sym, take, ◌+◌, ◌==◌, ◌∙◌, ◌≡◌}
-use Rattle.dv_vault.proofs.TaskFacts.{Contains-drop, Contains-take}
+use Rattle.dv_vault.proofs.ResultFacts.{Contains-drop, Contains-take}
 use Rattle.dv_vault.proofs.results.take_batch.Goals as goal
 
 pub remove-requires : goal.remove-requires

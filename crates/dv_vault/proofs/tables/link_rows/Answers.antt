@@ -32,7 +32,9 @@ returns-in_err-rows-clause-collision g c =
     let window = c.args.window.now.window.now in
     let p = err_from_is_err_and c.from_residual-in_err-rows.result c.from_residual-in_err-rows.ensures.1 in
     rw (p.1, p.2)
-    (collides_as (List LinkRow) Rows c.in_err-rows.field-0.0 (IsLeastClash (link_hashed mapping hashes (g.N.HubNames.names c.args.names.now) c.args.table.now.rows (delivered c.in_ok-items.items))) (IsLeastClash (link_hashed mapping hashes (g.N.HubNames.names c.args.names.now) c.args.table.now.rows (deliveries mapping (Link c.args.link) window)))
+    (collides_as (List LinkRow) Rows c.in_err-rows.field-0.0
+    (IsLeastClash (link_hashed mapping hashes (g.N.HubNames.names c.args.names.now) c.args.table.now.rows (delivered c.in_ok-items.items)))
+    (IsLeastClash (link_hashed mapping hashes (g.N.HubNames.names c.args.names.now) c.args.table.now.rows (deliveries mapping (Link c.args.link) window)))
     (link_clash_same mapping hashes c.args.link window (delivered c.in_ok-items.items) (c.in_ok-items.ensures {u = tt}).items (link_items mapping window c.requires.window c.args.link c.requires.link) (g.N.HubNames.names c.args.names.now) c.args.table.now.rows)
     c.in_err-rows.ensures.collision)
 

@@ -1,5 +1,4 @@
-use Rattle.dv_vault.proofs.Vocabulary.{Contains, subst, tasks}
-use Rattle.dv_vault.proofs.TaskFacts.{task_table}
+use Rattle.dv_vault.proofs.Vocabulary.{Contains, subst, task_table, tasks}
 use Rattle.dv_vault.proofs.jobs.WindowJob.run.Goals as goal
 
 pub batch-requires-after_bounds : goal.batch-requires-after_bounds

@@ -1,5 +1,0 @@
-use Rattle.dv_vault.proofs.Vocabulary.{chosen, take, ◌≡◌}
-use Rattle.dv_vault.proofs.kept_keys.chosen.Given as goal
-
-abbrev pub invariant-loop-number : goal.invariant-loop-number
-invariant-loop-number l = l.offers.items ≡ chosen l.parent l.items (take l.number-index l.numbers)
