@@ -1,6 +1,6 @@
 -- The hashed lists of deliveries are what they bring, and those that are new.
 use Rattle.dv_hub_link.proofs.Vocabulary.{AllByRecursion, AreHashed, Bool, Contains, Contains-cons_cases, Contains-cons_here, Contains-cons_there, Contains-map, Contains-nil, Delivery, Equal, Greater, HasNoClash, Hashed, HashedDelivery, Hashes, Held, IsLeastClash, IsStrictlySortedBy-filter}
-use Rattle.dv_hub_link.proofs.Vocabulary.{IsTotalOrder, Key, LentList, Less, List, Mapping, None, Option, Ordering, Other, Rivals, Some, Standing, [], all_hashed, ap, are_held_apart, ascending-sorted_by, brought, brought_lists, delivered, false, filter, filter_map, filtered_members, hashed_by}
+use Rattle.dv_hub_link.proofs.Vocabulary.{IsTotalOrder, Key, LentList, Less, List, Mapping, None, Option, Ordering, Other, Rivals, Some, [], all_hashed, ap, are_held_apart, ascending-sorted_by, brought, brought_lists, delivered, false, filter, filter_map, filtered_members, hashed_by}
 use Rattle.dv_hub_link.proofs.Vocabulary.{hashed_cmp, hashed_cmp-IsAntisymmetric, hashed_item, hashed_list, hashed_lists, if◌then◌else◌, inl, inr, is_held, is_missing, is_new, is_new_beside, is_some, kept, least_rivals, lent_cmp, list_all, list_beside, list_under, map, map_member}
 use Rattle.dv_hub_link.proofs.Vocabulary.{member_after_sort, member_before_sort, missing_in, missing_of, new_item, new_lists, not, recursion_from_All, refl, refs_cmp, refs_eq, refs_exact, refs_total, same_Some, slice_get, sorted_by, sorted_by-map, sorted_by-members, standing, subst, sym, told}
 use Rattle.dv_hub_link.proofs.Vocabulary.{true, turned, with_missing, ℕ, ◌++◌, ◌||◌, ◌∙◌, ◌∷◌, ◌≡◌, ◌⊎◌}

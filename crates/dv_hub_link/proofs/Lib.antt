@@ -6,7 +6,6 @@ pub mod Hashables
 pub mod Held
 pub mod HubItems
 pub mod HubWindows
-pub mod ItemTests
 pub mod KeyDeltas
 pub mod Keys
 pub mod LinkItems

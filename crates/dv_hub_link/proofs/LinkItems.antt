@@ -1,6 +1,5 @@
 -- Deliveries to a link.
-use Rattle.dv_hub_link.proofs.Vocabulary.{AreItems, AreLinkItems, Delivery, Link, List, Mapping, all_pass, ap, are_of_links, is_items, is_of_link, length, lt-ltb, ltb-true, true, ℕ, ◌∙◌, ◌≡◌}
-use Rattle.dv_hub_link.proofs.ItemTests.{passed}
+use Rattle.dv_hub_link.proofs.Vocabulary.{AreItems, AreLinkItems, Delivery, Link, List, Mapping, all_pass, ap, are_of_links, is_of_link, length, lt-ltb, true, ◌∙◌, ◌≡◌}
 
 pub are_items : (mapping : Mapping) (items : List Delivery) → AreLinkItems mapping items → AreItems mapping items
 are_items mapping items are = record { parent = Link are.link; declared = lt-ltb are.link (length mapping.links) are.declared; each = are.each; apart = are.apart }
@@ -9,8 +8,3 @@ pub items_of_links : (mapping : Mapping) (items : List Delivery) → AreLinkItem
 items_of_links mapping items are =
     all_pass (λ (item : Delivery). is_of_link mapping item.table) items
     (λ item has. ap (is_of_link mapping) (are.each item has).table ∙ lt-ltb are.link (length mapping.links) are.declared)
-
-pub link_items : (mapping : Mapping) (link : ℕ) (items : List Delivery) → is_items mapping (Link link) items ≡ true → AreLinkItems mapping items
-link_items mapping link items e =
-    let is = passed mapping (Link link) items e in
-    record { link = link; declared = ltb-true link (length mapping.links) is.declared; each = is.each; apart = is.apart }

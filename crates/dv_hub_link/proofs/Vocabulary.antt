@@ -6,7 +6,7 @@ pub use Rattle.dv_records.proofs.Vocabulary.{AllByRecursion, Bool, Contains, Con
 pub use Rattle.dv_records.proofs.Vocabulary.{List, Mapping, None, Option, Pair, Place, Some, [], all_pass, all_pass_replicate, all_refs, and_from, and_parts, ap, append-nil, appended, are_in_load_order, are_rows_of, arith, ascending-sorted_by, asymmetric, batch_of, bytes_eq, bytes_eq-Decides}
 pub use Rattle.dv_records.proofs.Vocabulary.{collision_in, deliveries, digest_cmp, drop, each_hash, false, false≢true, feed_hubs, filter, filter_map, filter_map_member, filtered_members, find, find_same, finds, first_offer, fit_hubs, fits_hub, flat_map, flat_map_member, found_member, got_member}
 pub use Rattle.dv_records.proofs.Vocabulary.{hashed_refs, hub_batch, if◌then◌else◌, inl, inr, irreflexive, is_declared, is_fed_by, is_hub, is_known, is_missing, is_offered, is_row_of, is_staged, is_valid, is_window, keys_at, length, link_batch, list_all, list_any, list_any-map, ltb-true, made_of}
-pub use Rattle.dv_records.proofs.Vocabulary.{map, map_member, member_after_sort, member_before_sort, member_of_all, member_of_filter_map, missing_refs, nat_cmp-IsAntisymmetric, nat_le, nat_list_cmp_total, nat_lt, not-true, offered_refs, offers, offers_of, on_total, only_key, or_parts}
+pub use Rattle.dv_records.proofs.Vocabulary.{map, map_member, member_after_sort, member_before_sort, member_of_all, member_of_filter_map, missing_key, missing_refs, nat_cmp-IsAntisymmetric, nat_le, nat_list_cmp_total, nat_lt, not-true, offered_refs, offers, offers_of, on_total, only_key, or_parts}
 pub use Rattle.dv_records.proofs.Vocabulary.{parent_hubs, parts_of, passes_at, refl, refs_cmp, refs_eq, refs_eq-Decides, refs_exact, refs_from, refs_total, reverse, reverse_member, same_answer, slice_cmp-IsAntisymmetric, slice_get, some_passes, some_passes_at, sorted_by, sorted_by-members}
 pub use Rattle.dv_records.proofs.Vocabulary.{source, subst, suc, sym, table_of, take, texts_eq, then_less, then_total, true, turned, valid_link, ℕ, ◌++◌, ◌-◌, ◌<◌, ◌==◌, ◌∙◌, ◌∷◌, ◌≡◌, ◌≤◌, ◌⊎◌}
 pub use Rattle.dv_text.proofs.Vocabulary.{append_assoc, false_from_ne_true, key_eq, length-map, nat_cmp_total, option_to_list, recursion_from_All, replicate, same_Some, tied_itself, ◌&&◌}
@@ -18,8 +18,8 @@ pub use Rattle.dv_digest.proofs.Lengths.{refs_text_fits}
 pub use Rattle.dv_digest.specs.declared.rooms.TheConstants.{ROOM_SIZE}
 pub use Rattle.dv_hub_link.specs.{HashedLists.HashedList, HashedLists.brought_lists, HashedLists.hashed_cmp, HashedLists.hashed_item, HashedLists.hashed_list, HashedLists.hashed_lists, HashedLists.list_beside, HashedLists.missing_of, HashedLists.told, HashedLists.with_missing}
 pub use Rattle.dv_hub_link.specs.{HashedOrder.hashed_cmp-IsAntisymmetric, HashedOrder.lent_cmp, HashedOrder.rivals_cmp-IsAntisymmetric, HeldLists.are_held_apart, HeldLists.beside, HeldLists.is_held, HeldLists.list_under, HeldLists.standing, HubDeltas.AreHubItems, HubDeltas.IsHeld}
-pub use Rattle.dv_hub_link.specs.{HubDeltas.IsHubItem, HubDeltas.IsNext, HubDeltas.hub_delta, HubDeltas.hub_hashed, ItemTests.are_apart, ItemTests.are_items, ItemTests.is_alone, ItemTests.is_item, ItemTests.are_items as is_items, ItemTests.is_table_of, Items.AreItems, Items.IsItem}
-pub use Rattle.dv_hub_link.specs.{Items.are_keys_of, Items.is_key_of, Items.is_parent_table, Items.missing_key, KeyDeltas.delta, KeyDeltas.lists_of, KeyDeltas.new_row, KeyDeltas.row_cmp, LinkDeltas.AreLinkItems, LinkDeltas.TellLists, LinkDeltas.key_with, LinkDeltas.link_delta}
+pub use Rattle.dv_hub_link.specs.{HubDeltas.IsHubItem, HubDeltas.IsNext, HubDeltas.hub_delta, HubDeltas.hub_hashed, Items.AreItems, Items.IsItem}
+pub use Rattle.dv_hub_link.specs.{Items.are_keys_of, Items.is_key_of, Items.is_parent_table, KeyDeltas.delta, KeyDeltas.lists_of, KeyDeltas.new_row, KeyDeltas.row_cmp, LinkDeltas.AreLinkItems, LinkDeltas.TellLists, LinkDeltas.key_with, LinkDeltas.link_delta}
 pub use Rattle.dv_hub_link.specs.{LinkDeltas.link_hashed, LinkLists.are_of_links, LinkLists.hubs_in, LinkLists.hubs_of, LinkLists.is_of_link, LinkLists.key_or, LinkLists.key_under, LinkLists.keys_under, LinkLists.stored, NewLists.all_hashed, NewLists.is_new, NewLists.is_new_beside, NewLists.kept}
 pub use Rattle.dv_hub_link.specs.{NewLists.new_beside, NewLists.new_item, NewLists.new_lists, NewRows.hub_row_of, NewRows.link_row, PlacedRows.are_parents_apart, PlacedRows.are_placed_rows, PlacedRows.has_row_under, PlacedRows.row_under, Rivalries.all_neighbours, Rivalries.all_rivals}
 pub use Rattle.dv_hub_link.specs.{Rivalries.clash, Rivalries.has_clash, Rivalries.held_rival, Rivalries.is_other, Rivalries.least_rivals, Rivalries.neighbours, Rivalries.rivals_cmp, Rivalries.rivals_of}

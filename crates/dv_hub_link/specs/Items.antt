@@ -1,5 +1,5 @@
 -- Deliveries to one hub or one link of the mapping.
-use Rattle.std.specs.Prelude.{◌≡◌, ◌<◌, ℕ, ◌==◌, ◌&&◌, nat_le, Bool, true, false, List, [], Contains, length, replicate, slice_get}
+use Rattle.std.specs.Prelude.{◌≡◌, ◌<◌, ℕ, ◌==◌, ◌&&◌, nat_le, Bool, true, false, List, [], Contains, length, slice_get}
 use Rattle.std.specs.List.{list_all, zip}
 use Rattle.dv_text.specs.declared.rows.Key.{Key}
 use Rattle.dv_catalog.specs.declared.entries.Parent.{Parent}
@@ -31,10 +31,6 @@ pub record AreItems (mapping : Mapping) (items : List Delivery) : Type 0 where
   pub declared : is_declared mapping parent ≡ true
   pub each : (item : Delivery) → Contains items item → IsItem mapping parent item
   pub apart : (a b : Delivery) → Contains items a → Contains items b → a.refs ≡ b.refs → a ≡ b
-
--- the missing key of a hub: all its parts are empty
-abbrev pub missing_key : Mapping → ℕ → Key
-missing_key mapping hub = record { parts = replicate (parts_of (slice_get mapping.hubs hub)) [] }
 
 -- the table is that of a hub or a link of the mapping
 abbrev pub is_parent_table : Mapping → TableId → Bool

@@ -3,7 +3,6 @@ pub mod HashedOrder
 pub mod HeldLists
 pub mod HubDeltas
 pub mod HubRows
-pub mod ItemTests
 pub mod Items
 pub mod KeyDeltas
 pub mod LinkDeltas

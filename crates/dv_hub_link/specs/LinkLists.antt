@@ -13,7 +13,7 @@ use Rattle.dv_records.specs.declared.raw_rows.LinkRow.{LinkRow}
 use Rattle.dv_records.specs.Deltas.{Hashed}
 use Rattle.dv_records.specs.HubNames.{HubName, key_named}
 use Rattle.dv_records.specs.LinkPlaces.{link_place}
-use Rattle.dv_hub_link.specs.Items.{missing_key}
+use Rattle.dv_records.specs.ReadBack.{missing_key}
 use Rattle.dv_hub_link.specs.KeyDeltas.{lists_of}
 
 abbrev pub key_or : Key → Option Key → Key

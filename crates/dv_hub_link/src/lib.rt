@@ -9,7 +9,6 @@ mod hashed_lists;
 mod holds_lists;
 mod hub_rows;
 mod hub_table;
-mod items;
 mod key_rows;
 mod link_rows;
 mod link_table;
@@ -20,6 +19,5 @@ mod rivals;
 mod told_lists;
 
 pub use hub_table::HubTable;
-pub use items::are_items;
 pub use link_table::LinkTable;
 pub use missing_keys::{missing_key, part_count};

@@ -2,6 +2,7 @@
 ghost use Rattle.std.specs.Prelude.{◌≡◌, [], IfOk, IsTrue, map, replicate, slice_get};
 ghost use Rattle.dv_catalog.specs.Feeds.{parts_of};
 ghost use Rattle.dv_records.specs.Deltas.{missing_in};
+ghost use Rattle.dv_records.specs.ReadBack as read_back;
 ghost use Rattle.dv_hub_link.specs.Items as spec;
 
 use dv_catalog::{Catalog, TableId};
@@ -31,14 +32,14 @@ pub fn part_count(catalog: &Catalog, hub: u32) -> u32
 
 /// The missing key of a hub.
 pub fn missing_key(alloc: Global, catalog: &Catalog, hub: u32) -> Result<Key, Memory>
-    ensures { IfOk result (λ key. key ≡ spec.missing_key catalog.now hub) }
+    ensures { IfOk result (λ key. key ≡ read_back.missing_key catalog.now hub) }
 {
     let parts = empty_parts(alloc, part_count(catalog, hub))?;
     Ok(Key { parts })
 }
 
 fn missing_keys(alloc: Global, catalog: &Catalog, hubs: &[u32]) -> Result<List<Key>, Memory>
-    ensures { IfOk result (λ made. made ≡ map (spec.missing_key catalog.now) hubs.now) }
+    ensures { IfOk result (λ made. made ≡ map (read_back.missing_key catalog.now) hubs.now) }
 {
     let mut keys = List::new(alloc);
     for hub in hubs {

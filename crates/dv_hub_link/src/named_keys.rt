@@ -2,7 +2,7 @@
 ghost use Rattle.std.specs.Prelude.{◌≡◌, IfOk};
 ghost use Rattle.std.specs.List.{list_all, zip};
 ghost use Rattle.dv_text.specs.Keys.{key_eq, refs_eq};
-ghost use Rattle.dv_hub_link.specs.Items as items;
+ghost use Rattle.dv_records.specs.ReadBack as read_back;
 ghost use Rattle.dv_hub_link.specs.LinkLists as spec;
 
 use crate::missing_keys::{missing_key, part_count};
@@ -23,7 +23,7 @@ pub(crate) struct NamedKeys<'a, N: HubNames> {
 // Whether a key is the missing key of a hub.
 #[tactic(auto, using(crate::proofs::Keys::missing_same))]
 fn is_missing_key(catalog: &Catalog, hub: u32, key: &Key) -> bool
-    ensures { result ≡ key_eq (items.missing_key catalog.now hub) key.now }
+    ensures { result ≡ key_eq (read_back.missing_key catalog.now hub) key.now }
 {
     let parts = key.parts.items();
     parts.len() == part_count(catalog, hub) as usize && key.is_missing()

@@ -1,6 +1,6 @@
 -- What the storing of a mapping, and of a snapshot, makes of what a store stands for; and that a store that stands for a
 -- state has no damage.
-use Rattle.std.specs.Prelude.{◌≡◌, ◌≢◌, ◌⊎◌, ℕ, true, List, None, Ok, length}
+use Rattle.std.specs.Prelude.{◌≡◌, ◌≢◌, ◌⊎◌, ℕ, true, List, None, Ok}
 use Rattle.dv_text.specs.Keys.{DigestFunction, Hashes, hashes_of}
 use Rattle.dv_catalog.specs.Entries.{Mapping}
 use Rattle.dv_catalog.specs.MappingFiles.{read_mapping}

@@ -1,4 +1,4 @@
-use Rattle.dv_hub_link.proofs.Vocabulary.{HashedList, LentList, List, Standing, ap, brought_lists, delivered, filter, hashes_of, is_new, kept, least_rivals, length, list_all, list_all-map, map, nat_lt, refs_fit, standing, subst, sym, told, true, ◌∙◌, ◌≡◌}
+use Rattle.dv_hub_link.proofs.Vocabulary.{HashedList, LentList, ap, brought_lists, delivered, filter, hashes_of, is_new, kept, least_rivals, length, list_all, list_all-map, map, nat_lt, refs_fit, standing, sym, told, ◌∙◌}
 use Rattle.dv_hub_link.proofs.{Brought.kept_are, Brought.kept_new, Brought.none_rival, Brought.some_rival, Hashables.missing_none, Hashables.new_feeds, Hashables.new_fit}
 use Rattle.dv_hub_link.proofs.additions.new_lists.Goals as goal
 

@@ -1,4 +1,4 @@
-use Rattle.dv_hub_link.proofs.Vocabulary.{Err, IsLeastClash, LentList, LinkRow, List, Ok, Some, all_hashed, ap, are_of_links, delivered, err_from_is_err_and, filter_map, hashes_of, hubs_of, keys_under, link_place, link_row, map, map-map, stored, subst, sym, told, true, ◌∙◌, ◌≡◌}
+use Rattle.dv_hub_link.proofs.Vocabulary.{Err, IsLeastClash, LentList, LinkRow, List, Ok, Some, all_hashed, ap, are_of_links, delivered, err_from_is_err_and, hashes_of, hubs_of, keys_under, link_place, link_row, map, map-map, stored, subst, sym, told, true, ◌∙◌, ◌≡◌}
 use Rattle.dv_hub_link.proofs.{KeyDeltas.fault_collides, KeyDeltas.made_are, KeyDeltas.map_filter, LinkItems.are_items, LinkItems.items_of_links, LinkWindows.answers_held, LinkWindows.answers_next, LinkWindows.link_row_digest, LinkWindows.link_row_load, LinkWindows.told_apart}
 use Rattle.dv_hub_link.proofs.{LinkWindows.told_least}
 use Rattle.dv_hub_link.proofs.link_table.LinkTable.delta.Goals as goal
