@@ -188,8 +188,8 @@ fn rows_read<'a>(
     date: Stamp,
 ) -> Result<Vec<ContentRow<'a>>, Memory>
     requires { feed < length lender.now.vault.now.mapping.feeds }
-    ensures { IfOk result (λ rows. (definition : FeedDef) → slice_get lender.now.vault.now.mapping.feeds feed ≡ Some definition
-        → rows.items ≡ filter_map (spec.row_read lender.now.vault.now.mapping lender.now.vault.now.tables definition feed date) parents.now) }
+    ensures { IfOk result (λ rows. (defined : FeedDef) → slice_get lender.now.vault.now.mapping.feeds feed ≡ Some defined
+        → rows.items ≡ filter_map (spec.row_read lender.now.vault.now.mapping lender.now.vault.now.tables defined feed date) parents.now) }
 {
     let definition = lender.feed(feed);
     let valid = valid_rows(lender, definition, feed, parents, date)?;

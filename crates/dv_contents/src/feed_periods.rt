@@ -38,8 +38,8 @@ fn period_read(lender: &Lender, feed: u32, period: &Period) -> Result<Option<Per
 // The rows of periods.
 fn periods_read(lender: &Lender, feed: u32, periods: &[Period]) -> Result<Vec<PeriodRow>, Memory>
     requires { feed < length lender.now.vault.now.mapping.feeds }
-    ensures { IfOk result (λ rows. (definition : FeedDef) → slice_get lender.now.vault.now.mapping.feeds feed ≡ Some definition
-        → rows.items ≡ filter_map (spec.period_read lender.now.vault.now.mapping lender.now.vault.now.tables definition) periods.now) }
+    ensures { IfOk result (λ rows. (defined : FeedDef) → slice_get lender.now.vault.now.mapping.feeds feed ≡ Some defined
+        → rows.items ≡ filter_map (spec.period_read lender.now.vault.now.mapping lender.now.vault.now.tables defined) periods.now) }
 {
     let mut rows = Vec::with_capacity(lender.alloc, periods.len())?;
     for period in periods {

@@ -8,7 +8,8 @@ ghost use Rattle.dv_contents.specs.Contents as contents;
 ghost use Rattle.dv_vault.specs.Vaults.{IsVaultOf, is_parent};
 
 use dv_catalog::{Catalog, FeedDef, Parent};
-use dv_text::{Digest, Key, List, Memory, Text};
+use dv_hub_link::missing_key;
+use dv_text::{Digest, Key, List, Memory};
 use dv_vault::Vault;
 use std::alloc::Global;
 
@@ -21,18 +22,6 @@ pub(crate) struct Lender<'a> {
     ghost valid: { IsTrue (is_valid vault.now.mapping) },
     ghost tables_are: { IsVaultOf vault.now.mapping vault.now.tables },
     ghost missing_are: { missing.now ≡ contents.missing_keys vault.now.mapping },
-}
-
-// The key of a hub that is missing: as many empty parts as its keys have.
-fn missing_key(alloc: Global, catalog: &Catalog, hub: u32) -> Result<Key, Memory>
-    requires { hub < length catalog.now.hubs }
-    ensures { IfOk result (λ key. key ≡ spec.missing_key catalog.now hub) }
-{
-    let mut parts = List::new(alloc);
-    for _ in 0..catalog.hub(hub).parts {
-        parts.push(Text::of(alloc, b"")?)?;
-    }
-    Ok(Key { parts })
 }
 
 // The missing key of each hub of a mapping, in declared order.

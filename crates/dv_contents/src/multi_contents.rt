@@ -46,8 +46,8 @@ fn add_parent<'a>(
     date: Stamp,
 ) -> Result<(), Memory>
     requires { feed < length lender.now.vault.now.mapping.feeds }
-    ensures { OnOk result ((definition : FeedDef) → slice_get lender.now.vault.now.mapping.feeds feed ≡ Some definition
-        → rows.new.items ≡ rows.old.items ++ spec.rows_read lender.now.vault.now.mapping lender.now.vault.now.tables definition feed date digest.now) }
+    ensures { OnOk result ((defined : FeedDef) → slice_get lender.now.vault.now.mapping.feeds feed ≡ Some defined
+        → rows.new.items ≡ rows.old.items ++ spec.rows_read lender.now.vault.now.mapping lender.now.vault.now.tables defined feed date digest.now) }
 {
     let vault = lender.vault;
     let definition = lender.feed(feed);
@@ -68,8 +68,8 @@ pub(crate) fn multi_rows_read<'a>(
     date: Stamp,
 ) -> Result<Vec<ContentRow<'a>>, Memory>
     requires { feed < length lender.now.vault.now.mapping.feeds }
-    ensures { IfOk result (λ rows. (definition : FeedDef) → slice_get lender.now.vault.now.mapping.feeds feed ≡ Some definition
-        → rows.items ≡ flat_map (spec.rows_read lender.now.vault.now.mapping lender.now.vault.now.tables definition feed date) parents.now) }
+    ensures { IfOk result (λ rows. (defined : FeedDef) → slice_get lender.now.vault.now.mapping.feeds feed ≡ Some defined
+        → rows.items ≡ flat_map (spec.rows_read lender.now.vault.now.mapping lender.now.vault.now.tables defined feed date) parents.now) }
 {
     let mut rows = Vec::new(lender.alloc);
     for parent in parents {

@@ -2,8 +2,6 @@
 use Rattle.dv_restore.proofs.Vocabulary.{Bool, Bridges, Effects, Extract, Hashes, Hubs, Links, List, Mapping, Multis, NRow, None, Option, Pits, Rows, Sats, Some, Statuses, Table, TableId, Window, [], added, and_from, ap, drop, entry_of, extract_added, is_of_kind, kind_of, map, refl, row_count}
 use Rattle.dv_restore.proofs.Vocabulary.{rows_loaded, rows_then, rules, sym, true, ℕ, ◌∙◌, ◌∷◌, ◌≡◌}
 use Rattle.dv_restore.proofs.{RowLoads.are_of_kinds, RowHalves.drop_exactly}
-use Rattle.dv_catalog.specs.declared.tables.TableId.TheVariants as ids
-use Rattle.dv_vault.specs.declared.tables.Table.TheVariants as table
 
 -- ---- kinds
 

@@ -1,5 +1,5 @@
 -- The load dates of sealed windows ascend where their heads break no rule, and with one more that is later than the last.
-use Rattle.dv_restore.proofs.Vocabulary.{List, Mapping, None, WindowHead, [], ap, append-nil, append_assoc, are_in_order, ascends, first_along, flaw_behind, head_flaw, head_rule, last_head, last_sealed, late_after, loads_ascend, map, map-append, none_before_map, or_none, refl, subst, sym, true}
+use Rattle.dv_restore.proofs.Vocabulary.{List, Mapping, None, WindowHead, [], ap, append-nil, append_assoc, are_in_order, ascends, first_along, flaw_behind, head_flaw, head_rule, last_head, late_after, loads_ascend, map, map-append, none_before_map, or_none, refl, subst, sym, true}
 use Rattle.dv_restore.proofs.Vocabulary.{ℕ, ◌++◌, ◌∙◌, ◌∷◌, ◌≡◌}
 use Rattle.dv_restore.proofs.{HeadsHeld.head_holds, HeadsHeld.last_sealed_is, KeptTables.not_late}
 

@@ -9,7 +9,6 @@ use Rattle.dv_restore.proofs.KnownLists.{never_less, single_clear}
 use Rattle.dv_catalog.specs.declared.tables.TableId.TheVariants as ids
 use Rattle.dv_records.specs.declared.stores.Rows.TheVariants as of
 use Rattle.dv_vault.specs.declared.tables.Table.TheVariants as held_as
-use Rattle.std.specs.declared.cmp.Ordering.TheVariants as ordering
 
 -- the hash key of what is missing is the zero key
 pub missing_zero : (mapping : Mapping) (function : DigestFunction) (parent : Parent) → (hashes_of function).hash (missing_refs mapping parent) ≡ zero_key function.width

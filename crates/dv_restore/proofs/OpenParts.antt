@@ -3,8 +3,6 @@ use Rattle.dv_restore.proofs.Vocabulary.{ArePartsOf, Backwards, Hashes, List, Ma
 use Rattle.dv_restore.proofs.Vocabulary.{rules, suc, sum_by, sum_by-cons, sym, table_after, table_after-newest, table_batch, table_entry, tables, tables_there, tables_weight, take, then_none, true, vault, vault_weight, weight_with_batches, window_batches, with_newest, zero, ℕ, ◌++◌, ◌+◌, ◌∙◌}
 use Rattle.dv_restore.proofs.Vocabulary.{◌∷◌, ◌≡◌}
 use Rattle.dv_restore.proofs.Completing.{same_behind}
-use Rattle.dv_catalog.specs.declared.tables.TableId.TheVariants as ids
-use Rattle.dv_records.specs.declared.stores.Rows.TheVariants as of
 
 -- a table and its batch are of its kind
 after_kind : (mapping : Mapping) (hashes : Hashes) (older : Backwards) (id : TableId) → is_of_kind id (table_after mapping hashes older id) ≡ true

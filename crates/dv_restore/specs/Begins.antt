@@ -15,10 +15,10 @@ use Rattle.dv_records.specs.declared.stores.TableRows.{TableRows}
 use Rattle.dv_records.specs.Deltas.{HasNoClash, Hashed, hashed_by, missing_in}
 use Rattle.dv_records.specs.HubNames.{HubName}
 use Rattle.dv_records.specs.Outcomes.{full_at}
+use Rattle.dv_records.specs.ReadBack.{missing_key}
 use Rattle.dv_store_rules.specs.Damages.{damage_at}
 use Rattle.dv_store_rules.specs.FormRules.{zero_key}
 use Rattle.dv_hub_link.specs.HubRows.{key_with}
-use Rattle.dv_hub_link.specs.Items.{missing_key}
 use Rattle.dv_vault.specs.Additions.{weight_with}
 use Rattle.dv_vault.specs.Vaults.{RawVault, hashed_in, hub_names}
 

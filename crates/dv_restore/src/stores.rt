@@ -150,7 +150,7 @@ pub fn read_store<K: Keeper, H: KeyDigest>(
     ensures taken { IfOk result (λ restored. IfSome restored.begun (Fits restored.vault)) }
     ensures begun { IfOk result (λ restored. Told (K.store keeper.old) (λ s. IsBegunAs (hashes_of H.function) restored.vault s.stage restored.begun)) }
     ensures in_form { IfOk result (λ restored. Told (K.store keeper.old) (IsInForm (hashes_of H.function) H.function.width catalog)) }
-    ensures stands { IfOk result (λ restored. (state : State) → (store : Store) → K.store keeper.old ≡ Some store → Stands catalog (hashes_of H.function) state store → IsOfState (hashes_of H.function) state restored.vault restored.begun restored.snapshots) }
+    ensures stands { IfOk result (λ read. (state : State) → (store : Store) → K.store keeper.old ≡ Some store → Stands catalog (hashes_of H.function) state store → IsOfState (hashes_of H.function) state read.vault read.begun read.snapshots) }
     ensures limits { IfOk result (λ restored. KeepLimits restored.snapshots) }
     ensures order { IfOk result (λ restored. IsTrue (are_in_order restored.vault.heads)) }
     ensures damaged { (damage : Damaged) → IsErrOf result (StoreFault.Damaged damage) → Told (K.store keeper.old) (λ s. BreaksRule (hashes_of H.function) H.function.width catalog s damage) }

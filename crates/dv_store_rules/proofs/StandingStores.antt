@@ -1,5 +1,5 @@
 -- A store that stands for a state of the warehouse has no damage.
-use Rattle.dv_store_rules.proofs.Vocabulary.{DigestFunction, List, Mapping, None, Stands, State, Store, form_damage, hashes_of, length, read_valid, ℕ, ◌≡◌}
+use Rattle.dv_store_rules.proofs.Vocabulary.{DigestFunction, Mapping, None, Stands, State, Store, form_damage, hashes_of, read_valid, ◌≡◌}
 use Rattle.dv_store_rules.proofs.Undamaged.{undamaged_if_valid}
 
 -- its mapping is valid, since it is read from the stored text

@@ -1,6 +1,6 @@
 -- A store that stands for a state of the warehouse has no damage where its mapping is valid.
 use Rattle.dv_store_rules.proofs.Vocabulary.{Contains, Contains-append_left, Contains-map, DigestFunction, Effect, Hashes, HubTable, Known, LinkTable, List, Mapping, Multi, None, Option, Sat, Snap, Some, Stands, State, Status, Store, TableId, TablesStand, Window, [], all_windows, and_parts, ap}
-use Rattle.dv_store_rules.proofs.Vocabulary.{append-nil, are_dates_valid, are_windows_valid, backwards, codes, damage_at, damage_in, first_of, flaw_in, form_damage, hashes_of, head_damage, head_flaw, head_of, if_broken, is_stage, is_valid, is_window, known_before, length, map, map-append}
+use Rattle.dv_store_rules.proofs.Vocabulary.{append-nil, are_dates_valid, are_windows_valid, backwards, codes, damage_at, damage_in, first_of, flaw_in, form_damage, hashes_of, head_damage, head_flaw, head_of, if_broken, is_stage, is_valid, is_window, known_before, map, map-append}
 use Rattle.dv_store_rules.proofs.Vocabulary.{map-map, most_weight, option_map, option_to_list, passes_at, raw_damage, refl, rows_weight, snapshot, snapshot_damage, snapshot_flaw, snapshot_heads, stage_damage, stage_damage_by, stored_entries, subst, sym, table_after, table_name, tables}
 use Rattle.dv_store_rules.proofs.Vocabulary.{tables_weight, true, ℕ, ◌++◌, ◌+◌, ◌∙◌, ◌∷◌, ◌≡◌, ◌≤◌}
 use Rattle.dv_store_rules.proofs.{Around.Around, Around.HaveParents, EarlierTables.hub_earlier, EarlierTables.link_earlier, FewerWindows.fewer_valid, FewerWindows.parts_of_valid, Flawless.none_along, Reached.Holds, Reached.partial_holds, Reached.vault_holds_all, ReadBefore.hubs_before}

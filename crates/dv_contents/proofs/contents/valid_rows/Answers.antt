@@ -1,4 +1,4 @@
-use Rattle.dv_contents.proofs.Vocabulary.{Bor, IfOk-weaker, List, None, SatRow, [], absent_table, ap, attrs_read, length, map, option_map_or, sym, valid_at, valid_attrs, ℕ, ◌==◌, ◌∙◌, ◌≡◌}
+use Rattle.dv_contents.proofs.Vocabulary.{Bor, IfOk-weaker, List, None, SatRow, [], absent_table, ap, attrs_read, length, map, sym, valid_at, valid_attrs, ℕ, ◌==◌, ◌∙◌}
 use Rattle.dv_contents.proofs.ContentFacts.{absent_attrs, each_told_or, no_attrs, none_told, some_attrs}
 use Rattle.dv_catalog.specs.declared.tables.TableId.TheVariants as ids
 use Rattle.dv_contents.proofs.contents.valid_rows.Goals as goal
