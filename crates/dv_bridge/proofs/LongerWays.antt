@@ -163,7 +163,8 @@ module _ (mapping : Mapping) where
         going way (λ link. false) (λ link. linked way link (choice_long lists way has ∙ size) ∙ ap (λ t. t && is_same_key (last_key left way) (key_of right link)) fails)
         ∙ ap (map (λ link. way ++ link ∷ [])) (filter_no links))
       where
-        going : (way : List KeyedRow) (test : KeyedRow → Bool) → ((link : KeyedRow) → are_joined (feeds ++ last ∷ next ∷ []) (via ++ hub ∷ []) (way ++ link ∷ []) ≡ test link) → filter (are_joined (feeds ++ last ∷ next ∷ []) (via ++ hub ∷ [])) (map (λ link. way ++ link ∷ []) links) ≡ map (λ link. way ++ link ∷ []) (filter test links)
+        going : (way : List KeyedRow) (test : KeyedRow → Bool) → ((link : KeyedRow) → are_joined (feeds ++ last ∷ next ∷ []) (via ++ hub ∷ []) (way ++ link ∷ []) ≡ test link)
+            → filter (are_joined (feeds ++ last ∷ next ∷ []) (via ++ hub ∷ [])) (map (λ link. way ++ link ∷ []) links) ≡ map (λ link. way ++ link ∷ []) (filter test links)
         going way test same = filter-map (are_joined (feeds ++ last ∷ next ∷ []) (via ++ hub ∷ [])) (λ link. way ++ link ∷ []) links ∙ ap (map (λ link. way ++ link ∷ [])) (filter_same _ test links same)
 
   -- ---- bridges

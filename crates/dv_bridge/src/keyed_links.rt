@@ -1,8 +1,9 @@
 // Links in the order of the hash key at which they are joined, so that those of one key stand together.
-ghost use Rattle.std.specs.Prelude.{◌≡◌, ◌++◌, IfOk, List as list_of, OnOk, Some, map, slice_get, ℕ};
-ghost use Rattle.std.specs.List.{filter_map};
+ghost use Rattle.std.specs.Prelude.{◌≡◌, ◌≤◌, ◌++◌, IfOk, List as list_of, OnOk, Some, length, map, not, position, slice_get, ℕ};
+ghost use Rattle.std.specs.List.{filter_map, position_or_len};
 ghost use Rattle.std.specs.List.Sorted.{IsSortedByKey};
 ghost use Rattle.std.specs.Option.{option_to_list};
+ghost use Rattle.std.specs.Str.{bytes_eq};
 ghost use Rattle.dv_bridge.specs.Joins as spec;
 ghost use Rattle.dv_bridge.specs.KeyedRows.{met_by};
 ghost use Rattle.dv_records.specs.Batches.{digest_cmp};
@@ -70,15 +71,29 @@ pub(crate) fn by_key<'b, 'a>(
     Ok(made)
 }
 
-// The links of a key, which stand together. Takes no memory.
+// The place of the first link of another key. Takes no memory.
+fn other_place(links: &[KeyedLink<'_, '_>], key: &Digest) -> Option<usize>
+    ensures { result ≡ position (λ one. not (bytes_eq key.now one.key)) links.now }
+{
+    links.iter().position(|one| *key != one.key)
+}
+
+// How many of the first links are of a key. Takes no memory.
+fn count_of(links: &[KeyedLink<'_, '_>], key: &Digest) -> usize
+    ensures value { result ≡ position_or_len (λ one. not (bytes_eq key.now one.key)) links.now }
+    ensures within { result ≤ length links.now }
+{
+    other_place(links, key).unwrap_or(links.len())
+}
+
+// The links of a key, which stand together. Few are of one key, so that their end is not searched for. Takes no memory.
 fn with_key<'c, 'b, 'a>(links: &'c [KeyedLink<'b, 'a>], key: &Digest) -> &'c [KeyedLink<'b, 'a>]
     requires { IsSortedByKey (λ one. one.key) digest_cmp links.now }
     ensures { result.now ≡ spec.keyed_with key.now links.now }
 {
     let start = links.partition_point(|one| one.key.cmp(key).is_lt());
     let rest = &links[start..];
-    let end = rest.partition_point(|one| !one.key.cmp(key).is_gt());
-    &rest[..end]
+    &rest[..count_of(rest, key)]
 }
 
 /// The links of a key, if there is one. Takes no memory.
