@@ -70,7 +70,7 @@ fn exercise<R: Threads + Sync, H: KeyDigest, G: Gate>(
     let catalog = generated_catalog(tools.alloc)?;
     let mut loading = begin_loading(tools.alloc, catalog, tools.digest.width())?;
     let text = load_and_count(&mut loading.office, items, tools);
-    loading.office.close();
+    loading.close();
     text
 }
 

@@ -27,11 +27,18 @@ pub(crate) struct Tools<'r, 'd, 'g, R, H: KeyDigest, G: Gate> {
     pub gate: &'g G,
 }
 
-/// What is loaded: the office, and whether a window was refused.
-#[derive(Drop)]
+/// What is loaded: the office, and whether a window was refused. It is closed in the end, and never let go.
 pub(crate) struct Loading {
     pub office: Office,
     pub refused: bool,
+}
+
+impl Loading {
+    /// Lets the office go.
+    pub(crate) fn close(self) {
+        let Loading { office, refused: _ } = self;
+        office.close();
+    }
 }
 
 /// An office of no windows, for digests of so many bytes.

@@ -19,7 +19,6 @@ use std::alloc::Global;
 use std::thread::Threads;
 
 /// A mart that is asked for, and what is loaded for it.
-#[derive(Drop)]
 struct Readied {
     what: What,
     date: Stamp,
@@ -122,7 +121,12 @@ fn try_all<R: Threads + Sync, F: Folder, O: Sink, E: Sink, H: KeyDigest, G: Gate
 {
     let mut readied = begin(tools.alloc, asked, folder, tools.digest)?;
     let tried = try_readied(&mut readied, asked, folder, out, err, tools);
-    readied.loading.office.close();
+    let Readied {
+        what: _,
+        date: _,
+        loading,
+    } = readied;
+    loading.close();
     tried
 }
 

@@ -67,7 +67,8 @@ line_end = 13 ∷ 10 ∷ []
 
 pub record RepliesHold : Type 0 where
   pub loaded : said (answers.Loaded 18) false ≡ codes "HTTP/1.1 200 OK" ++ line_end ++ codes "Content-Type: application/json" ++ line_end ++ codes "Content-Length: 29" ++ line_end ++ line_end ++ codes "{\"answer\":\"Loaded\",\"rows\":18}"
-  pub method : said (answers.NotAllowed allowed.GetPost) true ≡ codes "HTTP/1.1 405 Method Not Allowed" ++ line_end ++ codes "Content-Type: application/json" ++ line_end ++ codes "Content-Length: 19" ++ line_end ++ codes "Allow: GET, POST" ++ line_end ++ codes "Connection: close" ++ line_end ++ line_end ++ codes "{\"answer\":\"Method\"}"
+  pub method : said (answers.NotAllowed allowed.GetPost) true ≡
+      codes "HTTP/1.1 405 Method Not Allowed" ++ line_end ++ codes "Content-Type: application/json" ++ line_end ++ codes "Content-Length: 19" ++ line_end ++ codes "Allow: GET, POST" ++ line_end ++ codes "Connection: close" ++ line_end ++ line_end ++ codes "{\"answer\":\"Method\"}"
   pub conflict : status_of (answers.Broken (Differs 0)) ≡ 409
   pub long : status_of (answers.Broken (TooLong [])) ≡ 413
   pub other : status_of (answers.Broken NoExtracts) ≡ 422

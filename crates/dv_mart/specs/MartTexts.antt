@@ -12,7 +12,9 @@ use Rattle.dv_records.specs.Snapshots.{bridge, pit}
 use Rattle.dv_records.specs.Steps.{is_too_large}
 use Rattle.dv_records.specs.Stores.{is_of_kind, rows_in}
 use Rattle.dv_records.specs.Vault.{rows_up_to}
+use Rattle.dv_vault.specs.Vaults.{HasSealed, RawVault}
 use Rattle.dv_bridge.specs.Paths.{name_of_path, path_feeds}
+use Rattle.dv_bridge.specs.ZeroKeys.{HasZeroKeys}
 use Rattle.dv_print.specs.declared.query_rules.QueryRule.{QueryRule}
 use Rattle.dv_print.specs.declared.query_rules.QueryRule.TheVariants.{TooLarge}
 use Rattle.dv_mart.specs.declared.whats.What.{What}
@@ -74,3 +76,7 @@ abbrev pub path_name : Mapping → What → List ℕ
 path_name mapping (what.Path path) = name_of_path (slice_get mapping.paths path)
 path_name mapping (what.Bridge path) = name_of_path (slice_get mapping.paths path)
 path_name mapping what = []
+
+-- Where windows are sealed in a vault, the answer to what is asked is that a path has too many rows.
+abbrev pub RefusesPath : RawVault → What → ℕ → Type 0
+RefusesPath vault asked date = (hashes : Hashes) (sealed : List Window) → HasZeroKeys hashes → HasSealed hashes sealed vault → mart_text vault.mapping hashes sealed vault.tables asked date ≡ Err (TooLarge (path_name vault.mapping asked))

@@ -1,6 +1,6 @@
 //! The marts of feeds and of their periods over the sealed windows of a vault, and the text of what is offered, at a date.
 
-ghost use Rattle.std.specs.Prelude.{◌≡◌, ◌<◌, Contains, Err, IfErr, IfOk, IsErrOf, List as list_of, Ok, length, slice_get};
+ghost use Rattle.std.specs.Prelude.{◌≡◌, ◌<◌, Contains, IfErr, IfOk, IsErrOf, List as list_of, Ok, length, slice_get};
 ghost use Rattle.dv_text.specs.declared.rows.Window.{Window};
 ghost use Rattle.dv_text.specs.Keys.{Hashes};
 ghost use Rattle.dv_catalog.specs.Tables.{tables};
@@ -10,7 +10,6 @@ ghost use Rattle.dv_records.specs.Snapshots as snapshots;
 ghost use Rattle.dv_bridge.specs.ZeroKeys.{HasZeroKeys};
 ghost use Rattle.dv_mart.specs.MartTexts as spec;
 ghost use Rattle.dv_print.specs.Texts as texts;
-ghost use Rattle.dv_print.specs.declared.query_rules.QueryRule.TheVariants as rules;
 ghost use Rattle.dv_mart.specs.OfferedMarts.{IsOffered};
 
 use crate::hub_marts::hub_mart_text;
@@ -81,8 +80,7 @@ fn bridge_mart_text(alloc: Global, vault: &Vault, path: u32, date: Stamp) -> Res
     requires { path < length vault.now.mapping.paths }
     ensures text { IfOk result (λ text. (hashes : Hashes) (sealed : list_of Window) → HasZeroKeys hashes → HasSealed hashes sealed vault.now
         → spec.mart_text vault.now.mapping hashes sealed vault.now.tables (What.Bridge path) date ≡ Ok text) }
-    ensures too_large { IsErrOf result MartFault.TooLarge → (hashes : Hashes) (sealed : list_of Window) → HasZeroKeys hashes → HasSealed hashes sealed vault.now
-        → spec.mart_text vault.now.mapping hashes sealed vault.now.tables (What.Bridge path) date ≡ Err (rules.TooLarge (spec.path_name vault.now.mapping (What.Bridge path))) }
+    ensures too_large { IsErrOf result MartFault.TooLarge → spec.RefusesPath vault.now (What.Bridge path) date }
 {
     let rows = bridge_rows(alloc, vault, path, date)?;
     let catalog = vault.catalog();
@@ -97,8 +95,7 @@ pub fn mart_text(alloc: Global, vault: &Vault, what: &What, date: Stamp) -> Resu
     requires offered { IsOffered vault.now.mapping what.now }
     ensures text { IfOk result (λ text. (hashes : Hashes) (sealed : list_of Window) → HasZeroKeys hashes → HasSealed hashes sealed vault.now
         → spec.mart_text vault.now.mapping hashes sealed vault.now.tables what.now date ≡ Ok text) }
-    ensures too_large { IfErr result (λ fault. fault ≡ MartFault.TooLarge → (hashes : Hashes) (sealed : list_of Window) → HasZeroKeys hashes → HasSealed hashes sealed vault.now
-        → spec.mart_text vault.now.mapping hashes sealed vault.now.tables what.now date ≡ Err (rules.TooLarge (spec.path_name vault.now.mapping what.now))) }
+    ensures too_large { IfErr result (λ fault. fault ≡ MartFault.TooLarge → spec.RefusesPath vault.now what.now date) }
 {
     match what {
         What::Path(path) => path_mart_text(alloc, vault, *path, date),

@@ -1,6 +1,6 @@
 //! Path marts over the sealed windows of a vault.
 
-ghost use Rattle.std.specs.Prelude.{◌≡◌, ◌<◌, ◌++◌, ◌∷◌, false, Contains, Err, IfOk, IsErrOf, List as list_of, Ok, OnOk, length, map, take, true};
+ghost use Rattle.std.specs.Prelude.{◌≡◌, ◌<◌, ◌++◌, ◌∷◌, false, Contains, IfOk, IsErrOf, List as list_of, Ok, OnOk, length, map, take, true};
 ghost use Rattle.std.specs.List.{flat_map};
 ghost use Rattle.std.specs.Io.KnownBytes.{Appends};
 ghost use Rattle.csv.specs.Writing.{text_written};
@@ -14,7 +14,6 @@ ghost use Rattle.dv_print.specs.Texts.{all_parts, csv_text};
 ghost use Rattle.dv_print.specs.Writers.{IsBetweenRecords};
 ghost use Rattle.dv_mart.specs.MartTexts as spec;
 ghost use Rattle.dv_mart.specs.PathTables.{path_row, steps_along, way_record};
-ghost use Rattle.dv_print.specs.declared.query_rules.QueryRule.TheVariants as rules;
 ghost use Rattle.dv_mart.specs.declared.whats.What.TheVariants as whats;
 
 use crate::mart_faults::MartFault;
@@ -158,8 +157,7 @@ pub(crate) fn path_mart_text(
     requires { path < length vault.now.mapping.paths }
     ensures text { IfOk result (λ text. (hashes : Hashes) (sealed : list_of Window) → HasZeroKeys hashes → HasSealed hashes sealed vault.now
         → spec.mart_text vault.now.mapping hashes sealed vault.now.tables (whats.Path path) date ≡ Ok text) }
-    ensures too_large { IsErrOf result MartFault.TooLarge → (hashes : Hashes) (sealed : list_of Window) → HasZeroKeys hashes → HasSealed hashes sealed vault.now
-        → spec.mart_text vault.now.mapping hashes sealed vault.now.tables (whats.Path path) date ≡ Err (rules.TooLarge (spec.path_name vault.now.mapping (whats.Path path))) }
+    ensures too_large { IsErrOf result MartFault.TooLarge → spec.RefusesPath vault.now (whats.Path path) date }
 {
     let catalog = vault.catalog();
     catalog.note_valid();

@@ -1,7 +1,7 @@
 -- A path's rows at their limit and past it.
-use Rattle.dv_shown.proofs.Vocabulary.{Asked, Bool, Bridge, Err, List, Ok, Option, Path, PathDef, PathLimitsHold, QueryRule, Result, Some, TooLarge, [], ap, arith, bridge_text_by, cond, false, get_or, get_or-range_with_len, if_not_too_large, is_too_large, length, length-range_with_len, list_any}
-use Rattle.dv_shown.proofs.Vocabulary.{list_any_at, mart_text, nat_lt, nat_tests, path_text_by, range_with_len, refl, slice_get, subst, sym, true, ℕ, ◌+◌, ◌<◌, ◌∙◌, ◌∷◌, ◌≡◌, ◌≤◌}
-use Rattle.dv_shown.proofs.Limits.{is_above, not_above}
+use Rattle.dv_shown.proofs.Vocabulary.{Asked, Bool, Err, List, Ok, Option, PathDef, PathLimitsHold, Some, TooLarge, [], ap, bridge_text_by, cond, false, get_or-range_with_len, if_not_too_large, is_too_large, length, length-range_with_len, list_any}
+use Rattle.dv_shown.proofs.Vocabulary.{list_any_at, nat_lt, path_text_by, range_with_len, refl, slice_get, subst, sym, true, ℕ, ◌+◌, ◌<◌, ◌∙◌, ◌∷◌, ◌≡◌, ◌≤◌}
+use Rattle.dv_shown.proofs.Limits.{not_above}
 use Rattle.dv_shown.specs.PathLimits.{row_count}
 
 none_passes : {X : Type 0} (test : X → Bool) → ((x : X) → test x ≡ false) → (xs : List X) → list_any test xs ≡ false

@@ -1,5 +1,5 @@
 -- Tables under MD5 (RFC 1321).
-use Rattle.std.specs.Prelude.{◌≡◌, true, false, [], ◌∷◌, Some, None, codes, replicate, reverse}
+use Rattle.std.specs.Prelude.{◌≡◌, true, false, [], ◌∷◌, Some, None, codes, replicate}
 use Rattle.md5.specs.Md5.{md5}
 use Rattle.dv_text.specs.Keys.{Hashes, hashes_by}
 use Rattle.dv_catalog.specs.declared.tables.TableId.TheVariants.{Link, Sat, Status}

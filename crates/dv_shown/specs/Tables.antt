@@ -1,5 +1,5 @@
 -- Raw tables after windows.
-use Rattle.std.specs.Prelude.{◌≡◌, ℕ, List, [], ◌∷◌, codes, replicate, reverse}
+use Rattle.std.specs.Prelude.{◌≡◌, ℕ, List, [], ◌∷◌, codes, replicate}
 use Rattle.dv_text.specs.Stamps.{open_end}
 use Rattle.dv_catalog.specs.declared.tables.TableId.TheVariants.{Hub, Link, Sat, Multi, Status, Effect}
 use Rattle.dv_records.specs.declared.raw_rows.Code.TheVariants.{I, D}

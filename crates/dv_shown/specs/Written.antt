@@ -1,5 +1,5 @@
 -- Marts and tables as text.
-use Rattle.std.specs.Prelude.{◌≡◌, ℕ, List, [], ◌∷◌, Some, None, Result, Ok, codes}
+use Rattle.std.specs.Prelude.{◌≡◌, ℕ, List, [], ◌∷◌, ◌++◌, Some, None, Result, Ok, codes}
 use Rattle.dv_text.specs.declared.rows.Window.{Window}
 use Rattle.dv_catalog.specs.declared.tables.TableId.TheVariants.{Hub as HubTable, Link as LinkTable, Sat, Multi, Status, Effect}
 use Rattle.dv_catalog.specs.Entries.{Mapping}
@@ -77,22 +77,32 @@ pub record TablesWritten : Type 0 where
 -- a link's table, one of whose references is missing, under MD5
 pub record LinkWritten : Type 0 where
   pub link : digested with_orders orders (Table (LinkTable 0)) (day 1) ≡
-      Ok (codes "hash_key,load_date,record_source,customer,sales_order\n23fffa5d8832e83f92c34efd411ef6b8,2024-03-01T02:00:00,shop.placements,c4ca4238a0b923820dcc509a6f75849b,00594a175ce5a58f286d91ca0a6f15a2\nf8e4c621b87bf9c2bd13f39fb99db41d,2024-03-01T02:00:00,shop.placements,00000000000000000000000000000000,bfc60714f62f15e1e72e0b21454cc99e\n")
+      Ok (codes "hash_key,load_date,record_source,customer,sales_order\n"
+      ++ codes "23fffa5d8832e83f92c34efd411ef6b8,2024-03-01T02:00:00,shop.placements,c4ca4238a0b923820dcc509a6f75849b,00594a175ce5a58f286d91ca0a6f15a2\n"
+      ++ codes "f8e4c621b87bf9c2bd13f39fb99db41d,2024-03-01T02:00:00,shop.placements,00000000000000000000000000000000,bfc60714f62f15e1e72e0b21454cc99e\n")
 
 -- a multi-active satellite's table under MD5
 pub record MultiWritten : Type 0 where
   pub multi : digested with_phones phones (Table (Multi 0)) (day 1) ≡
-      Ok (codes "hash_key,load_date,record_source,hash_diff,KIND,PHONE\nc4ca4238a0b923820dcc509a6f75849b,2024-03-01T02:00:00,crm.phones,c20ad4d76fe97759aa27a0c99bff6710,fax,12\nc4ca4238a0b923820dcc509a6f75849b,2024-03-01T02:00:00,crm.phones,d3d9446802a44259755d38e6d163e820,home,10\nc4ca4238a0b923820dcc509a6f75849b,2024-03-01T02:00:00,crm.phones,6512bd43d9caa6e02c990b0a82652dca,work,11\n")
+      Ok (codes "hash_key,load_date,record_source,hash_diff,KIND,PHONE\n"
+      ++ codes "c4ca4238a0b923820dcc509a6f75849b,2024-03-01T02:00:00,crm.phones,c20ad4d76fe97759aa27a0c99bff6710,fax,12\n"
+      ++ codes "c4ca4238a0b923820dcc509a6f75849b,2024-03-01T02:00:00,crm.phones,d3d9446802a44259755d38e6d163e820,home,10\n"
+      ++ codes "c4ca4238a0b923820dcc509a6f75849b,2024-03-01T02:00:00,crm.phones,6512bd43d9caa6e02c990b0a82652dca,work,11\n")
 
 -- an effectivity table under MD5
 pub record EffectWritten : Type 0 where
   pub effect : digested with_drivers assignments (Table (Effect 0)) (day 2) ≡
-      Ok (codes "hash_key,load_date,record_source,begin,end\n9b2d9134239cd0aa73b0c821ab7cb3ec,2024-03-01T02:00:00,hr.assignments,2024-03-01T02:00:00,9999-12-31T23:59:59\n599d7386e8b3b2d9fcfcc2de7efad9f6,2024-03-02T02:00:00,hr.assignments,2024-03-02T02:00:00,9999-12-31T23:59:59\n9b2d9134239cd0aa73b0c821ab7cb3ec,2024-03-02T02:00:00,hr.assignments,2024-03-01T02:00:00,2024-03-02T02:00:00\n")
+      Ok (codes "hash_key,load_date,record_source,begin,end\n"
+      ++ codes "9b2d9134239cd0aa73b0c821ab7cb3ec,2024-03-01T02:00:00,hr.assignments,2024-03-01T02:00:00,9999-12-31T23:59:59\n"
+      ++ codes "599d7386e8b3b2d9fcfcc2de7efad9f6,2024-03-02T02:00:00,hr.assignments,2024-03-02T02:00:00,9999-12-31T23:59:59\n"
+      ++ codes "9b2d9134239cd0aa73b0c821ab7cb3ec,2024-03-02T02:00:00,hr.assignments,2024-03-01T02:00:00,2024-03-02T02:00:00\n")
 
 -- a bridge under MD5
 pub record BridgeWritten : Type 0 where
   pub bridge : digested with_orders orders (Bridge 0) (day 1) ≡
-      Ok (codes "snapshot,placements,lines,placements.customer,placements.sales_order,lines.sales_order,lines.product\n2024-03-01T02:00:00,23fffa5d8832e83f92c34efd411ef6b8,18a4b7b879239b85ad5985809c3b32ab,c4ca4238a0b923820dcc509a6f75849b,00594a175ce5a58f286d91ca0a6f15a2,00594a175ce5a58f286d91ca0a6f15a2,5f2b9323c39ee3c861a7b382d205c3d3\n2024-03-01T02:00:00,23fffa5d8832e83f92c34efd411ef6b8,3a5bde4ca1b2244ac79d9444bc895039,c4ca4238a0b923820dcc509a6f75849b,00594a175ce5a58f286d91ca0a6f15a2,00594a175ce5a58f286d91ca0a6f15a2,5890595e16cbebb8866e1842e4bd6ec7\n")
+      Ok (codes "snapshot,placements,lines,placements.customer,placements.sales_order,lines.sales_order,lines.product\n"
+      ++ codes "2024-03-01T02:00:00,23fffa5d8832e83f92c34efd411ef6b8,18a4b7b879239b85ad5985809c3b32ab,c4ca4238a0b923820dcc509a6f75849b,00594a175ce5a58f286d91ca0a6f15a2,00594a175ce5a58f286d91ca0a6f15a2,5f2b9323c39ee3c861a7b382d205c3d3\n"
+      ++ codes "2024-03-01T02:00:00,23fffa5d8832e83f92c34efd411ef6b8,3a5bde4ca1b2244ac79d9444bc895039,c4ca4238a0b923820dcc509a6f75849b,00594a175ce5a58f286d91ca0a6f15a2,00594a175ce5a58f286d91ca0a6f15a2,5890595e16cbebb8866e1842e4bd6ec7\n")
 
 -- the status table of a key that comes and goes, under MD5
 pub record StatusWritten : Type 0 where
@@ -102,7 +112,10 @@ pub record StatusWritten : Type 0 where
 -- the point-in-time table of two feeds, under MD5
 pub record PitWritten : Type 0 where
   pub cells : digested with_accounts tiers_later (Pit 0) (day 2) ≡
-      Ok (codes "hash_key,snapshot,customers.load,customers.present,accounts.load,accounts.present\nc4ca4238a0b923820dcc509a6f75849b,2024-03-02T02:00:00,2024-03-01T02:00:00,Y,,N\nc81e728d9d4c2f636f067f89cc14862c,2024-03-02T02:00:00,2024-03-01T02:00:00,Y,2024-03-01T02:00:00,Y\neccbc87e4b5ce2fe28308fd9f2a7baf3,2024-03-02T02:00:00,,N,2024-03-01T02:00:00,N\n")
+      Ok (codes "hash_key,snapshot,customers.load,customers.present,accounts.load,accounts.present\n"
+      ++ codes "c4ca4238a0b923820dcc509a6f75849b,2024-03-02T02:00:00,2024-03-01T02:00:00,Y,,N\n"
+      ++ codes "c81e728d9d4c2f636f067f89cc14862c,2024-03-02T02:00:00,2024-03-01T02:00:00,Y,2024-03-01T02:00:00,Y\n"
+      ++ codes "eccbc87e4b5ce2fe28308fd9f2a7baf3,2024-03-02T02:00:00,,N,2024-03-01T02:00:00,N\n")
   pub second_hub : digested with_places placed_sites (Pit 1) (day 1) ≡
       Ok (codes "hash_key,snapshot,sites.load,sites.present\nf68176e6713113d76b0c996ce9b74a17,2024-03-01T02:00:00,2024-03-01T02:00:00,Y\n")
 
