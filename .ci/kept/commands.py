@@ -241,6 +241,7 @@ def absent_files(bench):
     vault.write("no_file.toml", window(DATES[1], ("lines", "none.csv")))
     vault.write("no_text.toml", window(DATES[1], ("lines", "folder")))
     vault.says("load", "none.toml", status=4, err="vaultdesk: absent none.toml")
+    vault.says("load", "", status=4, err="vaultdesk: absent ")
     vault.says("load", "folder", status=4, err="vaultdesk: read fault folder")
     vault.says("load", "no_file.toml", status=4, err="vaultdesk: absent none.csv")
     vault.says("load", "no_text.toml", status=4, err="vaultdesk: read fault folder")

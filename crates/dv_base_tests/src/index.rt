@@ -41,19 +41,7 @@ impl Succession<Row> for Once {
 // The ninth byte of a parent, the last one, and the others, which are the same.
 type Name = [u8; 3];
 
-// Parents and days of rows, which are numbered from 0.
-const OLD: &[(Name, i64)] = &[([2; 3], 1), ([4; 3], 1), ([2; 3], 2), ([6; 3], 2)];
-
-// Before, between, at and behind the parents of the old ones; the number goes on at 4.
-const NEW: &[(Name, i64)] = &[
-    ([1; 3], 3),
-    ([3; 3], 3),
-    ([4; 3], 3),
-    ([7; 3], 3),
-    ([7; 3], 3),
-];
-
-// Parents that begin alike.
+// Parents that begin alike, and days; the rows are numbered from 0.
 const TIED: &[(Name, i64)] = &[
     ([1, 0, 5], 1),
     ([2, 0, 5], 1),
@@ -62,22 +50,6 @@ const TIED: &[(Name, i64)] = &[
 ];
 
 // A parent and a day, and the number of the parent's last row that is not later.
-const LATEST: &[(Name, i64, Option<u64>)] = &[
-    ([2; 3], 0, None),
-    ([2; 3], 1, Some(0)),
-    ([2; 3], 2, Some(2)),
-    ([2; 3], 9, Some(2)),
-    ([4; 3], 2, Some(1)),
-    ([4; 3], 3, Some(6)),
-    ([1; 3], 2, None),
-    ([1; 3], 3, Some(4)),
-    ([3; 3], 3, Some(5)),
-    ([7; 3], 3, Some(8)),
-    ([0; 3], 9, None),
-    ([5; 3], 9, None),
-    ([8; 3], 9, None),
-];
-
 const LATEST_TIED: &[(Name, i64, Option<u64>)] = &[
     ([1, 0, 5], 0, None),
     ([1, 0, 5], 2, Some(0)),
@@ -88,54 +60,6 @@ const LATEST_TIED: &[(Name, i64, Option<u64>)] = &[
     ([2, 0, 5], 9, Some(1)),
     ([0, 9, 5], 9, None),
     ([2, 1, 5], 9, None),
-];
-
-// Parents and a day, and the numbers of their last rows that are not later.
-const ASKED: &[(&[Name], i64, &[Option<u64>])] = &[
-    (&[], 9, &[]),
-    (
-        &[[1; 3], [2; 3], [4; 3], [6; 3]],
-        0,
-        &[None, None, None, None],
-    ),
-    (&[[6; 3], [2; 3], [4; 3]], 1, &[None, Some(0), Some(1)]),
-    (
-        &[[2; 3], [2; 3], [7; 3], [7; 3], [2; 3], [4; 3]],
-        2,
-        &[Some(2), Some(2), None, None, Some(2), Some(1)],
-    ),
-    (
-        &[
-            [0; 3], [1; 3], [3; 3], [4; 3], [5; 3], [6; 3], [7; 3], [8; 3],
-        ],
-        9,
-        &[
-            None,
-            Some(4),
-            Some(5),
-            Some(6),
-            None,
-            Some(3),
-            Some(8),
-            None,
-        ],
-    ),
-    (
-        &[
-            [8; 3], [7; 3], [6; 3], [5; 3], [4; 3], [3; 3], [1; 3], [0; 3],
-        ],
-        9,
-        &[
-            None,
-            Some(8),
-            Some(3),
-            None,
-            Some(6),
-            Some(5),
-            Some(4),
-            None,
-        ],
-    ),
 ];
 
 fn parent([ninth, last, other]: Name) -> Digest {
@@ -256,50 +180,6 @@ fn are_latest_of_each(
 }
 
 #[test]
-fn a_parent_has_its_last_row_up_to_a_date(rt: HostRuntime) {
-    let alloc = rt.alloc();
-    let mut table = table(alloc, OLD).expect(&rt, "a table");
-    assert!(rt; latest(&table, [4; 3], 9) == Some(1));
-    assert!(rt; append(alloc, &mut table, NEW).is_some());
-    assert!(rt; table.rows().len() == 9);
-    assert!(rt;
-        table
-            .rows()
-            .iter()
-            .zip(0..)
-            .all(|(row, number)| row.number == number)
-    );
-    for (name, date, number) in LATEST {
-        assert!(rt; latest(&table, *name, *date) == *number, "{name:?} {date}");
-    }
-    for (names, date, numbers) in ASKED {
-        assert!(rt;
-            are_latest(alloc, &table, names, *date, numbers) == Ok(true),
-            "{names:?} {date}"
-        );
-    }
-}
-
-#[test]
-fn each_parent_has_one_row_at_a_date(rt: HostRuntime) {
-    let alloc = rt.alloc();
-    let mut table = table(alloc, &[]).expect(&rt, "a table");
-    assert!(rt; table.fit_count(&Once) == 0);
-    assert!(rt; are_latest_of_each(&table, 9, &[]) == Ok(true));
-    assert!(rt; append(alloc, &mut table, OLD).is_some());
-    assert!(rt; table.fit_count(&Once) == 2);
-    assert!(rt; append(alloc, &mut table, NEW).is_some());
-    assert!(rt; are_latest_of_each(&table, 0, &[]) == Ok(true));
-    assert!(rt; are_latest_of_each(&table, 1, &[0, 1]) == Ok(true));
-    assert!(rt; are_latest_of_each(&table, 2, &[2, 1, 3]) == Ok(true));
-    assert!(rt; are_latest_of_each(&table, 9, &[4, 2, 5, 6, 3, 8]) == Ok(true));
-}
-
-fn fit_count(alloc: Global, places: &[(Name, i64)]) -> Option<usize> {
-    Some(table(alloc, places)?.fit_count(&Once))
-}
-
-#[test]
 fn parents_that_begin_alike_are_told_apart(rt: HostRuntime) {
     let alloc = rt.alloc();
     let table = table(alloc, TIED).expect(&rt, "a table");
@@ -311,7 +191,6 @@ fn parents_that_begin_alike_are_told_apart(rt: HostRuntime) {
     assert!(rt; are_latest(alloc, &table, &asked, 2, &numbers) == Ok(true));
     assert!(rt; are_latest_of_each(&table, 9, &[3, 2, 1]) == Ok(true));
     assert!(rt; table.fit_count(&Once) == 3);
-    assert!(rt; fit_count(alloc, NEW) == Some(4));
 }
 
 const FAR_AND_NEAR: &[Name] = &[

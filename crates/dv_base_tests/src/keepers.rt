@@ -5,7 +5,7 @@ ghost use Rattle.dv_catalog.specs.declared.tables.TableId.TheVariants.{Hub};
 
 use crate::values::{feeds, key};
 use dv_catalog::TableId;
-use dv_records::{Fail, HubRow, Keeper, KeeperError, MemoryKeeper, Rows, Store};
+use dv_records::{Fail, HubRow, Keeper, KeeperError, MemoryKeeper, Rows};
 use dv_text::{Digest, List, Memory, Stamp, Text, Window, WindowHead};
 use std::alloc::Global;
 
@@ -35,21 +35,6 @@ fn first_of_march() -> Stamp {
     Stamp::read(b"2024-03-01T02:00:00").unwrap_or(Stamp::OPEN)
 }
 
-#[test]
-fn a_mapping_and_a_window_are_stored(rt: HostRuntime) {
-    let alloc = rt.alloc();
-    let mapping = Text::of(alloc, b"[hubs]").expect(&rt, "memory");
-    let window = Window {
-        load: first_of_march(),
-        extracts: List::new(alloc),
-    };
-    let mut keeper = MemoryKeeper::new(alloc, List::new(alloc));
-    assert!(rt; keeper.put_mapping(alloc, &mapping) == Ok(()));
-    assert!(rt; keeper.put_stage(alloc, &window) == Ok(()));
-    assert!(rt; keeper.mapping(alloc) == Ok(Some(mapping)));
-    assert!(rt; keeper.stage(alloc) == Ok(Some(window)));
-}
-
 // Whether this is the one head that there is.
 fn is_only_head(heads: Result<List<WindowHead>, KeeperError>, head: &WindowHead) -> bool {
     match heads {
@@ -62,7 +47,7 @@ fn is_only_head(heads: Result<List<WindowHead>, KeeperError>, head: &WindowHead)
 }
 
 #[test]
-fn the_open_window_is_sealed(rt: HostRuntime) {
+fn a_window_is_opened_and_sealed(rt: HostRuntime) {
     let alloc = rt.alloc();
     let load = first_of_march();
     let feeds = feeds(alloc).expect(&rt, "memory");
@@ -71,14 +56,9 @@ fn the_open_window_is_sealed(rt: HostRuntime) {
         load,
         extracts: List::new(alloc),
     };
-    let store = Store {
-        mapping: None,
-        stage: Some(window),
-        windows: List::new(alloc),
-        tables: List::new(alloc),
-        snapshots: List::new(alloc),
-    };
-    let mut keeper = MemoryKeeper::with_store(store, List::new(alloc));
+    let mut keeper = MemoryKeeper::new(alloc, List::new(alloc));
+    assert!(rt; keeper.put_stage(alloc, &window) == Ok(()));
+    assert!(rt; keeper.stage(alloc) == Ok(Some(window)));
     assert!(rt; keeper.seal(alloc, &head) == Ok(()));
     assert!(rt; keeper.stage(alloc) == Ok(None));
     assert!(rt; is_only_head(keeper.windows(alloc), &head));

@@ -1,26 +1,22 @@
-//! Tests of the crates on which all others stand: of the values of the warehouse, of digests, of rows with an index, of
-//! the keeper in memory, and of folders, sinks and connections.
+//! Tests of what no case in text reaches: limits of digests, numbers of first bytes, lists of few items, rows with an index
+//! whose parents begin alike or are many, the keeper in memory, a sink that is slow, and doors without a port.
 #![tactic(auto)]
 
 #[cfg(test)]
 mod digests;
 #[cfg(test)]
-mod folders;
+mod doors;
 #[cfg(test)]
-mod hub_names;
+mod folders;
 #[cfg(test)]
 mod index;
 #[cfg(test)]
 mod keepers;
 #[cfg(test)]
-mod links;
-#[cfg(test)]
 mod lists;
 #[cfg(test)]
-mod rows;
+mod prefixes;
 #[cfg(test)]
 mod sinks;
-#[cfg(test)]
-mod texts;
 #[cfg(test)]
 mod values;

@@ -49,22 +49,3 @@ fn lists_of_few_items_grow_and_shrink_and_are_left_whole(rt: HostRuntime) {
         assert!(rt; is_left_whole(rt.alloc(), items) == Ok(true));
     }
 }
-
-// Whether the item at a place is taken out, and these are left, of which the last is taken next.
-fn is_taken(made: Result<List<u32>, Memory>, at: usize, item: u32, left: &[u32]) -> bool {
-    match made {
-        Ok(mut list) => {
-            at < list.items().len()
-                && list.remove(at) == item
-                && list.items() == left
-                && list.pop() == left.last().copied()
-        }
-        Err(Memory) => false,
-    }
-}
-
-#[test]
-fn an_item_is_taken_from_a_list_of_few(rt: HostRuntime) {
-    assert!(rt; is_taken(list(rt.alloc(), &[0, 1, 2]), 1, 1, &[0, 2]));
-    assert!(rt; is_taken(list(rt.alloc(), &[0]), 0, 0, &[]));
-}

@@ -1,27 +1,14 @@
-// Sinks in memory, one that is slow, and the standard streams.
+// Sinks in memory, and one that is slow.
 ghost use Rattle.std.specs.Prelude.{◌≡◌, ◌≤◌, ◌<◌, IsOk, [], length, ◌++◌};
 ghost use Rattle.dv_outside.specs.MemorySinks.{sink_fails, sink_faults, sink_left, sink_written};
 
 use crate::values::numbers;
-use dv_outside::{
-    Failed, Gate, MemorySink, OpenGate, RealErr, RealOut, Sink, Status, end, end_named, write_all,
-    write_line,
-};
+use dv_outside::{Failed, MemorySink, Sink, write_all, write_line};
 use dv_text::{List, Memory};
 use std::alloc::Global;
 
 fn sink(alloc: Global, room: u64, fails: &[u64]) -> Result<MemorySink, Memory> {
     MemorySink::new(alloc, room, numbers(alloc, fails)?)
-}
-
-#[test]
-fn sinks_take_what_fits(rt: HostRuntime) {
-    let mut sink = sink(rt.alloc(), 5, &[2]).expect(&rt, "memory");
-    assert!(rt; sink.write(b"ab") == Ok(2));
-    assert!(rt; sink.write(b"cd") == Err(Failed));
-    assert!(rt; sink.write(b"cdef") == Ok(3));
-    assert!(rt; sink.write(b"f") == Err(Failed));
-    assert!(rt; sink.written() == b"abcde".as_slice());
 }
 
 /// A sink that takes a byte at a time.
@@ -84,46 +71,6 @@ fn texts_are_written_whole_or_cut_short(rt: HostRuntime) {
         let same = is_written_fast(sink(alloc, *room, fails), written);
         assert!(rt; same == Some(fails.is_empty()));
     }
-}
-
-// Whether a command ends so on a sink with this room.
-fn ends(made: Result<MemorySink, Memory>, line: &[u8], status: Status) -> bool {
-    match made {
-        Ok(mut err) => {
-            end(&mut err, b"ab cd\n", Status::Damaged) == status && err.written() == line
-        }
-        Err(Memory) => false,
-    }
-}
-
-fn ends_named(made: Result<MemorySink, Memory>, line: &[u8], status: Status) -> bool {
-    match made {
-        Ok(mut err) => {
-            end_named(&mut err, b"ab ", b"cd", Status::Damaged) == status && err.written() == line
-        }
-        Err(Memory) => false,
-    }
-}
-
-#[test]
-fn commands_end_with_a_line_and_a_status(rt: HostRuntime) {
-    let alloc = rt.alloc();
-    assert!(rt; ends(sink(alloc, 9, &[]), b"ab cd\n", Status::Damaged));
-    assert!(rt; ends(sink(alloc, 4, &[]), b"ab c", Status::WriteFault));
-    assert!(rt; ends_named(sink(alloc, 9, &[]), b"ab cd\n", Status::Damaged));
-    assert!(rt; ends_named(sink(alloc, 4, &[]), b"ab c", Status::WriteFault));
-    assert!(rt; Status::Done as u8 == 0);
-    assert!(rt; Status::WriteFault as u8 == 6);
-    assert!(rt; Status::Damaged as u8 == 8);
-}
-
-#[test]
-fn the_real_streams_and_the_open_gate_pass(rt: HostRuntime) {
-    assert!(rt; write_all(&mut RealOut::new(rt.stdout()), b"out\n") == Ok(()));
-    assert!(rt; write_all(&mut RealErr::new(rt.stderr()), b"err\n") == Ok(()));
-    OpenGate.before(0);
-    OpenGate.offering(0);
-    OpenGate.after(0);
 }
 
 // Over a sink in memory that is to fail at no call, and has room for the text, no write fails, and the count of faults

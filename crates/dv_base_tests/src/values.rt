@@ -1,4 +1,4 @@
-// Sample values, and whether a text is the one that was to be made.
+// Sample values.
 use dv_text::{Key, List, Memory, NRow, Text};
 use std::alloc::Global;
 
@@ -26,9 +26,7 @@ pub(crate) fn keys(alloc: Global, keys: &[&[&[u8]]]) -> Result<List<Key>, Memory
     Ok(made)
 }
 
-/// A key of one part and attributes, without a sub.
-pub(crate) type Told<'a> = (&'a [u8], &'a [&'a [u8]]);
-
+/// The row of a key of one part and of attributes, without a sub.
 pub(crate) fn row(alloc: Global, key: &[u8], attrs: &[&[u8]]) -> Result<NRow, Memory> {
     let refs = keys(alloc, &[&[key]])?;
     let attrs = texts(alloc, attrs)?;
@@ -39,14 +37,6 @@ pub(crate) fn row(alloc: Global, key: &[u8], attrs: &[&[u8]]) -> Result<NRow, Me
     })
 }
 
-pub(crate) fn rows(alloc: Global, told: &[Told]) -> Result<Vec<NRow>, Memory> {
-    let mut made = Vec::new(alloc);
-    for (key, attrs) in told {
-        made.push(row(alloc, key, attrs)?)?;
-    }
-    Ok(made)
-}
-
 /// The feed 0 alone.
 pub(crate) fn feeds(alloc: Global) -> Result<List<u32>, Memory> {
     let mut feeds = List::new(alloc);
@@ -54,20 +44,7 @@ pub(crate) fn feeds(alloc: Global) -> Result<List<u32>, Memory> {
     Ok(feeds)
 }
 
-/// Bytes as a list.
-pub(crate) fn list(alloc: Global, bytes: &[u8]) -> Result<List<u8>, Memory> {
-    Ok(List::from_vec(bytes.to_vec(alloc)?))
-}
-
 /// The numbers of the calls that are to fail.
 pub(crate) fn numbers(alloc: Global, numbers: &[u64]) -> Result<List<u64>, Memory> {
     Ok(List::from_vec(numbers.to_vec(alloc)?))
-}
-
-/// Whether a text of these bytes was made.
-pub(crate) fn is(made: Result<Text, Memory>, bytes: &[u8]) -> bool {
-    match made {
-        Ok(text) => text.bytes() == bytes,
-        Err(Memory) => false,
-    }
 }

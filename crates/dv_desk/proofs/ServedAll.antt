@@ -1,12 +1,11 @@
 -- Where nothing failed and memory did not run out all that came was served, and no answer was that the keeper failed.
-use Rattle.dv_desk.proofs.Vocabulary.{Chain, DigestFunction, Ends, EndsAs, EndsBy, EndsOrMemory, Err, Exchange, Failed, HasCause, IsCauseOf, IsFaultOf, IsReplied, IsServeCause, IsServedCause, IsServedOut, IsServedWhole, IsSurelyReplied, Lines, List, Mapping, Moment, NoFault, None, Ok}
+use Rattle.dv_desk.proofs.Vocabulary.{Chain, DigestFunction, Ends, EndsAs, EndsBy, EndsOrMemory, Err, Exchange, Failed, IsCauseOf, IsFaultOf, IsReplied, IsServeCause, IsServedCause, IsServedOut, IsServedWhole, IsSurelyReplied, Lines, List, Mapping, Moment, NoFault, None, Ok}
 use Rattle.dv_desk.proofs.Vocabulary.{Option, Reply, Request, Result, Seen, ServeSays, Served, ServedAll, ServedOut, ServesDoors, ServesEach, ServesLine, ServesOn, ServesWhole, Some, StandsThen, StartFault, Status, Store, Tells, [], arith, asked, ending_of_start, hashes_of, inl, inr, refl}
 use Rattle.dv_desk.proofs.Vocabulary.{refusal, subst, sym, ℕ, ◌∙◌, ◌∷◌, ◌≡◌, ◌≤◌}
 use Rattle.dv_outside.specs.declared.statuses.Status.TheVariants as statuses
 use Rattle.dv_restore.specs.declared.faults.StoreFault.TheVariants as unread
 use Rattle.dv_restore.specs.declared.faults.StartFault.TheVariants as faults
 use Rattle.dv_serving.specs.declared.served.Served.TheVariants as served
-use Rattle.dv_desk.specs.declared.answers.Answer.TheVariants as answers
 use Rattle.dv_desk.proofs.Talked.{chain_later, rose_within}
 
 -- ---- no answer is that the keeper failed
