@@ -44,9 +44,12 @@ fn text_of(alloc: Global, header: Fields, contents: &[FeedRows<'_>]) -> Result<T
     Ok(text)
 }
 
-/// A row for each key in the content of at least one feed of the hub at a date, by key, with a cell for each feed
-/// in declared order: whether the feed's content has the key, and its attributes or as many blanks; of a feed with
-/// a sub nothing but the first. Condition: the mapping has the hub.
+/// A row for each key in the content of at least one feed of the hub at a date, by key, with a cell
+/// for each feed in declared order: whether the feed's content has the key, and its attributes or
+/// as many blanks; of a feed with a sub nothing but the first. Condition: the mapping has the hub.
+/// Where one feed has the customers `1` and `2` with a name, and another `2` and `3` with a tier,
+/// there are three rows: that of `1` has its name, and for the other feed that it isn't there, and
+/// one blank.
 pub fn hub_mart(
     alloc: Global,
     vault: &Vault,

@@ -64,7 +64,8 @@ fn path_name<'a>(catalog: &'a Catalog, what: &What) -> &'a [u8]
     }
 }
 
-/// The rule that is broken where a path's mart or bridge is too large. It has the path's name.
+/// The rule that is broken where a path's mart or bridge is too large. It has the path's name: that
+/// of the path `sold` prints as `Q3 TooLarge path=sold`.
 pub fn too_large(alloc: Global, catalog: &Catalog, what: &What) -> Result<QueryRule, Memory>
     ensures { IfOk result (λ rule. rule ≡ QueryRule.TooLarge (spec.path_name catalog.now what.now)) }
 {

@@ -28,8 +28,9 @@ use dv_text::{List, Memory, NRow, Stamp, Text};
 use dv_vault::Vault;
 use std::alloc::Global;
 
-/// The rows of a feed in the last sealed window that has it and is not later than the date, by references,
-/// then sub, then attributes. Condition: the feed is in the mapping.
+/// The rows of a feed in the last sealed window that has it and is not later than the date, by
+/// references, then sub, then attributes. Condition: the feed is in the mapping. With windows of 1
+/// and 4 March, the mart at 3 March has the rows of the first.
 pub fn feed_mart(vault: &Vault, feed: u32, date: Stamp) -> Result<List<NRow>, Memory>
     requires { feed < length vault.now.mapping.feeds }
     ensures { IfOk result (λ rows. (hashes : Hashes) (sealed : list_of Window) → HasSealed hashes sealed vault.now → rows ≡ marts.feed_mart sealed feed date) }
@@ -47,9 +48,11 @@ fn feed_mart_text(alloc: Global, vault: &Vault, feed: u32, date: Stamp) -> Resul
     lent_feed_text(alloc, vault.catalog().feed(feed), rows.items())
 }
 
-/// From when to when each reference list of a feed was in force, by the sealed windows that are not later than the
-/// date, by references, then by begin; what is in force at the date is open. Condition: the feed has an effectivity
-/// table, as one with a driver has.
+/// From when to when each reference list of a feed was in force, by the sealed windows that are not
+/// later than the date, by references, then by begin; what is in force at the date is open.
+/// Condition: the feed has an effectivity table, as one with a driver has. Where the employee `1`
+/// is in the department `P` by the window of 1 March, and in `Q` by that of 4 March, at 4 March
+/// `1`, `P` was in force from 1 to 4 March, and `1`, `Q` is from 4 March to `Stamp::OPEN`.
 pub fn period_mart(vault: &Vault, feed: u32, date: Stamp) -> Result<List<PeriodRow>, Memory>
     requires { Contains (tables vault.now.mapping) (TableId.Effect feed) }
     ensures { IfOk result (λ rows. (hashes : Hashes) (sealed : list_of Window) → HasSealed hashes sealed vault.now → rows ≡ marts.period_mart sealed feed date) }
@@ -91,6 +94,9 @@ fn bridge_mart_text(alloc: Global, vault: &Vault, path: u32, date: Stamp) -> Res
 /// The text of a mart over the sealed windows, or of a table with its rows that are not later than the date.
 /// Condition: a word names the mart or the table. `TooLarge` comes exactly where a mart or a bridge table is of a path
 /// of which some first steps give more than 1,000,000 rows.
+///
+/// The mart of a feed with the customer `1`, named `abc`, is `CUST_NO,NAME\n1,abc\n`, and before
+/// its first window it is `CUST_NO,NAME\n`.
 pub fn mart_text(alloc: Global, vault: &Vault, what: &What, date: Stamp) -> Result<Text, MartFault>
     requires offered { IsOffered vault.now.mapping what.now }
     ensures text { IfOk result (λ text. (hashes : Hashes) (sealed : list_of Window) → HasZeroKeys hashes → HasSealed hashes sealed vault.now

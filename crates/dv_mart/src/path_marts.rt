@@ -125,6 +125,9 @@ fn ways_text(alloc: Global, header: Fields, ways: &Ways<'_, '_>) -> Result<Text,
 /// The mart of a path at a date: each choice of one reference list from the content of each of its feeds, of which none
 /// is missing and neighbours have the same key of the hub that they share, in order. Condition: the mapping has the
 /// path. `TooLarge` comes exactly where some first steps of the path give more than 1,000,000 rows.
+///
+/// Where the customer `1` placed the order `O1`, nobody is known to have placed `O2`, and `O1` has
+/// the products `P1` and `P2`, there are two rows: `1`, `O1` with `O1`, `P1`, and with `O1`, `P2`.
 pub fn path_mart(
     alloc: Global,
     vault: &Vault,

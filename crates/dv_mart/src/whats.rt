@@ -173,6 +173,9 @@ impl What {
     /// What a word names; none where it names nothing of the mapping. The marts of feeds are named as `feed:F`, those
     /// of hubs as `hub:H`, those of paths as `path:P`, the periods of feeds with a driver as `period:F`, the raw tables
     /// as `table:T`, the point-in-time tables of hubs as `pit:H`, and the bridge tables of paths as `bridge:P`.
+    ///
+    /// `feed:accounts` is `What::Feed(1)` where `accounts` is the mapping's second feed, and
+    /// `feed:clients` is `None` where it has no such feed.
     pub fn read(alloc: Global, catalog: &Catalog, word: &Text) -> Result<Option<What>, Memory>
         ensures { IfOk result (λ what. what ≡ spec.what_of catalog.now word.now) }
     {
@@ -197,7 +200,9 @@ impl What {
         }
     }
 
-    /// What a word names, where it is a mart: a raw table, a point-in-time table and a bridge table are none.
+    /// What a word names, where it is a mart: a raw table, a point-in-time table and a bridge table
+    /// are none. `hub:customer` is `What::Hub(0)` for the first hub, and `table:sat_customers` is
+    /// `None`.
     pub fn read_mart(alloc: Global, catalog: &Catalog, word: &Text) -> Result<Option<What>, Memory>
         ensures mart { IfOk result (λ what. what ≡ spec.offered_mart catalog.now word.now) }
         ensures offered { IfOk result (λ what. IfSome what (IsOffered catalog.now)) }

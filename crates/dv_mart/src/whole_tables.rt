@@ -91,7 +91,8 @@ fn put_vault_rows<W: Write + Drop>(
 
 /// The text of a raw table with all its rows: those of the vault, and behind them those of the open
 /// window that the table has. Conditions: the table is in the mapping, and the rows behind are of
-/// its kind.
+/// its kind. Where the key `1` is sealed in a hub, and the open window has appended `2`, the text
+/// has a line for each.
 pub fn whole_table_text(
     alloc: Global,
     vault: &Vault,

@@ -34,7 +34,9 @@ fn append_entry(entries: &mut Vec<TableRows>, table: TableId, rows: Rows) -> Res
     }
 }
 
-/// Puts rows at the end of a table. For want of memory the tables are as before.
+/// Puts rows at the end of a table. For want of memory the tables are as before. A table that has
+/// `a` has `a`, `b` and `c` once `b` and `c` are put there; one without an entry gets its entry
+/// behind the others.
 pub fn append(
     alloc: Global,
     tables: &mut List<TableRows>,

@@ -46,7 +46,9 @@ pub trait HubNames {
     /// Hubs, digests, and the keys that these stand for.
     ghost names: { Self → list_of_items HubName };
 
-    /// The key of a hub with this digest; none exactly where there is none. Takes no memory.
+    /// The key of a hub with this digest; none exactly where there is none. Takes no memory. A
+    /// digest that stands for `A` in the hub 0 and for `P` in the hub 1 stands for no key in the
+    /// hub 2.
     fn name(&self, hub: u32, d: &Digest) -> Option<&Key>
         ensures { option_map (λ key. key.now) result ≡ key_named hub d.now (names self.now) };
 

@@ -33,7 +33,8 @@ pub trait Keeper {
         ensures kept { store self.new ≡ store self.old }
         ensures cause { KeeperCause (faults self.old) (faults self.new) result };
 
-    /// Stores the mapping file's bytes, where none are stored.
+    /// Stores the mapping file's bytes, where none are stored. Of a store with nothing in it the
+    /// bytes `m` make one that has the mapping `m` and nothing else.
     fn put_mapping(&mut self, alloc: Global, text: &Text) -> Result<(), KeeperError>
         requires { Told (store self.old) (λ s. s.mapping ≡ None) }
         ensures change { Changes (with_mapping text.now) (store self.old) (store self.new) result }
@@ -51,13 +52,15 @@ pub trait Keeper {
         ensures kept { store self.new ≡ store self.old }
         ensures cause { KeeperCause (faults self.old) (faults self.new) result };
 
-    /// Opens a window, where none is open.
+    /// Opens a window, where none is open. A store of three tables has the window open after this,
+    /// and the same tables.
     fn put_stage(&mut self, alloc: Global, window: &Window) -> Result<(), KeeperError>
         requires { Told (store self.old) (λ s. s.stage ≡ None) }
         ensures change { Changes (with_stage window.now) (store self.old) (store self.new) result }
         ensures cause { KeeperCause (faults self.old) (faults self.new) result };
 
-    /// Rows of a table: at most `most` of them, from place `from` on, and fewer only at the end.
+    /// Rows of a table: at most `most` of them, from place `from` on, and fewer only at the end. Of
+    /// `a`, `b`, `c` and `d` the two from place 1 on are `b` and `c`.
     fn rows(
         &mut self,
         alloc: Global,
@@ -70,14 +73,16 @@ pub trait Keeper {
         ensures kept { store self.new ≡ store self.old }
         ensures cause { KeeperCause (faults self.old) (faults self.new) result };
 
-    /// Puts rows at the end of a table. They, and the rows that it has, are of the table's kind.
+    /// Puts rows at the end of a table. They, and the rows that it has, are of the table's kind. A
+    /// table that has `a` has `a`, `b` and `c` once `b` and `c` are put there.
     fn append(&mut self, alloc: Global, table: TableId, rows: &Rows) -> Result<(), KeeperError>
         requires given { IsTrue (is_of_kind table rows.now) }
         requires stored { Told (store self.old) (λ s. IsTrue (is_of_kind table (rows_in table s.tables))) }
         ensures change { Changes (with_rows table rows.now) (store self.old) (store self.new) result }
         ensures cause { KeeperCause (faults self.old) (faults self.new) result };
 
-    /// Seals the open window, which has this head's load date: records the head, and closes the window.
+    /// Seals the open window, which has this head's load date: records the head, and closes the
+    /// window. Behind a sealed window of 1 March that of 2 March is sealed then, and none is open.
     fn seal(&mut self, alloc: Global, head: &WindowHead) -> Result<(), KeeperError>
         requires { Told (store self.old) (λ s. IsStagedAt head.now.load s.stage) }
         ensures change { Changes (with_seal head.now) (store self.old) (store self.new) result }
@@ -89,7 +94,8 @@ pub trait Keeper {
         ensures kept { store self.new ≡ store self.old }
         ensures cause { KeeperCause (faults self.old) (faults self.new) result };
 
-    /// Stores a snapshot at a date at which none is stored, with no table twice.
+    /// Stores a snapshot at a date at which none is stored, with no table twice. One of 2 March
+    /// stands between those of 1 and 3 March.
     fn put_snapshot(
         &mut self,
         alloc: Global,
@@ -100,8 +106,10 @@ pub trait Keeper {
         ensures change { Changes (with_snapshot (record { head = head.now; tables = tables.now })) (store self.old) (store self.new) result }
         ensures cause { KeeperCause (faults self.old) (faults self.new) result };
 
-    /// Rows of a table of the snapshot at a date: at most `most` of them, from place `from` on, and fewer only at the end.
-    /// A table without an entry, or a date without a snapshot, has none.
+    /// Rows of a table of the snapshot at a date: at most `most` of them, from place `from` on, and
+    /// fewer only at the end. A table without an entry, or a date without a snapshot, has none.
+    /// Where the snapshot of 1 March has `a`, `b`, `c` and `d` in a table, the two from place 1 on
+    /// are `b` and `c`; of 2 March, without a snapshot, there are none.
     fn snapshot_rows(
         &mut self,
         alloc: Global,

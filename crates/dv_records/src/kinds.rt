@@ -44,7 +44,7 @@ pub(crate) use each_kind;
 pub(crate) use same_kind;
 
 impl Rows {
-    /// No rows, of a table's kind. Takes no memory.
+    /// No rows, of a table's kind: `Rows::Links` for a link's table. Takes no memory.
     pub fn none_of(alloc: Global, table: TableId) -> Rows
         ensures { result ≡ stores.no_rows table }
     {
@@ -58,7 +58,8 @@ impl Rows {
         }
     }
 
-    /// Whether they are of a table's kind. Takes no memory.
+    /// Whether they are of a table's kind. Takes no memory. Rows of hubs are of the kind of
+    /// `TableId::Hub(1)`, and rows of links aren't.
     pub fn is_of_kind(&self, table: TableId) -> bool
         ensures { result ≡ stores.is_of_kind table self.now }
     {
@@ -88,7 +89,9 @@ impl Rows {
         self.count() == 0
     }
 
-    /// Puts rows behind these, whose list grows in place. Rows of another kind are dropped.
+    /// Puts rows behind these, whose list grows in place. Rows of another kind are dropped. Hub
+    /// rows `b` and `c` behind `a` make `a`, `b` and `c`; link rows behind the hub row `a` leave it
+    /// alone.
     pub fn put_behind(&mut self, more: Rows) -> Result<(), Memory>
         ensures ok { OnOk result (self.new ≡ stores.rows_then self.old more) }
         ensures err { OnErr result (self.new ≡ self.old) }
@@ -106,7 +109,8 @@ impl Rows {
         }
     }
 
-    /// At most `most` of them, from place `from` on.
+    /// At most `most` of them, from place `from` on. Of `a`, `b`, `c` and `d` the two from place 1
+    /// on are `b` and `c`.
     pub fn page(&self, alloc: Global, from: u64, most: u32) -> Result<Rows, Memory>
         ensures { IfOk result (λ made. made ≡ stores.page from most self.now) }
     {

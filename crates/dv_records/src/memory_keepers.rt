@@ -36,7 +36,9 @@ impl MemoryKeeper {
     ghost use Rattle.dv_records.specs.Turns.{new_plan};
     ghost use Rattle.dv_records.specs.MemoryKeepers.{empty_store, keeper_plan, keeper_store};
 
-    /// A keeper of an empty store, with these failures planned.
+    /// A keeper of an empty store, with these failures planned. With
+    /// `Fail { change: 2, done: true }` its first changing call works, and the second fails, but
+    /// makes its change.
     pub fn new(alloc: Global, fails: List<Fail>) -> MemoryKeeper
         ensures store { keeper_store result ≡ empty_store }
         ensures plan { keeper_plan result ≡ new_plan fails }
@@ -54,8 +56,9 @@ impl MemoryKeeper {
         }
     }
 
-    /// A keeper of this store, with these failures planned. No table has two entries in the store, and an
-    /// entry without rows has its table's kind.
+    /// A keeper of this store, with these failures planned. No table has two entries in the store,
+    /// and an entry without rows has its table's kind. With `Fail { change: 0, done: false }` the
+    /// next reading call fails, and the one after it works.
     pub fn with_store(store: Store, fails: List<Fail>) -> MemoryKeeper
         requires { IsTrue (is_well_formed store) }
         ensures store { keeper_store result ≡ store }

@@ -38,7 +38,8 @@ pub(crate) fn part<T: Duplicate>(
     copies(alloc, &rest[..most])
 }
 
-/// At most `most` of a table's rows, from place `from` on.
+/// At most `most` of a table's rows, from place `from` on. Of `a`, `b`, `c` and `d` the two from
+/// place 1 on are `b` and `c`; of a table without an entry there are none.
 pub fn table_page(
     alloc: Global,
     tables: &[TableRows],

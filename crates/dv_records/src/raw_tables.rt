@@ -22,8 +22,8 @@ pub trait RawTable {
         ensures rows { held self.new ≡ held self.old }
         ensures room { OnOk result (more ≤ spare self.new) };
 
-    /// Appends rows. Conditions: they may stand behind those of the table, and there is room for them. Takes no
-    /// memory.
+    /// Appends rows: `b` and `c` behind `a` make `a`, `b` and `c`. Conditions: they may stand
+    /// behind those of the table, and there is room for them. Takes no memory.
     fn append(&mut self, more: Rows)
         requires room { row_count more ≤ spare self.old }
         requires follow { follow (held self.old) more }

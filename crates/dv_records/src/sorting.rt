@@ -14,7 +14,8 @@ pub trait Ranked: Drop {
 
     ghost rank_cmp: { Self → Self → orderings.Ordering };
 
-    /// The order of the rows. Takes no memory.
+    /// The order of the rows. Takes no memory. Rows of a period mart have that of their references,
+    /// then of their begins: `1`, `P` from 1 March, `1`, `P` from 3 March, `1`, `Q` from 2 March.
     fn compared(&self, other: &Self) -> Ordering
         ensures { result ≡ rank_cmp self.now other.now };
 
@@ -79,7 +80,8 @@ impl Ranked for PeriodRow {
     ghost total = { period_total };
 }
 
-/// The rows in their order; of those that tie, the first.
+/// The rows in their order; of those that tie, the first. In an order by length, `bb`, `aa` and `c`
+/// give `c` and `bb`.
 pub fn sorted_firsts<R: Ranked>(rows: Vec<R>) -> Result<List<R>, Memory>
     ensures { IfOk result (λ made. made ≡ sorted_by R.rank_cmp rows.items) }
 {

@@ -56,7 +56,9 @@ fn table_page(
     Ok(none_of(alloc, id))
 }
 
-/// At most `most` of the rows of a table of the snapshot at a date, from place `from` on.
+/// At most `most` of the rows of a table of the snapshot at a date, from place `from` on. Where the
+/// snapshot of 1 March has `a`, `b`, `c` and `d` in a table, the two from place 1 on are `b` and
+/// `c`; at a date without a snapshot there are none.
 pub fn snapshot_page(
     alloc: Global,
     snaps: &[Snap],

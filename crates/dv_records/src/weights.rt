@@ -25,7 +25,8 @@ pub trait Weighed {
     /// What it weighs.
     ghost weight_of: { Self → ℕ };
 
-    /// What it weighs, or the largest number of 128 bits where that is more. Takes no memory.
+    /// What it weighs, or the largest number of 128 bits where that is more. Takes no memory. The
+    /// text `abc` weighs 19.
     fn weight(&self) -> u128
         ensures { result ≡ min (weight_of self.now) (2 ^ 128 - 1) };
 }
@@ -121,7 +122,8 @@ impl Weighed for BridgeRow {
     }
 }
 
-/// What rows weigh together, or the largest number of 128 bits where they weigh more. Takes no memory.
+/// What rows weigh together, or the largest number of 128 bits where they weigh more. Takes no
+/// memory. A hub's row of the key `1`, by the record source `crm.customers`, weighs 174.
 pub fn weight(rows: &Rows) -> u128
     ensures { result ≡ min (rows_weight rows.now) (2 ^ 128 - 1) }
 {

@@ -33,6 +33,7 @@ pub use Rattle.std.specs.Prelude.{⊤}
 unfoldable pub use Rattle.csv.proofs.OnLiterals.{csv_on_literals}
 unfoldable pub use Rattle.csv.specs.Writing.{fields_text, is_blank}
 unfoldable pub use Rattle.dv_app.specs.Exercised.{exercised, state_behind}
+unfoldable pub use Rattle.dv_text.specs.Prefixes.{spelt}
 unfoldable pub use Rattle.dv_text.specs.Stamps.{has_digits, has_form, has_marks, month_from, seconds_if, stamp_in, stamp_text, year_from}
 unfoldable pub use Rattle.hex.proofs.OnLiterals.{hex_on_literals}
 unfoldable pub use Rattle.jiff_core.specs.Calendar.{day_count, days_from_civil, days_of_months, days_of_years}

@@ -1,13 +1,14 @@
 -- How many rows windows add, and what the vault then weighs.
-use Rattle.std.specs.Prelude.{◌≡◌, ℕ, List, [], ◌∷◌, ◌++◌}
+use Rattle.std.specs.Prelude.{◌≡◌, ℕ, List, [], ◌∷◌, ◌++◌, codes}
 use Rattle.dv_text.specs.declared.rows.Window.{Window}
 use Rattle.dv_text.specs.Keys.{Hashes}
 use Rattle.dv_catalog.specs.Entries.{Mapping}
+use Rattle.dv_records.specs.declared.stores.Rows.TheVariants.{Hubs}
 use Rattle.dv_records.specs.Loads.{loaded}
-use Rattle.dv_records.specs.Weights.{vault_weight}
+use Rattle.dv_records.specs.Weights.{rows_weight, text_weight, vault_weight}
 use Rattle.dv_shown.specs.Mappings.{bare, with_accounts, with_drivers, with_names, with_orders, with_phones, with_sites}
 use Rattle.dv_shown.specs.Windows.{assignments, begun_alike, coming_and_going, emptied, once, one_site, orders, phones, there_and_back, tiers_later, two_keys}
-use Rattle.dv_shown.specs.Words.{plain, tiny}
+use Rattle.dv_shown.specs.Words.{in_hub, plain, tiny}
 
 -- the numbers of rows that windows add, one window after another
 abbrev pub loads : Mapping → Hashes → List Window → List Window → List ℕ
@@ -27,6 +28,9 @@ pub record CountsHold : Type 0 where
   pub links : loads with_orders plain [] orders ≡ 18 ∷ []
 
 pub record WeightsHold : Type 0 where
+  pub text : text_weight (codes "abc") ≡ 19
+  -- 128, 29 for the source, and 17 for the key's part
+  pub hub_row : rows_weight (Hubs (in_hub (codes "1") 1 (codes "crm.customers") ∷ [])) ≡ 174
   pub keys_alone : vault_weight bare plain two_keys ≡ 664
   -- hub row 174, satellite row 208, status row 157
   pub attribute : vault_weight with_names plain once ≡ 539

@@ -1,4 +1,4 @@
--- Tables and snapshots of stores, and what the changes of a keeper make of a store.
+-- Tables and snapshots of stores, what the changes of a keeper make of a store, and failures that are planned for one.
 use Rattle.std.specs.Prelude.{◌≡◌, ℕ, List, [], ◌∷◌, ◌++◌, Option, Some, None, Bool, true, false, Ok, Err, codes, map}
 use Rattle.dv_catalog.specs.declared.tables.TableId.{TableId}
 use Rattle.dv_catalog.specs.declared.tables.TableId.TheVariants.{Hub, Link, Sat, Multi, Status, Effect}
@@ -15,6 +15,7 @@ use Rattle.dv_records.specs.Changes.{Changes, KeeperCause}
 use Rattle.dv_records.specs.MemoryKeepers.{empty_store}
 use Rattle.dv_records.specs.Stores.{IsStagedAt, appended_to, are_apart, are_snap_tables_apart, are_snapshots_in_order, have_kinds, is_new_snapshot, is_of_kind, is_well_formed, page}
 use Rattle.dv_records.specs.Stores.{row_count, rows_in, rows_then, snap_id_eq, snapshot_rows, table_eq, with_mapping, with_rows, with_seal, with_snapshot, with_stage}
+use Rattle.dv_records.specs.Turns.{after_read, new_plan, next_turn, read_fails, takes_effect, turn_of}
 use Rattle.dv_shown.specs.Answered.{first_loaded}
 use Rattle.dv_shown.specs.Words.{day, in_effect, in_hub, in_link, in_multi, in_sat, in_status}
 
@@ -225,3 +226,14 @@ pub record ChangesMade : Type 0 where
   pub not_counted : KeeperCause {T = Unit {0}} 1 1 (Err Failed) → ⊥
   pub count_fell : KeeperCause {T = Unit {0}} 2 1 (Ok tt) → ⊥
   pub lacks_memory_uncounted : KeeperCause {T = Unit {0}} 1 1 (Err Memory)
+
+-- how calls go for which a failure is planned
+pub record TurnsPlanned : Type 0 where
+  -- the second changing call alone fails, and its change is made
+  pub second_change :
+      map (λ changes. next_turn (record { fails = record { change = 2; done = true } ∷ []; changes = changes; faults = 0 })) (0 ∷ 1 ∷ 2 ∷ [])
+      ≡ turn_of None ∷ turn_of (Some (record { change = 2; done = true })) ∷ turn_of None ∷ []
+  pub change_made : map (λ done. takes_effect (turn_of (Some (record { change = 2; done = done })))) (true ∷ false ∷ []) ≡ true ∷ false ∷ []
+  -- the next reading call fails, and the one after it doesn't
+  pub next_reading : read_fails (record { change = 0; done = false } ∷ []) ≡ true
+  pub once : after_read (new_plan (record { change = 0; done = false } ∷ [])) ≡ record { fails = []; changes = 0; faults = 1 }

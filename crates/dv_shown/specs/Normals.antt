@@ -1,13 +1,17 @@
--- Normal forms, and dates as texts.
-use Rattle.std.specs.Prelude.{◌≡◌, [], ◌∷◌, ◌++◌, Some, None, true, false, codes, length, map, replicate}
+-- Normal forms, lists, keys, the numbers that texts begin with, and dates as texts.
+use Rattle.std.specs.Prelude.{◌≡◌, ◌-◌, ◌*◌, ◌^◌, [], ◌∷◌, ◌++◌, Some, None, true, false, codes, length, map, replicate, slice_get, take}
+use Rattle.std.specs.List.{list_all, remove}
 use Rattle.std.specs.Ordering.{nat_cmp}
 use Rattle.std.specs.declared.cmp.Ordering.TheVariants.{Less, Greater}
+use Rattle.dv_text.specs.Digests.{digest_prefix}
 use Rattle.dv_text.specs.Keys.{is_missing, row_eq}
 use Rattle.dv_text.specs.Normal.{norm_field, norm_key}
-use Rattle.dv_text.specs.Orders.{row_cmp}
+use Rattle.dv_text.specs.Orders.{row_cmp, text_cmp}
+use Rattle.dv_text.specs.Prefixes.{text_prefix}
 use Rattle.dv_text.specs.Sorting.{sorted_by}
 use Rattle.dv_text.specs.Stamps.{is_stamp_number, open_end, stamp_of, stamp_text}
 use Rattle.dv_catalog.specs.Feeds.{keys_at}
+use Rattle.dv_records.specs.HubNames.{key_named}
 use Rattle.dv_shown.specs.Words.{day, key, leap_day, named_row, plain, row, year_2030}
 
 pub record NormalsHold : Type 0 where
@@ -25,6 +29,20 @@ pub record NormalsHold : Type 0 where
   -- of texts that tie by length, the first
   pub first_of_ties : sorted_by (λ a b. nat_cmp (length a) (length b)) (codes "bb" ∷ codes "aa" ∷ codes "c" ∷ []) ≡ codes "c" ∷ codes "bb" ∷ []
 
+-- lists of three items that grow and shrink
+pub record ListsHold : Type 0 where
+  pub pushed : codes "ab" ++ codes "c" ≡ codes "abc"
+  pub appended : codes "a" ++ codes "bc" ≡ codes "abc"
+  pub popped : take (length (codes "abc") - 1) (codes "abc") ≡ codes "ab"
+  pub taken : slice_get (codes "abc") 1 ≡ Some 98
+  pub removed : remove (codes "abc") 1 ≡ codes "ac"
+
+-- the numbers that digests and texts begin with
+pub record NumbersHold : Type 0 where
+  pub of_digest : digest_prefix (replicate 6 0 ++ 1 ∷ 2 ∷ replicate 8 9) ≡ 258
+  -- behind a short text there are zeros
+  pub of_text : text_prefix (codes "A") ≡ 65 * 256 ^ 15
+
 -- keys, rows and their order
 pub record KeysHold : Type 0 where
   pub equal_rows :
@@ -34,16 +52,24 @@ pub record KeysHold : Type 0 where
       ∷ row (codes "1" ∷ []) (codes "a" ∷ []) (codes "y" ∷ []) ∷ row (codes "1" ∷ codes "2" ∷ []) (codes "a" ∷ []) (codes "x" ∷ []) ∷ [])
       ≡ true ∷ false ∷ false ∷ false ∷ false ∷ []
   pub missing : map is_missing (key [] ∷ record { parts = [] ∷ [] ∷ [] } ∷ record { parts = [] ∷ codes "A" ∷ [] } ∷ key (codes "A") ∷ []) ≡ true ∷ true ∷ false ∷ false ∷ []
+  pub all_missing : map (list_all is_missing) ((key [] ∷ key [] ∷ []) ∷ (key [] ∷ key (codes "P") ∷ []) ∷ []) ≡ true ∷ false ∷ []
   pub zero_key : plain.hash (key [] ∷ key [] ∷ []) ≡ 0 ∷ []
   pub one_missing : plain.hash (key [] ∷ key (codes "P") ∷ []) ≡ codes ";P"
   pub parts_joined : plain.hash (record { parts = codes "A" ∷ codes "B" ∷ [] } ∷ key (codes "P") ∷ []) ≡ codes "A;B;P"
   pub attributes_joined : plain.diff (codes "a" ∷ codes "b" ∷ []) ≡ codes "a;b"
+  pub texts_once : sorted_by text_cmp (codes "b" ∷ codes "ab" ∷ codes "b" ∷ codes "a" ∷ []) ≡ codes "a" ∷ codes "ab" ∷ codes "b" ∷ []
   pub by_references_first :
       row_cmp (row (codes "1" ∷ []) (codes "b" ∷ []) (codes "y" ∷ [])) (row (codes "2" ∷ []) (codes "a" ∷ []) (codes "x" ∷ [])) ≡ Less
   pub by_sub_next : row_cmp (row (codes "1" ∷ []) (codes "b" ∷ []) (codes "x" ∷ [])) (row (codes "1" ∷ []) (codes "a" ∷ []) (codes "y" ∷ [])) ≡ Greater
   pub by_attributes_last : row_cmp (row (codes "1" ∷ []) (codes "a" ∷ []) (codes "x" ∷ [])) (row (codes "1" ∷ []) (codes "a" ∷ []) (codes "y" ∷ [])) ≡ Less
   pub prefix_first : row_cmp (row (codes "1" ∷ []) [] []) (row (codes "10" ∷ []) [] []) ≡ Less
   pub keys_of_hub : keys_at 0 (0 ∷ 1 ∷ 0 ∷ []) (key (codes "a") ∷ key (codes "b") ∷ key (codes "c") ∷ []) ≡ key (codes "a") ∷ key (codes "c") ∷ []
+  -- one digest in two hubs, and in none
+  pub named :
+      map
+      (λ hub. key_named hub (codes "1") (record { hub = 0; digest = codes "1"; key = key (codes "A") } ∷ record { hub = 1; digest = codes "1"; key = key (codes "P") } ∷ []))
+      (0 ∷ 1 ∷ 2 ∷ [])
+      ≡ Some (key (codes "A")) ∷ Some (key (codes "P")) ∷ None ∷ []
 
 -- the dates of the examples
 pub record DatesHold : Type 0 where

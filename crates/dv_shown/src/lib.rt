@@ -1,6 +1,9 @@
-//! Worked examples of the definitions of the warehouse, as equations that the check computes.
+//! Worked examples of the definitions of the warehouse, as equations that the check computes. The
+//! values in the doc comments at the calls of `dv_text`, `dv_stage`, `dv_records`, `dv_window` and
+//! `dv_mart` are of them.
 #![tactic(auto)]
 
+ghost use Rattle.std.specs.Prelude.{◌≡◌, None};
 ghost use Rattle.dv_shown.specs.Answered.{LimitsAnswered, RowsAnswered, StatesHold, WindowsAnswered};
 ghost use Rattle.dv_shown.specs.Brought.{BroughtHold};
 ghost use Rattle.dv_shown.specs.Collided.{CollisionsHold};
@@ -12,10 +15,10 @@ ghost use Rattle.dv_shown.specs.DamagedStores.{DamageByWeight, DamagePastLimits,
 ghost use Rattle.dv_shown.specs.Declared.{FaultsDeclared, FilesDeclared, MappingsDeclared, TablesDeclared};
 ghost use Rattle.dv_shown.specs.Digested.{HashesDigested, LinkDigested, PitDigested, SatelliteDigested, StatusDigested};
 ghost use Rattle.dv_shown.specs.Exercised.{ExerciseCounts};
-ghost use Rattle.dv_shown.specs.Kept.{ChangesMade, SnapshotsKept, SnapshotsRead, StoresChanged, TablesKept};
+ghost use Rattle.dv_shown.specs.Kept.{ChangesMade, SnapshotsKept, SnapshotsRead, StoresChanged, TablesKept, TurnsPlanned};
 ghost use Rattle.dv_shown.specs.Limited.{LimitsKept, LimitsPassed};
 ghost use Rattle.dv_shown.specs.Listed.{ManifestsRead};
-ghost use Rattle.dv_shown.specs.Normals.{DatesHold, KeysHold, NormalsHold};
+ghost use Rattle.dv_shown.specs.Normals.{DatesHold, KeysHold, ListsHold, NormalsHold, NumbersHold};
 ghost use Rattle.dv_shown.specs.Printed.{QueriesPrinted, RulesPrinted};
 ghost use Rattle.dv_shown.specs.Read.{ExtractsRead};
 ghost use Rattle.dv_shown.specs.ReadBacks.{MultiReadBackHolds, ReadBackHolds, ReadBackMeets};
@@ -28,6 +31,8 @@ ghost use Rattle.dv_shown.specs.Tables.{DrivenHold, EffectsHold, HubsHold, Links
 ghost use Rattle.dv_shown.specs.Vaults.{VaultsHold};
 ghost use Rattle.dv_shown.specs.Written.{BridgeWritten, EffectWritten, LinkWritten, MartsWritten, MultiWritten, PitWritten, StatusWritten, TablesWritten, WordsHold};
 
+use dv_text::Digest;
+
 pub mod catalog_laws;
 pub mod check_examples;
 pub mod file_examples;
@@ -38,6 +43,23 @@ pub mod reading_examples;
 pub fn normals_hold()
     ensures { NormalsHold }
 {}
+
+/// Lists that grow and shrink.
+pub fn lists_hold()
+    ensures { ListsHold }
+{}
+
+/// The numbers that digests and texts begin with.
+pub fn numbers_hold()
+    ensures { NumbersHold }
+{}
+
+/// No digest has three bytes.
+pub fn no_digest() -> Option<Digest>
+    ensures { result ≡ None }
+{
+    Digest::of(b"abc")
+}
 
 /// Keys, rows and their order.
 pub fn keys_hold()
@@ -363,6 +385,11 @@ pub fn stores_changed()
 /// What a changing call of a keeper does, by its answer.
 pub fn changes_made()
     ensures { ChangesMade }
+{}
+
+/// How calls of a keeper in memory go for which a failure is planned.
+pub fn turns_planned()
+    ensures { TurnsPlanned }
 {}
 
 /// What manifests say.

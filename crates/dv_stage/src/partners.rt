@@ -93,9 +93,11 @@ fn shared_driver(alloc: Global, feed: &FeedDef, rows: &[NRow]) -> Result<Option<
     }
 }
 
-/// The rule W18, where the rows of a feed break it: the feed has a driver, and two rows with the same driving
-/// keys have different references. It names the least such keys. Want of memory is the error; the rows may
-/// stand in any order, and are sorted by their driving keys once.
+/// The rule W18, where the rows of a feed break it: the feed has a driver, and two rows with the
+/// same driving keys have different references. It names the least such keys. Want of memory is the
+/// error; the rows may stand in any order, and are sorted by their driving keys once. Where the
+/// first key drives, it names the key `1` for the references `1`, `P` and `1`, `Q`; `1`, `P` and
+/// `2`, `P` break nothing.
 pub fn two_drivers(alloc: Global, feed: &FeedDef, rows: &[NRow]) -> Result<Option<Rule>, Memory>
     ensures { IfOk result (λ rule. rule ≡ readings.two_drivers feed.now feed.now.driver rows.now) }
 {

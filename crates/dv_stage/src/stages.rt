@@ -94,6 +94,11 @@ pub(crate) fn read_extract(
 /// The bytes are CSV (RFC 4180), with a header. Answers the distinct rows in order and the number of records
 /// behind the header, or the first rule that the extract breaks: W7 to W11 of its header, then W12 to W17
 /// record by record, then W18.
+///
+/// For a feed with the key column `CUST_NO` and the attribute `NAME`,
+/// `CUST_NO,NAME\n k1 ,n\nK1,n\n` stages as one row, of the key `K1` and the attribute `n`, taken
+/// from 2 records. With `K1,m` as its second record it breaks the rule `TwoRows`, by the records 1
+/// and 2.
 pub fn stage(
     alloc: Global,
     catalog: &Catalog,

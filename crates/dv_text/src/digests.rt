@@ -75,6 +75,7 @@ fn short_eq(a: &[u8; 16], b: &[u8; 16]) -> bool
 
 impl Digest {
     /// The digest with these bytes; none where there are neither 16 nor 32. Takes no memory.
+    /// `Digest::of(b"abc")` is `None`.
     pub fn of(bytes: &[u8]) -> Option<Digest>
         ensures some { IfSome result (λ d. d ≡ bytes.now) }
         ensures which { IsSome result ↔ ((length bytes.now ≡ 16) ⊎ (length bytes.now ≡ 32)) }
@@ -92,7 +93,8 @@ impl Digest {
         }
     }
 
-    /// The zero key: so many bytes, all zero. Takes no memory.
+    /// The zero key: so many bytes, all zero. Takes no memory. Under MD5 `Digest::zero(16)` is the
+    /// hash key of a missing key.
     pub fn zero(width: u8) -> Digest
         requires { (width ≡ 16) ⊎ (width ≡ 32) }
         ensures { result ≡ replicate width 0 }
@@ -119,8 +121,9 @@ impl Digest {
         }
     }
 
-    /// The number that the first eight bytes spell, the greatest first. Of two digests with different
-    /// numbers the one with the lesser number is less. Takes no memory.
+    /// The number that the first eight bytes spell, the greatest first. Of two digests with
+    /// different numbers the one with the lesser number is less. Takes no memory. The number is 258
+    /// where these bytes are six zeros, 1 and 2.
     pub fn prefix(&self) -> u64
         ensures value { result ≡ digest_prefix self.now }
         ensures kept { IsDigest self.now }

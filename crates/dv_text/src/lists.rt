@@ -246,8 +246,8 @@ impl<T> List<T> {
         held(&self.stored)
     }
 
-    /// Puts an item at the end. For want of memory the list is as before, and the item is dropped. The
-    /// first item takes no memory.
+    /// Puts an item at the end: `c` behind `a` and `b` makes `a`, `b` and `c`. For want of memory
+    /// the list is as before, and the item is dropped. The first item takes no memory.
     pub fn push(&mut self, item: T) -> Result<(), Memory>
     where
         T: Drop,
@@ -257,8 +257,8 @@ impl<T> List<T> {
         push_behind(self.alloc, &mut self.stored, item)
     }
 
-    /// Puts the items of another list at the end, in their order. For want of memory the list is as before,
-    /// and the other's items are dropped.
+    /// Puts the items of another list at the end, in their order: `b` and `c` behind `a` make `a`,
+    /// `b` and `c`. For want of memory the list is as before, and the other's items are dropped.
     pub fn append(&mut self, other: List<T>) -> Result<(), Memory>
     where
         T: Drop,
@@ -280,7 +280,8 @@ impl<T> List<T> {
         move_behind(stored, items);
     }
 
-    /// Takes the last item away; none where there is no item. Takes no memory.
+    /// Takes the last item away; none where there is no item. Takes no memory. Of `a`, `b` and `c`
+    /// it takes `c`, and `a` and `b` stay.
     pub fn pop(&mut self) -> Option<T>
     where
         T: Drop,
@@ -291,7 +292,8 @@ impl<T> List<T> {
         pop_held(&mut self.stored)
     }
 
-    /// Takes the item at this place away. Takes no memory.
+    /// Takes the item at this place away. Takes no memory. Place 1 of `a`, `b` and `c` is `b`, and
+    /// `a` and `c` stay.
     pub fn remove(&mut self, at: usize) -> T
     where
         T: Drop,

@@ -38,22 +38,23 @@ fn trimmed(text: &[u8]) -> &[u8]
     &rest[..rest.len() - trailing(rest)]
 }
 
-/// A field's normal form: the text without space, tab, CR and LF at both ends.
+/// A field's normal form: the text without space, tab, CR and LF at both ends. That of `" a b "` is
+/// `"a b"`, and that of `" \t\r\n"` has no bytes.
 pub fn field(alloc: Global, text: &[u8]) -> Result<Text, Memory>
     ensures { IfOk result (λ made. made ≡ spec.norm_field text.now) }
 {
     Text::of(alloc, trimmed(text))
 }
 
-/// A key part's normal form: that of a field, with the ASCII letters a to z raised to A to Z. No other
-/// byte changes.
+/// A key part's normal form: that of a field, with the ASCII letters a to z raised to A to Z. No
+/// other byte changes. That of `" A2 "` is `"A2"`, and that of `"a1"` is `"A1"`.
 pub fn key_part(alloc: Global, text: &[u8]) -> Result<Text, Memory>
     ensures { IfOk result (λ made. made ≡ spec.norm_key text.now) }
 {
     Text::raised(alloc, trimmed(text))
 }
 
-/// The parts, with a semicolon between each and the next.
+/// The parts, with a semicolon between each and the next: `a` and `b` are joined as `a;b`.
 #[tactic(auto, using(crate::proofs::Joins::join_more))]
 pub fn joined(alloc: Global, parts: &List<Text>) -> Result<Text, Memory>
     ensures { IfOk result (λ made. made ≡ keys.joined parts.now) }

@@ -45,7 +45,8 @@ impl<T: Exact> Exact for List<T> {
     ghost tells_apart = { slice_cmp-IsAntisymmetric T.tells_apart };
 }
 
-/// The items in order, each once. Takes no memory.
+/// The items in order, each once. Takes no memory. Of the texts `b`, `ab`, `b` and `a` these are
+/// `a`, `ab` and `b`.
 pub fn sorted_distinct<T: Exact>(items: Vec<T>) -> List<T>
     ensures value { result ≡ sorted_by T.cmp items.items }
     ensures ascending { IsStrictlySortedBy T.cmp result }
@@ -57,7 +58,8 @@ pub fn sorted_distinct<T: Exact>(items: Vec<T>) -> List<T>
     List::from_vec(items)
 }
 
-/// The items of a list in order, each once. Takes no memory.
+/// The items of a list in order, each once: of the texts `b`, `ab`, `b` and `a` these are `a`, `ab`
+/// and `b`. Takes no memory.
 pub fn sorted_list<T: Exact>(items: List<T>) -> List<T>
     ensures value { result ≡ sorted_by T.cmp items }
     ensures ascending { IsStrictlySortedBy T.cmp result }
@@ -70,6 +72,8 @@ pub fn sorted_list<T: Exact>(items: List<T>) -> List<T>
 }
 
 /// The rows in order, each once: by references, then by sub, then by attributes. Takes no memory.
+/// Two rows of the key `K1` and the attribute `n` are one; a row of the key `1` is before one of
+/// the key `2`, also where its attribute is `y` and the other's `x`.
 pub fn sorted_rows(rows: List<NRow>) -> List<NRow>
     ensures value { result ≡ sorted_by row_cmp rows }
     ensures ascending { IsStrictlySortedBy row_cmp result }

@@ -19,7 +19,8 @@ pub trait Prefixed: Exact {
 
     ghost number: { Self → ℕ };
 
-    /// The number of the value. Takes no memory.
+    /// The number of the value. Takes no memory. That of the text `A` is `65 << 120`: its byte, and
+    /// zeros for the fifteen that it hasn't.
     fn prefix(&self) -> u128
         ensures { result ≡ number self.now };
 
@@ -162,8 +163,9 @@ fn sorted_pairs<T: Prefixed>(items: Vec<T>) -> Result<Vec<T>, Memory>
     without_prefixes(pairs)
 }
 
-/// The items in order, each once. What `sorted_distinct` makes, sooner where the items are many: it compares
-/// their numbers first. Takes no memory where the items ascend already.
+/// The items in order, each once: of the texts `b`, `ab`, `b` and `a` these are `a`, `ab` and `b`.
+/// What `sorted_distinct` makes, sooner where the items are many: it compares their numbers first.
+/// Takes no memory where the items ascend already.
 pub fn sorted_by_prefix<T: Prefixed>(items: Vec<T>) -> Result<List<T>, Memory>
     ensures value { IfOk result (λ made. made ≡ sorted_by T.cmp items.items) }
     ensures ascending { IfOk result (IsStrictlySortedBy T.cmp) }

@@ -14,7 +14,8 @@ pub struct Key {
 }
 
 impl Key {
-    /// Whether the key is missing: all its parts are empty. Takes no memory.
+    /// Whether the key is missing: all its parts are empty. Takes no memory. A key of two empty
+    /// parts is missing, and one of an empty part and `A` isn't.
     pub fn is_missing(&self) -> bool
         ensures { result ≡ keys.is_missing self.now }
     {
@@ -25,7 +26,8 @@ impl Key {
     }
 }
 
-/// Whether every key of a reference list is missing. Takes no memory.
+/// Whether every key of a reference list is missing. Takes no memory. It is not so of a missing key
+/// and the key `P`.
 pub fn are_missing(refs: &[Key]) -> bool
     ensures { result ≡ list_all keys.is_missing refs.now }
 {

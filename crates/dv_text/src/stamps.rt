@@ -41,6 +41,11 @@ impl Stamp {
 
     /// The stamp that a text `YYYY-MM-DDTHH:MM:SS` says: a year from 1900 to 9998, a date of the
     /// Gregorian calendar and a time of day to 23:59:59. None for any other text. Takes no memory.
+    ///
+    /// ```rust
+    /// assert_eq!(rt; Stamp::read(b"1900-01-02T01:01:01"), Stamp::from_number(90_061));
+    /// assert_eq!(rt; Stamp::read(b"2024-02-30T00:00:00"), None);
+    /// ```
     #[tactic(auto, using(crate::proofs::Forms::form_parts), unfolding(crate::specs::Stamps::stamp_in))]
     pub fn read(text: &[u8]) -> Option<Stamp>
         ensures { result ≡ stamp_of text.now }
@@ -61,7 +66,8 @@ impl Stamp {
         }
     }
 
-    /// The text of the stamp, in the form that `read` takes. Takes no memory.
+    /// The text of the stamp, in the form that `read` takes. Takes no memory. The stamp with the
+    /// number 121 prints as `1900-01-01T00:02:01`.
     pub fn print(self) -> [u8; 19]
         ensures shown { result ≡ stamp_text self }
         ensures reads_back { self ≢ open_end → stamp_of result ≡ Some self }
@@ -82,7 +88,8 @@ impl Stamp {
         )
     }
 
-    /// The seconds since 1900-01-01T00:00:00. Takes no memory.
+    /// The seconds since 1900-01-01T00:00:00. Takes no memory. They are 90,061 at
+    /// 1900-01-02T01:01:01.
     pub fn number(self) -> i64
         ensures value { result ≡ pos self }
         ensures known { IsTrue (is_stamp_number self) }
@@ -90,7 +97,9 @@ impl Stamp {
         self.seconds as i64
     }
 
-    /// The stamp with this number, or `OPEN` with its own; none where neither has it. Takes no memory.
+    /// The stamp with this number, or `OPEN` with its own; none where neither has it. Takes no
+    /// memory. Of 255,579,753,599 it is that of `9998-12-31T23:59:59`, and of 255,579,753,600 there
+    /// is none.
     pub fn from_number(n: i64) -> Option<Stamp>
         ensures some { IfSome result (λ s. n ≡ pos s) }
         ensures none { IfNone result ((s : ℕ) → IsTrue (is_stamp_number s) → n ≢ pos s) }

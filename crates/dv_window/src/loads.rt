@@ -75,6 +75,11 @@ impl Office {
     /// adds to the tables. `order` is that in which the tasks of the tables are begun, and `gate` is
     /// passed before and after each of them. Neither workers nor order nor gate change what comes of
     /// the window: no clause depends on them. `Memory` comes where any worker ran out of it.
+    ///
+    /// Into an office of no windows, with a feed of keys and names, the window of 1 March with the
+    /// extract `CUST_NO,NAME\n1,abc\n` is `Loaded` with 3 rows: one each of the hub, of the
+    /// satellite and of the status table. Given again it is `Repeated`. A window without extracts
+    /// is `Refused`, by the rule `NoExtracts`.
     pub fn load<R: Threads + Sync, K: Keeper, H: KeyDigest, G: Gate>(
         &mut self,
         rt: &R,

@@ -89,7 +89,8 @@ impl Office {
         self.vault.heads()
     }
 
-    /// The load date of the last sealed window; none where none is sealed. Takes no memory.
+    /// The load date of the last sealed window, as 2 March of those of 1 and 2 March; none where
+    /// none is sealed. Takes no memory.
     pub fn last(&self) -> Option<Stamp>
         ensures { result ≡ last_head self.now.vault.heads }
     {
@@ -115,6 +116,9 @@ impl Office {
 
     /// The rows that the open window has in a raw table of the keeper already; none where no window is
     /// open, or the mapping hasn't the table. Takes no memory.
+    ///
+    /// Where `A1` and `A2` are sealed in a hub, and the keeper has `A3` of the open window there
+    /// and nothing more, it is `A3` for the hub, and no row for the status table of its feed.
     pub fn rows_begun(&self, table: TableId) -> Option<&Rows>
         ensures kind { IfSome result (λ rows. is_of_kind table rows.now ≡ true) }
         ensures held { is_of_kind table (rows_in table self.now.vault.tables) ≡ true }
@@ -150,8 +154,10 @@ impl Office {
     /// Lets the office go. Takes no memory.
     pub fn close(self) {}
 
-    /// The rows of a feed in the last sealed window that has the feed and is not later than the date, read
-    /// back from the vault, by references, then attributes. Condition: the feed is in the mapping.
+    /// The rows of a feed in the last sealed window that has the feed and is not later than the
+    /// date, read back from the vault, by references, then attributes. Condition: the feed is in
+    /// the mapping. Where the customers `1` and `2` came on 1 March, and `1` is gone on 2 March, it
+    /// is the row of `2` at 2 March.
     pub fn content(&self, feed: u32, date: Stamp) -> Result<List<NRow>, Memory>
         requires { feed < length self.now.vault.mapping.feeds }
         ensures { IfOk result (λ rows. rows ≡ any_content_read self.now.vault.mapping self.now.vault.tables feed date) }

@@ -45,6 +45,9 @@ impl Office {
     /// Reads the keeper again, where the office is stale; then it isn't stale, and the store breaks no rule of form. A
     /// mapping that is gone, or another one, is damage of the mapping (F1), and no other rule is asked then. `Damaged` and `KeeperFault` come else as from `start`. With an error the office is as before. The
     /// store is as before.
+    ///
+    /// Where a load was answered `KeeperFault`, and the keeper sealed its window all the same, the
+    /// office has this window among the sealed ones then.
     pub fn refresh<K: Keeper, H: KeyDigest>(
         &mut self,
         keeper: &mut K,

@@ -44,6 +44,9 @@ impl Office {
     /// stale. After it, and after `Memory`, the keeper's store stands for the state before, or has
     /// the window sealed. Condition: the keeper's store, where it is told, is what the office
     /// holds, unless this is stale.
+    ///
+    /// Where the first window is open, with one customer and a name, it is `Loaded` with 3 rows,
+    /// and sealed; called once more, it is `NothingOpen`.
     pub fn resume<K: Keeper, H: KeyDigest>(&mut self, keeper: &mut K, digest: &H) -> ResumeAnswer
         requires { AgreesUnlessStale self.old (K.store keeper.old) }
         ensures step { (state : State) → IsIn (hashes_of H.function) state self.old (K.store keeper.old) → CompletesTo self.old.vault.mapping (hashes_of H.function) state result self.new (K.store keeper.new) }

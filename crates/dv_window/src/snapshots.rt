@@ -56,12 +56,14 @@ fn with_head(alloc: Global, heads: &[SnapHead], head: SnapHead) -> Result<List<S
 }
 
 impl Office {
-    /// Stores a snapshot of the sealed windows in one call of the keeper. With `Failed`, which comes only where the
-    /// keeper's count of faults rose, the office is stale, and the keeper's store is as before or has the snapshot. With
-    /// `Memory` nothing has changed. It is a step of the machine in a state whose snapshot at the head's date this is, and
-    /// in which no rule refuses it. Conditions: the office isn't stale, and its keeper's store, where it is told, is what
-    /// the office holds; no stored snapshot has the head's date, no table stands twice, and with it the snapshots keep
-    /// their limits.
+    /// Stores a snapshot of the sealed windows in one call of the keeper. With `Failed`, which
+    /// comes only where the keeper's count of faults rose, the office is stale, and the keeper's
+    /// store is as before or has the snapshot. With `Memory` nothing has changed. It is a step of
+    /// the machine in a state whose snapshot at the head's date this is, and in which no rule
+    /// refuses it. Conditions: the office isn't stale, and its keeper's store, where it is told, is
+    /// what the office holds; no stored snapshot has the head's date, no table stands twice, and
+    /// with it the snapshots keep their limits. One of 2 March stands between those of 1 and 3
+    /// March then.
     pub fn keep_snapshot<K: Keeper>(
         &mut self,
         keeper: &mut K,

@@ -24,8 +24,8 @@ use dv_vault::Vault;
 use std::alloc::Global;
 
 impl Office {
-    /// The office of no windows, by a mapping, for digests of so many bytes. It stands for
-    /// the beginning.
+    /// The office of no windows, by a mapping, for digests of so many bytes. It stands for the
+    /// beginning: a snapshot of it is refused as `Future`, without a last date.
     pub fn begin(alloc: Global, catalog: Catalog, width: u8) -> Result<Office, Memory>
         ensures mapping { IfOk result (λ office. office.vault.mapping ≡ catalog) }
         ensures stands { IfOk result (λ office. (hashes : Hashes) → StandsFor hashes beginning office) }
@@ -62,6 +62,9 @@ impl Office {
     /// `Damaged` names the first row of the store that breaks a rule of form, and its first rule: exactly where one
     /// does, so never where the store stands for a state; and over a keeper that tells nothing, a place and a rule that
     /// there may be. `KeeperFault` comes only where the keeper's count of faults rose. The store is as before.
+    ///
+    /// Over a store that has a mapping and nothing else it is an office of no windows; over one
+    /// that has nothing the answer is `NoMapping`.
     pub fn start<K: Keeper, H: KeyDigest>(
         alloc: Global,
         keeper: &mut K,

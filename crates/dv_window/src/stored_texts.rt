@@ -75,6 +75,10 @@ fn asked_text<K: Keeper>(
 /// the keeper's count of faults rose, and leaves the office stale; else the office is as before.
 /// The store is as before. Conditions: the office isn't stale, and the mapping has the hub or the
 /// path.
+///
+/// The table of a hub with the feeds `customers` and `accounts` has the header
+/// `hash_key,snapshot,customers.load,customers.present,accounts.load,accounts.present`, and a line
+/// for each key behind it.
 pub fn stored_text<K: Keeper>(
     alloc: Global,
     office: &mut Office,

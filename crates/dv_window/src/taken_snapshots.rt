@@ -50,6 +50,10 @@ fn keep<K: Keeper>(office: &mut Office, keeper: &mut K, snap: &Snap) -> SnapAnsw
 /// snapshot. What is said of a state is said of one whose missing keys have the zero key.
 /// Conditions: the office isn't stale, and the keeper's store, where it is told, is what the office
 /// holds.
+///
+/// Where windows of 1 and 2 March have brought three customers, one at 2 March is `Stored` with 3
+/// rows, and one more at 2 March is `Repeated`. Where the only window is of 1 March, one at the
+/// beginning of 2030 is `Future`, with 1 March as the last date.
 pub fn snapshot<K: Keeper>(
     alloc: Global,
     office: &mut Office,
