@@ -1,5 +1,5 @@
 -- The rows that a window adds to a hub, told from the rows of its table and the deliveries of the window.
-use Rattle.std.specs.Prelude.{◌≡◌, ◌<◌, ℕ, nat_le, true, List, [], ◌∷◌, ◌++◌, None, Contains, length, reverse, slice_get}
+use Rattle.std.specs.Prelude.{◌≡◌, ◌<◌, ℕ, nat_le, true, List, [], ◌∷◌, ◌++◌, None, Result, Contains, length, reverse, slice_get}
 use Rattle.std.specs.List.{list_all}
 use Rattle.dv_text.specs.declared.rows.Key.{Key}
 use Rattle.dv_text.specs.declared.rows.Window.{Window}
@@ -9,11 +9,12 @@ use Rattle.dv_catalog.specs.declared.tables.TableId.TheVariants.{Hub as HubTable
 use Rattle.dv_catalog.specs.Entries.{Mapping}
 use Rattle.dv_catalog.specs.Feeds.{parts_of}
 use Rattle.dv_records.specs.declared.deliveries.Delivery.{Delivery}
+use Rattle.dv_records.specs.declared.deliveries.DeltaFault.{DeltaFault}
 use Rattle.dv_records.specs.declared.raw_rows.HubRow.{HubRow}
 use Rattle.dv_records.specs.Batches.{appended}
 use Rattle.dv_records.specs.Collisions.{collision_in}
 use Rattle.dv_records.specs.Deliveries.{deliveries}
-use Rattle.dv_records.specs.Deltas.{Hashed, brought}
+use Rattle.dv_records.specs.Deltas.{Answers, Hashed, brought}
 use Rattle.dv_records.specs.History.{IsInLoadOrder}
 use Rattle.dv_records.specs.HubPlaces.{hub_place}
 use Rattle.dv_records.specs.Hubs.{hub_batch}
@@ -56,6 +57,12 @@ pub record IsNext (mapping : Mapping) (hashes : Hashes) (hub : ℕ) (older : Lis
   pub table : rows ≡ appended (hub_batch mapping hashes hub) older
   pub loaded : load ≡ window.load
   pub offered : items ≡ deliveries mapping (Hub hub) window
+
+-- over a hub's rows, the deliveries of a later window are answered by the window's batch, or by the collision in the hub
+abbrev pub AnswersBatch : Mapping → Hashes → List HubRow → ℕ → List Delivery → Result (List HubRow) DeltaFault → Type 0
+AnswersBatch mapping hashes rows load items result =
+    (hub : ℕ) (older : List Window) (window : Window) → IsNext mapping hashes hub older window rows load items
+    → Answers result (collision_in mapping hashes (reverse (window ∷ older)) (Hub hub)) (hub_batch mapping hashes hub older window)
 
 -- a hub's rows hold the batch of the window that the deliveries are of, and no window collides in the hub
 pub record IsHeld (mapping : Mapping) (hashes : Hashes) (hub : ℕ) (older : List Window) (window : Window) (rows : List HubRow) (items : List Delivery) : Type 0 where

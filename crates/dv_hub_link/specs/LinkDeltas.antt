@@ -1,6 +1,6 @@
 -- The rows that a window adds to a link, told from the rows of its table, the deliveries of the window, and the keys that
 -- the hubs name.
-use Rattle.std.specs.Prelude.{◌≡◌, ◌<◌, ℕ, true, List, ◌∷◌, ◌++◌, Option, Some, None, Contains, find, length, reverse}
+use Rattle.std.specs.Prelude.{◌≡◌, ◌<◌, ℕ, true, List, ◌∷◌, ◌++◌, Option, Some, None, Result, Contains, find, length, reverse}
 use Rattle.std.specs.List.{list_all}
 use Rattle.std.specs.Option.{option_map}
 use Rattle.std.specs.Str.{bytes_eq}
@@ -11,12 +11,13 @@ use Rattle.dv_catalog.specs.declared.entries.Parent.TheVariants.{Hub, Link}
 use Rattle.dv_catalog.specs.Entries.{Mapping}
 use Rattle.dv_catalog.specs.Mappings.{is_valid}
 use Rattle.dv_records.specs.declared.deliveries.Delivery.{Delivery}
+use Rattle.dv_records.specs.declared.deliveries.DeltaFault.{DeltaFault}
 use Rattle.dv_records.specs.declared.raw_rows.HubRow.{HubRow}
 use Rattle.dv_records.specs.declared.raw_rows.LinkRow.{LinkRow}
 use Rattle.dv_records.specs.Batches.{appended}
 use Rattle.dv_records.specs.Collisions.{collision_in}
 use Rattle.dv_records.specs.Deliveries.{deliveries}
-use Rattle.dv_records.specs.Deltas.{Hashed, brought}
+use Rattle.dv_records.specs.Deltas.{Answers, Hashed, brought}
 use Rattle.dv_records.specs.History.{IsInLoadOrder}
 use Rattle.dv_records.specs.HubNames.{HubName, key_named}
 use Rattle.dv_records.specs.Hubs.{hub_batch, link_batch}
@@ -65,6 +66,12 @@ pub record IsNext (mapping : Mapping) (hashes : Hashes) (names : List HubName) (
   pub table : rows ≡ appended (link_batch mapping hashes link) older
   pub loaded : load ≡ window.load
   pub offered : items ≡ deliveries mapping (Link link) window
+
+-- over a link's rows, the deliveries of a later window are answered by the window's batch, or by the collision in the link
+abbrev pub AnswersBatch : Mapping → Hashes → List HubName → List LinkRow → ℕ → List Delivery → Result (List LinkRow) DeltaFault → Type 0
+AnswersBatch mapping hashes names rows load items result =
+    (link : ℕ) (older : List Window) (window : Window) → IsNext mapping hashes names link older window rows load items
+    → Answers result (collision_in mapping hashes (reverse (window ∷ older)) (Link link)) (link_batch mapping hashes link older window)
 
 -- a link's rows hold the batch of the window that the deliveries are of, and no window collides in the link
 pub record IsHeld (mapping : Mapping) (hashes : Hashes) (names : List HubName) (link : ℕ) (older : List Window) (window : Window) (rows : List LinkRow) (items : List Delivery) : Type 0 where

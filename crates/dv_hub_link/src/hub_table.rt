@@ -1,12 +1,9 @@
-ghost use Rattle.std.specs.Prelude.{◌≡◌, ◌≤◌, ◌∷◌, ◌++◌, [], ℕ, List as list_of, None, IfOk, IsTrue, OnOk, length, map, nat_le, option_map, reverse};
+ghost use Rattle.std.specs.Prelude.{◌≡◌, ◌≤◌, ◌++◌, [], ℕ, List as list_of, None, IfOk, IsTrue, OnOk, length, map, nat_le, option_map};
 ghost use Rattle.std.specs.List.{list_all};
 ghost use Rattle.dv_text.specs.Keys.{hashes_of};
 ghost use Rattle.dv_text.specs.declared.rows.Window.{Window};
-ghost use Rattle.dv_catalog.specs.declared.entries.Parent.TheVariants as parents;
-ghost use Rattle.dv_records.specs.Collisions.{collision_in};
 ghost use Rattle.dv_records.specs.Deltas.{Answers, AreHashed, HasNoClash, IfCollides, IsLeastClash, delivered};
-ghost use Rattle.dv_records.specs.Hubs.{hub_batch};
-ghost use Rattle.dv_hub_link.specs.HubDeltas.{AreHubItems, IsHeld, IsNext, hub_delta, hub_hashed};
+ghost use Rattle.dv_hub_link.specs.HubDeltas.{AnswersBatch, AreHubItems, IsHeld, hub_delta, hub_hashed};
 ghost use Rattle.dv_hub_link.specs.HubRows as spec;
 ghost use Rattle.dv_hub_link.specs.HubRows.{are_hub_rows};
 
@@ -134,8 +131,7 @@ impl HubTable {
         ensures rows { IfOk result (λ made. made ≡ hub_delta catalog.now (hashes_of H.function) load self.now.rows (delivered items.now)) }
         ensures collision { IfCollides result (IsLeastClash (hub_hashed catalog.now (hashes_of H.function) self.now.rows (delivered items.now))) }
         ensures whole { IfOk result (λ made. IsTrue (are_hub_rows (self.now.rows ++ made))) }
-        ensures batch { (hub : ℕ) (older : list_of Window) (window : Window) → IsNext catalog.now (hashes_of H.function) hub older window self.now.rows load (delivered items.now)
-            → Answers result (collision_in catalog.now (hashes_of H.function) (reverse (window ∷ older)) (parents.Hub hub)) (hub_batch catalog.now (hashes_of H.function) hub older window) }
+        ensures batch { AnswersBatch catalog.now (hashes_of H.function) self.now.rows load (delivered items.now) result }
         ensures held { (hub : ℕ) (older : list_of Window) (window : Window) → IsHeld catalog.now (hashes_of H.function) hub older window self.now.rows (delivered items.now)
             → Answers result None [] }
     {

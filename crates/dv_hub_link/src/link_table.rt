@@ -1,12 +1,9 @@
-ghost use Rattle.std.specs.Prelude.{◌≡◌, ◌≤◌, ◌∷◌, ◌++◌, [], ℕ, List as list_of, None, IfOk, IsTrue, OnOk, length, map, nat_le, option_map, reverse};
+ghost use Rattle.std.specs.Prelude.{◌≡◌, ◌≤◌, ◌++◌, [], ℕ, List as list_of, None, IfOk, IsTrue, OnOk, length, map, nat_le, option_map};
 ghost use Rattle.std.specs.List.{list_all};
 ghost use Rattle.dv_text.specs.Keys.{hashes_of};
 ghost use Rattle.dv_text.specs.declared.rows.Window.{Window};
-ghost use Rattle.dv_catalog.specs.declared.entries.Parent.TheVariants as parents;
-ghost use Rattle.dv_records.specs.Collisions.{collision_in};
 ghost use Rattle.dv_records.specs.Deltas.{Answers, AreHashed, HasNoClash, IfCollides, IsLeastClash, delivered};
-ghost use Rattle.dv_records.specs.Hubs.{link_batch};
-ghost use Rattle.dv_hub_link.specs.LinkDeltas.{AreLinkItems, IsHeld, IsNext, link_delta, link_hashed};
+ghost use Rattle.dv_hub_link.specs.LinkDeltas.{AnswersBatch, AreLinkItems, IsHeld, link_delta, link_hashed};
 ghost use Rattle.dv_hub_link.specs.LinkLists as lists;
 ghost use Rattle.dv_hub_link.specs.LinkLists.{are_of_links};
 ghost use Rattle.dv_hub_link.specs.LinkRows as spec;
@@ -156,8 +153,7 @@ impl LinkTable {
         ensures rows { IfOk result (λ made. made ≡ link_delta catalog.now (hashes_of H.function) load self.now.rows (delivered items.now)) }
         ensures collision { IfCollides result (IsLeastClash (link_hashed catalog.now (hashes_of H.function) (N.names names.now) self.now.rows (delivered items.now))) }
         ensures whole { IfOk result (λ made. IsTrue (are_link_rows (self.now.rows ++ made))) }
-        ensures batch { (link : ℕ) (older : list_of Window) (window : Window) → IsNext catalog.now (hashes_of H.function) (N.names names.now) link older window self.now.rows load (delivered items.now)
-            → Answers result (collision_in catalog.now (hashes_of H.function) (reverse (window ∷ older)) (parents.Link link)) (link_batch catalog.now (hashes_of H.function) link older window) }
+        ensures batch { AnswersBatch catalog.now (hashes_of H.function) (N.names names.now) self.now.rows load (delivered items.now) result }
         ensures held { (link : ℕ) (older : list_of Window) (window : Window) → IsHeld catalog.now (hashes_of H.function) (N.names names.now) link older window self.now.rows (delivered items.now)
             → Answers result None [] }
     {

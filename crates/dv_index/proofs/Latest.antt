@@ -1,5 +1,5 @@
 -- The row before the point up to which an index is reached is a parent's latest one, where it is the parent's.
-use Rattle.dv_index.proofs.Vocabulary.{Bool, Equal, Greater, IsIndex, IsPartitionPoint, Less, List, None, Ordering, Place, Some, [], and_from, and_parts, arith, bytes_eq, bytes_eq-Decides, cases_lt, false, false_from_ne_true, false≢true, get_or, get_or-map, get_or_default, inl, inr, is_reached}
+use Rattle.dv_index.proofs.Vocabulary.{Bool, Equal, Greater, IsIndex, IsReachedPoint, Less, List, None, Ordering, Place, Some, [], and_from, and_parts, arith, bytes_eq, bytes_eq-Decides, cases_lt, false, false_from_ne_true, false≢true, get_or, get_or-map, get_or_default, inl, inr}
 use Rattle.dv_index.proofs.Vocabulary.{is_reached_by, latest_at, le-leb, leb-true, length, length-map, load_at, loads_of, nat_le, nat_list_cmp_total, nat_tests, parent_at, parents_of, refl, row_before, slice_get, slice_get-get_or, sym, text_cmp, text_cmp-IsAntisymmetric, tied_itself, true, ℕ}
 use Rattle.dv_index.proofs.Vocabulary.{◌&&◌, ◌-◌, ◌<◌, ◌==◌, ◌∙◌, ◌∷◌, ◌≡◌, ◌≤◌, ◌⊎◌}
 use Rattle.dv_index.proofs.{LastFound.last_none, LastFound.last_found, Order.in_order, Order.le_from_not_lt, Order.number_there, Order.within}
@@ -28,7 +28,7 @@ some_row [] n under = absurd (omega arith)
 some_row (row ∷ rows) n under = row
 
 module _ {X : Type 0} (place : X → Place) (rows : List X) (index : List ℕ) (is : IsIndex (parents_of place rows) index) (parent : List ℕ) (date count : ℕ) (bound : count ≤ length index)
-    (point : IsPartitionPoint (λ number. is_reached (parents_of place rows) (loads_of place rows) parent date number ≡ true) (λ number. is_reached (parents_of place rows) (loads_of place rows) parent date number ≡ false) index count) where
+    (point : IsReachedPoint (parents_of place rows) (loads_of place rows) parent date index count) where
   -- a row of the parent, not later than the date
   abbrev passes : X → Bool
   passes row = bytes_eq (place row).parent parent && nat_le (place row).load date

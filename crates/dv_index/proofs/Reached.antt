@@ -1,6 +1,6 @@
 -- What is reached of the entries of an index, and the search for how many are.
-use Rattle.dv_index.proofs.Vocabulary.{All, All-get_or, AreEntries, Bool, Entry, IsDigest, IsEntry, IsPartitionPoint, IsPartitionedBy, List, Place, are_in_load_order, arith, digest_prefix, false, false_from_ne_true, false≢true, get_or, get_or-take, get_or_default, is_entry_reached, is_reached}
-use Rattle.dv_index.proofs.Vocabulary.{length, length-map, length-take-le, loads_of, numbers_of, parents_of, sym, take, true, ℕ, ◌+◌, ◌-◌, ◌<◌, ◌∙◌, ◌≡◌, ◌≤◌}
+use Rattle.dv_index.proofs.Vocabulary.{All, All-get_or, AreEntries, Bool, Entry, IsDigest, IsEntry, IsPartitionPoint, IsPartitionedBy, IsReachedPoint, List, Place, are_in_load_order, arith, digest_prefix, false, false_from_ne_true, false≢true, get_or, get_or-take, get_or_default, is_entry_reached}
+use Rattle.dv_index.proofs.Vocabulary.{is_reached, length, length-map, length-take-le, loads_of, numbers_of, parents_of, sym, take, true, ℕ, ◌+◌, ◌-◌, ◌<◌, ◌∙◌, ◌≡◌, ◌≤◌}
 use Rattle.dv_index.proofs.{EntryOrder.entry_reached, EntryOrder.number_at, Order.reached_first}
 
 module _ {X : Type 0} (p : X → Bool) (xs : List X) where
@@ -61,7 +61,7 @@ module _ {X : Type 0} (place : X → Place) (rows : List X) (index : List Entry)
 
   -- the point up to which entries are reached is that up to which their numbers are
   pub numbers_point : (count : ℕ) → count ≤ length index → IsPartitionPoint (λ entry. reach_entry entry ≡ true) (λ entry. reach_entry entry ≡ false) index count
-      → IsPartitionPoint (λ number. reach number ≡ true) (λ number. reach number ≡ false) (numbers_of index) count
+      → IsReachedPoint (parents_of place rows) (loads_of place rows) parent date (numbers_of index) count
   numbers_point count within point = (
     λ k d low under. reached_at k d (default d) (omega arith) ∙ point.0 k (default d) low under,
     λ k d low under. let small : k < length index = rw length-map at under in reached_at k d (default d) small ∙ point.1 k (default d) low small,

@@ -3,7 +3,7 @@ pub use Rattle.dv_text.proofs.Vocabulary.{All, Bool, Contains, Contains-append_c
 pub use Rattle.dv_text.proofs.Vocabulary.{append_assoc, arith, bytes_eq-Decides, digest_prefix, drop_more, false, false_from_ne_true, false≢true, filter_map, filter_map-append, get_or, get_or-map, get_or-range_with_len, get_or_default, get_or_from_slice_get, inl, inr, is_lt, length, length-drop}
 pub use Rattle.dv_text.proofs.Vocabulary.{length-map, length-range_with_len, list_all, list_all-append, map, min, nat_cmp, nat_cmp_total, nat_tests, not-false, on_total, option_map, option_or, option_to_list, ordering_then, range_with_len, refl, reverse, rules, same_Some, slice_get}
 pub use Rattle.dv_text.proofs.Vocabulary.{slice_get-get_or, slice_get_within, sorted_by, subst, suc, sym, take, take_more, text_cmp, text_cmp-IsAntisymmetric, then_total, true, zero, ℕ, ◌&&◌, ◌++◌, ◌+◌, ◌-◌, ◌<◌, ◌∙◌, ◌∷◌, ◌≡◌, ◌≤◌, ◌⊎◌}
-pub use Rattle.dv_index.specs.Numbers.{AreEntries, AreRuns, IsEntry, IsIndex, entry_at, entry_cmp, is_entry_reached, is_last, is_reached, is_reached_by, is_reached_if, last_row, load_at, loads_of, number_cmp, numbers_of, parent_at, parents_of, row_before}
+pub use Rattle.dv_index.specs.Numbers.{AreEntries, AreRuns, IsEntry, IsIndex, IsReachedPoint, entry_at, entry_cmp, is_entry_reached, is_last, is_reached, is_reached_by, is_reached_if, last_row, load_at, loads_of, number_cmp, numbers_of, parent_at, parents_of, row_before}
 pub use Rattle.dv_index.specs.Places.{Place, are_in_load_order, fits_at, last_of, latest_at, latest_of_each}
 pub use Rattle.dv_index.specs.declared.entries.Entry.{Entry}
 pub use Rattle.dv_text.proofs.{BigEndian.prefix_first, Members.Contains-cons_cases, Members.Contains-cons_here, Members.Contains-cons_there, Members.Contains-nil, Members.Contains-range, Members.IsStrictlySortedBy-filter_map, Members.all_members, Members.filter_map_member}

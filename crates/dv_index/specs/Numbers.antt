@@ -2,7 +2,7 @@
 use Rattle.std.specs.Prelude.{◌≡◌, ℕ, ◌+◌, ◌-◌, ◌==◌, nat_le, Bool, true, false, not, ◌&&◌, List, [], Option, Some, None, drop, if◌then◌else◌, length, map, slice_get, slice_index, slice_index_or, take}
 use Rattle.std.specs.List.{All, range_with_len}
 use Rattle.std.specs.Str.{bytes_eq}
-use Rattle.std.specs.List.Sorted.{IsPermutation, IsSorted}
+use Rattle.std.specs.List.Sorted.{IsPartitionPoint, IsPermutation, IsSorted}
 use Rattle.std.specs.declared.cmp.Ordering.{Ordering}
 use Rattle.std.specs.declared.cmp.Ordering.TheVariants.{Less, Equal, Greater}
 use Rattle.std.specs.Ordering.{nat_cmp, ordering_then}
@@ -81,6 +81,11 @@ is_entry_reached parents loads parent prefix date entry = is_reached_by (nat_cmp
 abbrev pub is_reached_if : List (List ℕ) → List ℕ → List ℕ → ℕ → Option ℕ → Bool
 is_reached_if parents loads parent date None = false
 is_reached_if parents loads parent date (Some number) = is_reached parents loads parent date number
+
+-- the partition point of an index: the rows of all numbers before it are reached, and those of the others are not
+abbrev pub IsReachedPoint : List (List ℕ) → List ℕ → List ℕ → ℕ → List ℕ → ℕ → Type 0
+IsReachedPoint parents loads parent date index point =
+    IsPartitionPoint (λ number. is_reached parents loads parent date number ≡ true) (λ number. is_reached parents loads parent date number ≡ false) index point
 
 -- of the first numbers of an index, so many, the row with the last one, if it is of a parent
 abbrev pub row_before : {X : Type 0} → (X → Place) → List X → List ℕ → List ℕ → ℕ → Option X

@@ -1,9 +1,9 @@
 // Look-ups of many parents one after another.
-ghost use Rattle.std.specs.Prelude.{◌≡◌, ◌≤◌, All, IfOk, IsTrue, length, map, option_map, take, true, false};
+ghost use Rattle.std.specs.Prelude.{◌≡◌, ◌≤◌, All, IfOk, IsTrue, length, map, option_map, take, true};
 ghost use Rattle.std.specs.List.{range_with_len};
-ghost use Rattle.std.specs.List.Sorted.{IsPartitionPoint, IsPermutation};
+ghost use Rattle.std.specs.List.Sorted.{IsPermutation};
 ghost use Rattle.dv_text.specs.Digests.{IsDigest, digest_prefix};
-ghost use Rattle.dv_index.specs.Numbers.{AreEntries, AreRuns, is_entry_reached, is_reached, loads_of, numbers_of, parents_of};
+ghost use Rattle.dv_index.specs.Numbers.{AreEntries, AreRuns, IsReachedPoint, is_entry_reached, loads_of, numbers_of, parents_of};
 ghost use Rattle.dv_index.specs.Places.{are_in_load_order, latest_at};
 
 use crate::entries::Entry;
@@ -54,10 +54,7 @@ fn count_from<R: Placed>(
     requires within { start ≤ length index.now }
     requires reached { All (λ entry. is_entry_reached (parents_of R.place rows.now) (loads_of R.place rows.now) parent.now prefix date entry ≡ true) (take start index.now) }
     ensures within { result ≤ length index.now }
-    ensures point { IsPartitionPoint
-        (λ number. is_reached (parents_of R.place rows.now) (loads_of R.place rows.now) parent.now date number ≡ true)
-        (λ number. is_reached (parents_of R.place rows.now) (loads_of R.place rows.now) parent.now date number ≡ false)
-        (numbers_of index.now) result }
+    ensures point { IsReachedPoint (parents_of R.place rows.now) (loads_of R.place rows.now) parent.now date (numbers_of index.now) result }
 {
     let mut low = start;
     let mut high = index.len();
@@ -85,10 +82,7 @@ fn count_near<R: Placed>(
     requires order { IsTrue (are_in_load_order R.place rows.now) }
     requires within { hint ≤ length index.now }
     ensures within { result ≤ length index.now }
-    ensures point { IsPartitionPoint
-        (λ number. is_reached (parents_of R.place rows.now) (loads_of R.place rows.now) parent.now date number ≡ true)
-        (λ number. is_reached (parents_of R.place rows.now) (loads_of R.place rows.now) parent.now date number ≡ false)
-        (numbers_of index.now) result }
+    ensures point { IsReachedPoint (parents_of R.place rows.now) (loads_of R.place rows.now) parent.now date (numbers_of index.now) result }
 {
     let prefix = parent.prefix();
     let start = start_at(rows, index, prefix, parent, date, hint);

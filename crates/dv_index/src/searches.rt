@@ -1,8 +1,7 @@
 // Look-ups in an index by binary search.
-ghost use Rattle.std.specs.Prelude.{◌≡◌, ◌≤◌, IsTrue, length, option_map, true, false};
-ghost use Rattle.std.specs.List.Sorted.{IsPartitionPoint};
+ghost use Rattle.std.specs.Prelude.{◌≡◌, ◌≤◌, IsTrue, length, option_map};
 ghost use Rattle.std.specs.Str.{bytes_eq};
-ghost use Rattle.dv_index.specs.Numbers.{AreEntries, AreRuns, IsEntry, loads_of, numbers_of, parents_of};
+ghost use Rattle.dv_index.specs.Numbers.{AreEntries, AreRuns, IsEntry, IsReachedPoint, loads_of, numbers_of, parents_of};
 ghost use Rattle.dv_index.specs.Numbers as spec;
 ghost use Rattle.dv_index.specs.Places.{are_in_load_order, latest_at};
 
@@ -45,10 +44,7 @@ fn reached_count<R: Placed>(rows: &[R], index: &[Entry], parent: &Digest, date: 
     requires index { AreEntries (parents_of R.place rows.now) index.now }
     requires order { IsTrue (are_in_load_order R.place rows.now) }
     ensures within { result ≤ length index.now }
-    ensures point { IsPartitionPoint
-        (λ number. spec.is_reached (parents_of R.place rows.now) (loads_of R.place rows.now) parent.now date number ≡ true)
-        (λ number. spec.is_reached (parents_of R.place rows.now) (loads_of R.place rows.now) parent.now date number ≡ false)
-        (numbers_of index.now) result }
+    ensures point { IsReachedPoint (parents_of R.place rows.now) (loads_of R.place rows.now) parent.now date (numbers_of index.now) result }
 {
     let prefix = parent.prefix();
     index.partition_point(|entry| is_entry_reached(rows, *entry, prefix, parent, date))

@@ -1,5 +1,5 @@
 -- What is read of the raw tables of a store: the tables, and where their rows keep to the rules of form.
-use Rattle.std.specs.Option.{option_to_list}
+use Rattle.std.specs.Option.{option_map, option_to_list}
 use Rattle.std.specs.Prelude.{◌≡◌, ℕ, ◌+◌, ◌-◌, min, List, [], ◌∷◌, ◌++◌, Option, Some, None, length, map}
 use Rattle.dv_text.specs.declared.rows.WindowHead.{WindowHead}
 use Rattle.dv_text.specs.Keys.{Hashes}
@@ -7,6 +7,7 @@ use Rattle.dv_text.specs.Told.{Told}
 use Rattle.dv_catalog.specs.declared.tables.TableId.{TableId}
 use Rattle.dv_catalog.specs.declared.tables.TableId.TheVariants.{Hub as HubId, Link as LinkId}
 use Rattle.dv_catalog.specs.Entries.{Mapping}
+use Rattle.dv_catalog.specs.Tables.{table_name}
 use Rattle.dv_index.specs.Places.{Indexed}
 use Rattle.dv_records.specs.declared.answers.Damage.{Damage}
 use Rattle.dv_records.specs.declared.raw_rows.HubRow.{HubRow}
@@ -15,12 +16,13 @@ use Rattle.dv_records.specs.declared.stores.Rows.TheVariants.{Hubs, Links}
 use Rattle.dv_records.specs.declared.stores.Store.{Store}
 use Rattle.dv_records.specs.declared.stores.TableRows.{TableRows}
 use Rattle.dv_records.specs.States.{head_of}
+use Rattle.dv_records.specs.Stores.{rows_in}
 use Rattle.dv_records.specs.Weights.{tables_weight}
 use Rattle.dv_store_rules.specs.declared.flaws.Flaw.{Flaw}
 use Rattle.dv_store_rules.specs.declared.known.Known.{Known as KnownTables}
 use Rattle.dv_store_rules.specs.declared.pages.Read.{Read}
 use Rattle.dv_store_rules.specs.declared.pages.Read.TheVariants.{OtherKind, Rows as AllRows}
-use Rattle.dv_store_rules.specs.Damages.{raw_damage, stored_entries}
+use Rattle.dv_store_rules.specs.Damages.{damage_at, raw_damage, stored_entries}
 use Rattle.dv_store_rules.specs.FormRules.{Known}
 use Rattle.dv_store_rules.specs.KnownTables.{IsKnown}
 use Rattle.dv_store_rules.specs.StoredRows.{flaw_in}
@@ -44,6 +46,14 @@ known_first mapping hashes width heads = record { mapping = mapping; hashes = ha
 abbrev pub flaw_read : Known → TableId → Read → Option Flaw
 flaw_read known id (AllRows rows) = flaw_in known id rows
 flaw_read known id (OtherKind row) = Some (record { row = row; rule = 4 })
+
+-- the damage of a raw table by its flaw, where it has one
+abbrev pub flaw_damage : Mapping → TableId → Option Flaw → Option Damage
+flaw_damage mapping id = option_map (damage_at (table_name mapping id))
+
+-- this is the damage of a raw table of a store, where it is told, by what is known of the tables before it
+abbrev pub IsTableDamage : Mapping → Known → TableId → Option Store → Damage → Type 0
+IsTableDamage mapping known id told damage = Told told (λ s. flaw_damage mapping id (flaw_in known id (rows_in id s.tables)) ≡ Some damage)
 
 -- entries are what a store, where it is told, has of these tables, and no row of them breaks a rule of form
 pub record AreRead (first : Known) (told : Option Store) (ids : List TableId) (entries : List TableRows) : Type 0 where

@@ -10,6 +10,7 @@ ghost use Rattle.dv_records.specs.States.{head_of};
 ghost use Rattle.dv_records.specs.Weights.{tables_weight};
 ghost use Rattle.dv_store_rules.specs.Damages.{raw_damage, stored_entries};
 ghost use Rattle.dv_vault.specs.Vaults.{IsVaultOf, entry_of};
+ghost use Rattle.dv_restore.specs.declared.faults.StoreFault.TheVariants.{Damaged};
 ghost use Rattle.dv_restore.specs.Damages.{IsNamed};
 ghost use Rattle.dv_restore.specs.Readings.{AreGathered, AreInForm, IsRawDamage, known_first};
 
@@ -40,8 +41,8 @@ fn gather<K: Keeper, H: KeyDigest>(
 ) -> Result<Gathered, StoreFault>
     requires { ids.now ≡ tables catalog.now }
     ensures gathered { IfOk result (AreGathered (known_first catalog.now (hashes_of H.function) H.function.width heads.now) (K.store keeper.old) ids.now (length ids.now)) }
-    ensures damaged { (damage : Damage) → IsErrOf result (StoreFault.Damaged damage) → IsRawDamage (known_first catalog.now (hashes_of H.function) H.function.width heads.now) (K.store keeper.old) damage }
-    ensures formed { (damage : Damage) → IsErrOf result (StoreFault.Damaged damage) → IsNamed catalog.now damage }
+    ensures damaged { (damage : Damage) → IsErrOf result (Damaged damage) → IsRawDamage (known_first catalog.now (hashes_of H.function) H.function.width heads.now) (K.store keeper.old) damage }
+    ensures formed { (damage : Damage) → IsErrOf result (Damaged damage) → IsNamed catalog.now damage }
     ensures store { K.store keeper.new ≡ K.store keeper.old }
     ensures cause { IsErrOf result StoreFault.KeeperFault → Rose (K.faults keeper.old) (K.faults keeper.new) }
     ensures later { K.faults keeper.old ≤ K.faults keeper.new }
@@ -71,8 +72,8 @@ pub(crate) fn read_tables<K: Keeper, H: KeyDigest>(
     ensures clear { IfOk result (λ read. AreInForm (record { mapping = catalog.now; hashes = hashes_of H.function; width = H.function.width; heads = heads.now; tables = [] }) (map entry_of read.tables.items)) }
     ensures told { IfOk result (λ read. Told (K.store keeper.old) (λ s. map entry_of read.tables.items ≡ stored_entries s (tables catalog.now))) }
     ensures undamaged { IfOk result (λ read. Told (K.store keeper.old) (λ s. s.windows ++ map head_of (option_to_list s.stage) ≡ heads.now → raw_damage catalog.now (hashes_of H.function) H.function.width s ≡ None)) }
-    ensures damaged { (damage : Damage) → IsErrOf result (StoreFault.Damaged damage) → Told (K.store keeper.old) (λ s. s.windows ++ map head_of (option_to_list s.stage) ≡ heads.now → raw_damage catalog.now (hashes_of H.function) H.function.width s ≡ Some damage) }
-    ensures formed { (damage : Damage) → IsErrOf result (StoreFault.Damaged damage) → IsNamed catalog.now damage }
+    ensures damaged { (damage : Damage) → IsErrOf result (Damaged damage) → Told (K.store keeper.old) (λ s. s.windows ++ map head_of (option_to_list s.stage) ≡ heads.now → raw_damage catalog.now (hashes_of H.function) H.function.width s ≡ Some damage) }
+    ensures formed { (damage : Damage) → IsErrOf result (Damaged damage) → IsNamed catalog.now damage }
     ensures store { K.store keeper.new ≡ K.store keeper.old }
     ensures cause { IsErrOf result StoreFault.KeeperFault → Rose (K.faults keeper.old) (K.faults keeper.new) }
     ensures later { K.faults keeper.old ≤ K.faults keeper.new }

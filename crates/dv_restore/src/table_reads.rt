@@ -1,5 +1,4 @@
 // One raw table of a keeper, read and held to the rules of form.
-ghost use Rattle.std.specs.Option.{option_map};
 ghost use Rattle.std.specs.Prelude.{◌≡◌, ◌+◌, ◌≤◌, IfOk, IsErrOf, IsTrue, None, Some};
 ghost use Rattle.dv_text.specs.Causes.{Rose};
 ghost use Rattle.dv_text.specs.Keys.{hashes_of};
@@ -15,8 +14,9 @@ ghost use Rattle.dv_store_rules.specs.KnownTables.{IsKnown};
 ghost use Rattle.dv_store_rules.specs.Pages.{IsOfTable, TellsRows};
 ghost use Rattle.dv_store_rules.specs.StoredRows.{flaw_in};
 ghost use Rattle.dv_vault.specs.Vaults.{entry_of};
+ghost use Rattle.dv_restore.specs.declared.faults.StoreFault.TheVariants.{Damaged};
 ghost use Rattle.dv_restore.specs.Damages.{IsNamed};
-ghost use Rattle.dv_restore.specs.Readings.{flaw_read};
+ghost use Rattle.dv_restore.specs.Readings.{IsTableDamage, flaw_damage, flaw_read};
 
 use crate::checked_tables::checked_table;
 use crate::faults::StoreFault;
@@ -30,7 +30,7 @@ use std::alloc::Global;
 // The damage of a flaw, by the name of its table.
 fn damaged(catalog: &Catalog, table: TableId, flaw: Flaw) -> Result<StoreFault, Memory>
     requires { IsTrue (is_table_of catalog.now table) }
-    ensures { IfOk result (λ fault. fault ≡ StoreFault.Damaged (damage_at (table_name catalog.now table) flaw)) }
+    ensures { IfOk result (λ fault. fault ≡ Damaged (damage_at (table_name catalog.now table) flaw)) }
 {
     let table = catalog.table_name(table)?;
     Ok(StoreFault::Damaged(Damage {
@@ -49,7 +49,7 @@ fn stored_rows<K: Keeper>(
 ) -> Result<Read, StoreFault>
     ensures told { IfOk result (λ read. Told (K.store keeper.old) (λ s. TellsRows table weight (rows_in table s.tables) read)) }
     ensures kind { IfOk result (λ read. IsOfTable table read) }
-    ensures sound { (damage : damages.Damage) → IsErrOf result (StoreFault.Damaged damage) → ⊥ }
+    ensures sound { (damage : damages.Damage) → IsErrOf result (Damaged damage) → ⊥ }
     ensures store { K.store keeper.new ≡ K.store keeper.old }
     ensures cause { IsErrOf result StoreFault.KeeperFault → Rose (K.faults keeper.old) (K.faults keeper.new) }
     ensures later { K.faults keeper.old ≤ K.faults keeper.new }
@@ -74,8 +74,7 @@ fn table_of<H: KeyDigest>(
     ensures id { IfOk result (λ made. (entry_of made.table).table ≡ id) }
     ensures weight { IfOk result (λ made. made.weight ≡ known.now.weight + rows_weight (entry_of made.table).rows) }
     ensures clear { (before : spec.Known) → IsKnown (hashes_of H.function) H.function.width known.now before → IfOk result (λ made. flaw_in before id (entry_of made.table).rows ≡ None) }
-    ensures damaged { (before : spec.Known) → IsKnown (hashes_of H.function) H.function.width known.now before → (damage : damages.Damage) → IsErrOf result (StoreFault.Damaged damage)
-        → option_map (damage_at (table_name known.now.catalog.now id)) (flaw_read before id read) ≡ Some damage }
+    ensures damaged { (before : spec.Known) → IsKnown (hashes_of H.function) H.function.width known.now before → (damage : damages.Damage) → IsErrOf result (Damaged damage) → flaw_damage known.now.catalog.now id (flaw_read before id read) ≡ Some damage }
     ensures sound { IsErrOf result StoreFault.KeeperFault → ⊥ }
 {
     let rows = match read {
@@ -105,9 +104,8 @@ pub(crate) fn read_table<K: Keeper, H: KeyDigest>(
     ensures weight { IfOk result (λ made. made.weight ≡ known.now.weight + rows_weight (entry_of made.table).rows) }
     ensures clear { (before : spec.Known) → IsKnown (hashes_of H.function) H.function.width known.now before → IfOk result (λ made. flaw_in before id (entry_of made.table).rows ≡ None) }
     ensures told { (before : spec.Known) → IsKnown (hashes_of H.function) H.function.width known.now before → IfOk result (λ made. Told (K.store keeper.old) (λ s. (entry_of made.table).rows ≡ rows_in id s.tables)) }
-    ensures damaged { (before : spec.Known) → IsKnown (hashes_of H.function) H.function.width known.now before → (damage : damages.Damage) → IsErrOf result (StoreFault.Damaged damage)
-        → Told (K.store keeper.old) (λ s. option_map (damage_at (table_name known.now.catalog.now id)) (flaw_in before id (rows_in id s.tables)) ≡ Some damage) }
-    ensures formed { (before : spec.Known) → IsKnown (hashes_of H.function) H.function.width known.now before → (damage : damages.Damage) → IsErrOf result (StoreFault.Damaged damage) → IsNamed known.now.catalog.now damage }
+    ensures damaged { (before : spec.Known) → IsKnown (hashes_of H.function) H.function.width known.now before → (damage : damages.Damage) → IsErrOf result (Damaged damage) → IsTableDamage known.now.catalog.now before id (K.store keeper.old) damage }
+    ensures formed { (before : spec.Known) → IsKnown (hashes_of H.function) H.function.width known.now before → (damage : damages.Damage) → IsErrOf result (Damaged damage) → IsNamed known.now.catalog.now damage }
     ensures store { K.store keeper.new ≡ K.store keeper.old }
     ensures cause { IsErrOf result StoreFault.KeeperFault → Rose (K.faults keeper.old) (K.faults keeper.new) }
     ensures later { K.faults keeper.old ≤ K.faults keeper.new }

@@ -5,7 +5,7 @@ ghost use Rattle.dv_text.specs.Keys.{hashes_of};
 ghost use Rattle.dv_digest.specs.Fits as fits;
 ghost use Rattle.dv_digest.specs.HashedExtracts.{HasKeys};
 ghost use Rattle.dv_catalog.specs.Feeds.{source};
-ghost use Rattle.dv_records.specs.declared.stores.Rows.TheVariants as rows_of;
+ghost use Rattle.dv_records.specs.declared.stores.Rows.TheVariants.{Sats};
 ghost use Rattle.dv_records.specs.RawTables.{extract_added, extract_at};
 ghost use Rattle.dv_records.specs.RowViews.{AreOfLoad, is_up_to};
 ghost use Rattle.dv_sat.specs.FeedTables as spec;
@@ -17,7 +17,7 @@ use dv_records::{RawTable, Rows};
 use dv_text::{KeyDigest, List, Memory, Stamp};
 
 impl RawTable for SatTable {
-    ghost held = { λ table. rows_of.Sats table.rows };
+    ghost held = { λ table. Sats table.rows };
 
     ghost spare = { λ table. table.spare };
 
@@ -51,10 +51,10 @@ impl SatTable {
         requires staged { IfSome extract (λ extract. extract.now.staged.now.feed ≡ feed) }
         requires keys { IfSome extract (λ extract. HasKeys (hashes_of H.function) extract.now) }
         requires attrs_fit { IfSome extract (λ extract. IsTrue (list_all (λ row. fits.attrs_fit row.attrs) extract.now.staged.now.rows)) }
-        requires not_later { IsTrue (is_up_to load (rows_of.Sats self.now.rows)) }
-        ensures rows { IfOk result (λ rows. rows ≡ extract_added (spec.sats_added (hashes_of H.function) (source catalog.now feed) (rows_of.Sats self.now.rows)) (rows_of.Sats []) (option_map (λ extract. extract_at load extract.now.staged.now) extract.entry)) }
+        requires not_later { IsTrue (is_up_to load (Sats self.now.rows)) }
+        ensures rows { IfOk result (λ rows. rows ≡ extract_added (spec.sats_added (hashes_of H.function) (source catalog.now feed) (Sats self.now.rows)) (Sats []) (option_map (λ extract. extract_at load extract.now.staged.now) extract.entry)) }
         ensures stamped { IfOk result (AreOfLoad load) }
-        ensures follow { IfOk result (spec.Follow (rows_of.Sats self.now.rows)) }
+        ensures follow { IfOk result (spec.Follow (Sats self.now.rows)) }
     {
         match extract {
             Some(extract) => {

@@ -7,7 +7,7 @@ ghost use Rattle.dv_text.specs.Keys.{hashes_of};
 ghost use Rattle.dv_digest.specs.Fits as fits;
 ghost use Rattle.dv_digest.specs.HashedExtracts.{HasKeys};
 ghost use Rattle.dv_catalog.specs.Feeds.{source};
-ghost use Rattle.dv_records.specs.declared.stores.Rows.TheVariants as rows_of;
+ghost use Rattle.dv_records.specs.declared.stores.Rows.TheVariants.{Multis};
 ghost use Rattle.dv_records.specs.RawTables.{extract_added, extract_at};
 ghost use Rattle.dv_records.specs.RowViews.{AreOfLoad, is_up_to};
 ghost use Rattle.dv_sat.specs.MultiFeedTables as multi;
@@ -19,7 +19,7 @@ use dv_records::{RawTable, Rows};
 use dv_text::{KeyDigest, List, Memory, Stamp};
 
 impl RawTable for MultiTable {
-    ghost held = { λ table. rows_of.Multis table.rows };
+    ghost held = { λ table. Multis table.rows };
 
     ghost spare = { λ table. table.spare };
 
@@ -54,10 +54,10 @@ impl MultiTable {
         requires keys { IfSome extract (λ extract. HasKeys (hashes_of H.function) extract.now) }
         requires ascending { IfSome extract (λ extract. IsStrictlySortedBy row_cmp extract.now.staged.now.rows) }
         requires attrs_fit { IfSome extract (λ extract. IsTrue (list_all (λ row. fits.attrs_fit row.attrs) extract.now.staged.now.rows)) }
-        requires not_later { IsTrue (is_up_to load (rows_of.Multis self.now.rows)) }
-        ensures rows { IfOk result (λ rows. rows ≡ extract_added (multi.multis_added (hashes_of H.function) (source catalog.now feed) (rows_of.Multis self.now.rows)) (rows_of.Multis []) (option_map (λ extract. extract_at load extract.now.staged.now) extract.entry)) }
+        requires not_later { IsTrue (is_up_to load (Multis self.now.rows)) }
+        ensures rows { IfOk result (λ rows. rows ≡ extract_added (multi.multis_added (hashes_of H.function) (source catalog.now feed) (Multis self.now.rows)) (Multis []) (option_map (λ extract. extract_at load extract.now.staged.now) extract.entry)) }
         ensures stamped { IfOk result (AreOfLoad load) }
-        ensures follow { IfOk result (multi.Follow (rows_of.Multis self.now.rows)) }
+        ensures follow { IfOk result (multi.Follow (Multis self.now.rows)) }
     {
         match extract {
             Some(extract) => {

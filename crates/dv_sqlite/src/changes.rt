@@ -1,7 +1,7 @@
 //! Changes of the file, each of which is one transaction.
 ghost use Rattle.std.specs.Prelude.{◌≡◌, Ok, OnOk, IsTrue};
 ghost use Rattle.sqlite.specs.Values.{bound};
-ghost use Rattle.sqlite.specs.State.{HasCleanDisk, ExecutesInside, Survives};
+ghost use Rattle.sqlite.specs.State.{HasCleanDisk, ExecutesInside as Executes, Survives};
 ghost use Rattle.sqlite.specs.Held.{state};
 ghost use Rattle.dv_sqlite.specs.Changes.{ChangedBoth};
 
@@ -25,7 +25,7 @@ pub(crate) fn change_rows<S: Alter>(
     rows: usize,
 ) -> Result<()>
     ensures same_reference { tx.new.conn.ghost_name ≡ tx.old.conn.ghost_name }
-    ensures asked { HasCleanDisk (state S.Store tx.new.conn.now) → IsTrue (state S.Store tx.old.conn.now).in_transaction → OnOk result (ExecutesInside 0 sql.now (bound values.now) (state S.Store tx.old.conn.now) (state S.Store tx.new.conn.now) (Ok rows)) }
+    ensures asked { HasCleanDisk (state S.Store tx.new.conn.now) → IsTrue (state S.Store tx.old.conn.now).in_transaction → OnOk result (Executes 0 sql.now (bound values.now) (state S.Store tx.old.conn.now) (state S.Store tx.new.conn.now) (Ok rows)) }
     ensures survives { Survives (state S.Store tx.old.conn.now) (state S.Store tx.new.conn.now) (λ _. ⊥) }
 {
     if tx.execute(sql, values)? != rows {

@@ -1,10 +1,8 @@
 // A status table as a raw table of a feed.
-ghost use Rattle.std.specs.Prelude.{◌≡◌, ◌<◌, [], IfOk, IfSome, IsTrue, length, option_map};
+ghost use Rattle.std.specs.Prelude.{◌≡◌, ◌<◌, IfOk, IfSome, IsTrue, length};
 ghost use Rattle.dv_text.specs.Keys.{Hashes};
 ghost use Rattle.dv_digest.specs.HashedExtracts.{HasKeys};
-ghost use Rattle.dv_catalog.specs.Feeds.{source};
 ghost use Rattle.dv_records.specs.declared.stores.Rows.TheVariants as rows_of;
-ghost use Rattle.dv_records.specs.RawTables.{extract_added, extract_at};
 ghost use Rattle.dv_records.specs.RowViews.{AreOfLoad, is_up_to};
 ghost use Rattle.dv_track.specs.FeedTables as spec;
 
@@ -46,7 +44,7 @@ impl StatusTable {
         requires feed { feed < length catalog.now.feeds }
         requires staged { IfSome extract (λ extract. extract.now.staged.now.feed ≡ feed) }
         requires not_later { IsTrue (is_up_to load (rows_of.Statuses self.now.rows)) }
-        ensures rows { (hashes : Hashes) → IfSome extract.entry (λ extract. HasKeys hashes extract.now) → IfOk result (λ rows. rows ≡ extract_added (spec.statuses_added hashes (source catalog.now feed) (rows_of.Statuses self.now.rows)) (rows_of.Statuses []) (option_map (λ extract. extract_at load extract.now.staged.now) extract.entry)) }
+        ensures rows { (hashes : Hashes) → IfSome extract.entry (λ extract. HasKeys hashes extract.now) → IfOk result (λ rows. rows ≡ spec.status_feed_delta hashes catalog.now feed self.now.rows load extract.entry) }
         ensures stamped { IfOk result (AreOfLoad load) }
         ensures follow { IfOk result (spec.Follow (rows_of.Statuses self.now.rows)) }
     {

@@ -18,7 +18,7 @@ use Rattle.dv_records.specs.Snapshots.{snapshot}
 use Rattle.dv_records.specs.States.{State}
 use Rattle.dv_records.specs.Steps.{SnapStep, snapshot_refusal}
 use Rattle.dv_records.specs.Stores.{are_snap_tables_apart}
-use Rattle.dv_window.specs.Offices.{Held, IsLeftIn}
+use Rattle.dv_window.specs.Offices.{Held, IsIn, IsLeftIn}
 
 -- by date
 abbrev pub head_cmp : SnapHead → SnapHead → Ordering
@@ -47,6 +47,12 @@ kept_answer rows (Err errors.Memory) = answers.Memory
 abbrev pub KeepsTo : Mapping → Hashes → State → SnapHead → Result (Unit {0}) KeeperError → Held → Option Store → Type 0
 KeepsTo mapping hashes state head result held' after =
     (state' : State) × SnapStep mapping hashes state head.date (kept_answer head.rows result) state' × IsLeftIn hashes state' held' after
+
+-- so it is in each state that the office and the store are in and whose snapshot is kept
+abbrev pub KeepsInStates : Held → Option Store → Snap → Result (Unit {0}) KeeperError → Held → Option Store → Type 0
+KeepsInStates held before snap result held' after =
+    (hashes : Hashes) (state : State) → IsSnapshotIn held.vault.mapping hashes state snap → IsIn hashes state held before
+    → KeepsTo held.vault.mapping hashes state snap.head result held' after
 
 -- the office is stale where the keeper failed, and only there
 abbrev pub StaleWhereFailed : Result (Unit {0}) KeeperError → Bool → Type 0

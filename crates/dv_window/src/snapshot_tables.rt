@@ -7,6 +7,7 @@ ghost use Rattle.dv_bridge.specs.Paths.{is_path_too_large};
 ghost use Rattle.dv_records.specs.Snapshots.{snap_tables};
 ghost use Rattle.dv_records.specs.Stores.{are_snap_tables_apart};
 ghost use Rattle.dv_vault.specs.Vaults.{HasSealed};
+ghost use Rattle.dv_window.specs.declared.snapshot_tables.TablesFault.TheVariants.{TooLarge};
 ghost use Rattle.dv_window.specs.SnapshotTables as spec;
 
 use dv_bridge::{BridgeFault, bridge_rows};
@@ -63,7 +64,7 @@ fn bridge_table(
     ensures table { IfOk result (λ table. (hashes : Hashes) (sealed : list_of Window) → HasZeroKeys hashes → HasSealed hashes sealed vault.now → table ≡ spec.bridge_table vault.now.mapping hashes sealed date path) }
     ensures id { IfOk result (λ table. table.id ≡ SnapId.Bridge path) }
     ensures fits { IfOk result (λ table. (hashes : Hashes) (sealed : list_of Window) → HasZeroKeys hashes → HasSealed hashes sealed vault.now → is_path_too_large vault.now.mapping sealed path date ≡ false) }
-    ensures too_large { (at : ℕ) → IsErrOf result (TablesFault.TooLarge at) → (at ≡ path) × ((hashes : Hashes) (sealed : list_of Window) → HasZeroKeys hashes → HasSealed hashes sealed vault.now → is_path_too_large vault.now.mapping sealed path date ≡ true) }
+    ensures too_large { (at : ℕ) → IsErrOf result (TooLarge at) → (at ≡ path) × ((hashes : Hashes) (sealed : list_of Window) → HasZeroKeys hashes → HasSealed hashes sealed vault.now → is_path_too_large vault.now.mapping sealed path date ≡ true) }
 {
     match bridge_rows(alloc, vault, path, date) {
         Ok(rows) => Ok(SnapTable {
@@ -86,7 +87,7 @@ fn push_bridges(
     ensures tables { OnOk result ((hashes : Hashes) (sealed : list_of Window) → HasZeroKeys hashes → HasSealed hashes sealed vault.now → tables.new ≡ tables.old ++ spec.bridge_tables vault.now.mapping hashes sealed date) }
     ensures ids { OnOk result (spec.ids_of tables.new ≡ spec.ids_of tables.old ++ spec.bridge_ids (length vault.now.mapping.paths)) }
     ensures fits { OnOk result ((hashes : Hashes) (sealed : list_of Window) → HasZeroKeys hashes → HasSealed hashes sealed vault.now → spec.first_large vault.now.mapping sealed date ≡ None) }
-    ensures too_large { (path : ℕ) → IsErrOf result (TablesFault.TooLarge path) → (hashes : Hashes) (sealed : list_of Window) → HasZeroKeys hashes → HasSealed hashes sealed vault.now → spec.first_large vault.now.mapping sealed date ≡ Some path }
+    ensures too_large { (path : ℕ) → IsErrOf result (TooLarge path) → (hashes : Hashes) (sealed : list_of Window) → HasZeroKeys hashes → HasSealed hashes sealed vault.now → spec.first_large vault.now.mapping sealed date ≡ Some path }
 {
     for path in 0..vault.catalog().path_count() {
         tables.push(bridge_table(alloc, vault, path, date)?)?;
@@ -105,7 +106,7 @@ pub(crate) fn snapshot_tables(
     ensures snapshot { IfOk result (λ tables. (hashes : Hashes) (sealed : list_of Window) → HasZeroKeys hashes → HasSealed hashes sealed vault.now → tables ≡ snap_tables vault.now.mapping hashes sealed date) }
     ensures apart { IfOk result (λ tables. IsTrue (are_snap_tables_apart tables)) }
     ensures fits { IfOk result (λ tables. (hashes : Hashes) (sealed : list_of Window) → HasZeroKeys hashes → HasSealed hashes sealed vault.now → spec.first_large vault.now.mapping sealed date ≡ None) }
-    ensures too_large { (path : ℕ) → IsErrOf result (TablesFault.TooLarge path) → (hashes : Hashes) (sealed : list_of Window) → HasZeroKeys hashes → HasSealed hashes sealed vault.now → spec.first_large vault.now.mapping sealed date ≡ Some path }
+    ensures too_large { (path : ℕ) → IsErrOf result (TooLarge path) → (hashes : Hashes) (sealed : list_of Window) → HasZeroKeys hashes → HasSealed hashes sealed vault.now → spec.first_large vault.now.mapping sealed date ≡ Some path }
 {
     let mut tables = pit_tables(alloc, vault, date)?;
     push_bridges(alloc, vault, date, &mut tables)?;

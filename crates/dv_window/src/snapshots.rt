@@ -2,12 +2,10 @@
 ghost use Rattle.std.specs.List.{insert, position};
 ghost use Rattle.std.specs.Option.{unwrap_or};
 ghost use Rattle.std.specs.Prelude.{◌≡◌, ◌++◌, ◌+◌, IfOk, OnOk, false, length, nat_le};
-ghost use Rattle.dv_text.specs.Keys.{Hashes};
 ghost use Rattle.dv_text.specs.Sorting.{insert_by};
 ghost use Rattle.dv_records.specs.Changes.{KeeperCause};
-ghost use Rattle.dv_records.specs.States.{State};
-ghost use Rattle.dv_window.specs.Offices.{AgreesUnlessStale, IsIn};
-ghost use Rattle.dv_window.specs.Snapshots.{IsSnapshotIn, KeepsTo, LeavesAll, MayKeep, StaleWhereFailed, head_cmp};
+ghost use Rattle.dv_window.specs.Offices.{AgreesUnlessStale};
+ghost use Rattle.dv_window.specs.Snapshots.{KeepsInStates, LeavesAll, MayKeep, StaleWhereFailed, head_cmp};
 
 use crate::offices::Office;
 use crate::takings::is_failed;
@@ -73,7 +71,7 @@ impl Office {
         requires fresh { self.old.stale ≡ false }
         requires agrees { AgreesUnlessStale self.old (K.store keeper.old) }
         requires may { MayKeep self.old.snapshots (record { head = head.now; tables = tables.now }) }
-        ensures step { (hashes : Hashes) (state : State) → IsSnapshotIn self.old.vault.mapping hashes state (record { head = head.now; tables = tables.now }) → IsIn hashes state self.old (K.store keeper.old) → KeepsTo self.old.vault.mapping hashes state head.now result self.new (K.store keeper.new) }
+        ensures step { KeepsInStates self.old (K.store keeper.old) (record { head = head.now; tables = tables.now }) result self.new (K.store keeper.new) }
         ensures agrees { AgreesUnlessStale self.new (K.store keeper.new) }
         ensures mapping { self.new.vault.mapping ≡ self.old.vault.mapping }
         ensures width { self.new.width ≡ self.old.width }

@@ -4,9 +4,9 @@ ghost use Rattle.dv_text.specs.Causes.{Rose};
 ghost use Rattle.dv_text.specs.Keys.{Hashes};
 ghost use Rattle.dv_bridge.specs.ZeroKeys.{HasZeroKeys};
 ghost use Rattle.dv_records.specs.States.{State};
-ghost use Rattle.dv_window.specs.SnapSteps.{LeavesBoth, SnapsTo, StaleAfter};
+ghost use Rattle.dv_window.specs.SnapSteps.{LeavesBoth, SnapsInStates, SnapsTo, StaleAfter};
 ghost use Rattle.dv_window.specs.Offices.{AgreesUnlessStale, IsIn};
-ghost use Rattle.dv_window.specs.Snapshots.{IsSnapshotIn, MayKeep};
+ghost use Rattle.dv_window.specs.Snapshots.{MayKeep};
 
 use crate::offices::Office;
 use crate::snapshot_plans::{Planned, plan};
@@ -19,7 +19,7 @@ fn keep<K: Keeper>(office: &mut Office, keeper: &mut K, snap: &Snap) -> SnapAnsw
     requires fresh { office.old.stale ≡ false }
     requires agrees { AgreesUnlessStale office.old (K.store keeper.old) }
     requires may { MayKeep office.old.snapshots snap.now }
-    ensures step { (hashes : Hashes) (state : State) → IsSnapshotIn office.old.vault.mapping hashes state snap.now → IsIn hashes state office.old (K.store keeper.old) → SnapsTo office.old.vault.mapping hashes state snap.now.head.date result office.new (K.store keeper.new) }
+    ensures step { SnapsInStates office.old (K.store keeper.old) snap.now result office.new (K.store keeper.new) }
     ensures kept { LeavesBoth result office.old office.new (K.store keeper.old) (K.store keeper.new) }
     ensures agrees { AgreesUnlessStale office.new (K.store keeper.new) }
     ensures mapping { office.new.vault.mapping ≡ office.old.vault.mapping }
