@@ -1,6 +1,6 @@
 -- Collisions: different keys of a hub, or reference lists of a link, with one hash key (Linstedt and Olschimke 2015,
 -- chapter 11, on hashing).
-use Rattle.std.specs.Prelude.{◌≡◌, ℕ, List, [], ◌∷◌, ◌++◌, Option, None, map, length, replicate, find, slice_get, Contains}
+use Rattle.std.specs.Prelude.{◌≡◌, ℕ, List, [], ◌∷◌, ◌++◌, Option, None, map, length, find, Contains}
 use Rattle.std.specs.List.{flat_map, range_with_len}
 use Rattle.std.specs.Option.{option_map, option_or}
 use Rattle.std.specs.Ordering.{ordering_then}
@@ -16,8 +16,9 @@ use Rattle.dv_catalog.specs.declared.entries.Parent.{Parent}
 use Rattle.dv_catalog.specs.declared.entries.Parent.TheVariants.{Hub, Link}
 use Rattle.dv_catalog.specs.declared.tables.TableId.{TableId}
 use Rattle.dv_catalog.specs.Entries.{Mapping}
-use Rattle.dv_catalog.specs.Feeds.{parent_hubs, parts_of}
+use Rattle.dv_catalog.specs.Feeds.{parent_hubs}
 use Rattle.dv_records.specs.Deliveries.{offered_refs, table_of}
+use Rattle.dv_records.specs.ReadBack.{missing_key}
 
 -- no two of the lists have one hash key
 abbrev pub IsApart : Hashes → List (List Key) → Type 0
@@ -30,8 +31,7 @@ pub record Pair : Type 0 where
 
 -- the missing key of a hub, as a list of one, or the list of the missing keys of a link's hubs; its hash key is the zero key
 abbrev pub missing_refs : Mapping → Parent → List Key
-missing_refs mapping parent =
-    map (λ hub. record { parts = replicate (parts_of (slice_get mapping.hubs hub)) [] }) (parent_hubs mapping parent)
+missing_refs mapping parent = map (missing_key mapping) (parent_hubs mapping parent)
 
 -- what must have hash keys of its own in a hub or a link: what is missing, and all that the windows bring
 abbrev pub hashed_refs : Mapping → List Window → Parent → List (List Key)

@@ -2,6 +2,7 @@
 pub use Rattle.dv_digest.proofs.Vocabulary.{joined}
 pub use Rattle.dv_hub_link.proofs.Vocabulary.{append_assoc, are_parents_apart, are_placed_rows, batch_made, brought, collision_free, deliveries_member, delivery-offered, err_from_is_err_and, false_from_ne_true, find_none, first_offer-member, has_row_under, hashes_of, hub_place, is_offered-member}
 pub use Rattle.dv_hub_link.proofs.Vocabulary.{key_at_first, length-map, length-replicate, link_place, map-map, nat_cmp_total, none_found_at, none_pass, option_to_list, parent_eq, refs_fit, refs_text, refs_text_fits, same_Some, zip}
+pub use Rattle.dv_hub_link.proofs.{Hashables.all_missing}
 pub use Rattle.dv_index.proofs.Vocabulary.{IsSorted, cases_eq, cases_lt, drop_more, get_or-take, get_or_default, last_of, length-drop, length-take, length-take-le, min, not_from_false, ranks_by, slice_get-get_or, slice_get_within, sorted_far, take-append-drop, take-take, take_all, then_total}
 pub use Rattle.dv_records.proofs.Vocabulary.{All-weaker, AllByRecursion, Bool, Contains, Contains-append_cases, Contains-append_left, Contains-append_right, Contains-cons_cases, Contains-cons_here, Contains-cons_there, Contains-flat_map, Contains-map, Contains-nil, Contains-range, Extract}
 pub use Rattle.dv_records.proofs.Vocabulary.{Hashes, IsApart, IsTotalOrder, List, Mapping, None, Option, Place, Some, Span, Stands, State, TablesStand, [], all_pass, all_pass_replicate, all_pass_weaker, all_refs, all_windows, and_from, and_parts, ap, append-nil, appended, are_apart}

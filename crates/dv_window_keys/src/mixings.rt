@@ -12,7 +12,8 @@ fn add_keys(bytes: &mut Vec<u8>, keys: &[Digest]) -> Result<(), Memory> {
     Ok(())
 }
 
-/// The factors of a window, drawn from the hash keys of all its rows.
+/// The factors of a window, drawn from the hash keys of all its rows. Which ones they are is no
+/// promise: they only spread the homes of keys in the table, and any two give the same batches.
 pub fn mixing_of<H: KeyDigest>(
     alloc: Global,
     window: &HashedWindow<'_>,
