@@ -20,10 +20,7 @@ head_old = record {
 
 field_of_host : IsField host
 unfolding is_token_byte
-field_of_host = record {
-  name = (omega arith, AllPass-from_test is_token_byte (codes "Host") refl);
-  raw = AllPass-from_test is_value_byte (codes " localhost") refl;
-}
+field_of_host = record { name = (omega arith, AllPass-from_test is_token_byte (codes "Host") refl); raw = AllPass-from_test is_value_byte (codes " localhost") refl }
 
 pub head_posted : IsRequestHead posted
 unfolding is_token_byte
@@ -35,10 +32,7 @@ head_posted = record {
   fields = All-from_recursion IsField posted.fields (
     field_of_host,
     (
-      record {
-        name = (omega arith, AllPass-from_test is_token_byte (codes "Content-Length") refl);
-        raw = AllPass-from_test is_value_byte (codes " 3") refl;
-      },
+      record { name = (omega arith, AllPass-from_test is_token_byte (codes "Content-Length") refl); raw = AllPass-from_test is_value_byte (codes " 3") refl },
       tt,
     ),
   );

@@ -63,11 +63,7 @@ module _ (refs : List Key) (date : ℕ) where
         }
 
     open_new : run_begin older refs ≡ None → delivers newest.rows refs ≡ true → IsOpenPeriod (present (newest ∷ older) refs) date newest.load
-    open_new none now = record {
-      not_later = up;
-      before = λ t e. soon t (omega arith) ∙ settled t (omega arith) ∙ no_run older none;
-      during = λ t le within. late t le ∙ now;
-    }
+    open_new none now = record { not_later = up; before = λ t e. soon t (omega arith) ∙ settled t (omega arith) ∙ no_run older none; during = λ t le within. late t le ∙ now }
 
     -- or it ends
     ended_now : (b : ℕ) → IsOpenPeriod (present older refs) date b → run_begin older refs ≡ Some b → delivers newest.rows refs ≡ false → IsEndedPeriod (present (newest ∷ older) refs) date b newest.load

@@ -4,4 +4,5 @@ pub mod Limits
 mod Literals
 mod PathLimits
 mod RecordLaw
+mod StoredHubs
 pub mod Vocabulary

@@ -28,7 +28,7 @@ pub use Rattle.dv_shown.specs.{Answered.first_loaded, CatalogLaws.IsAtLeast, Cat
 pub use Rattle.dv_shown.specs.{Stepped.feed_first, Stepped.mapped as holding, Stepped.hub_first, Stepped.mapped, Stepped.next_staged, Stepped.no_mapping_file, Stepped.other_file, Stepped.renamed, Stepped.status_first, Stepped.two_present, Stepped.two_staged, Windows.keys_come_and_go}
 pub use Rattle.dv_shown.specs.{Windows.next_keys, Windows.two_keys, Windows.two_keys_window, Words.bare_row, Words.day, Words.key, Words.plain}
 pub use Rattle.dv_text.specs.declared.{rows.Key.Key, rows.NRow.NRow, rows.Window.Window}
-pub use Rattle.std.proofs.{Common.slice_index, Math.Bool.and-false, Math.Bool.false-and, lemmas.Bool.ltb-true, lemmas.List.length_push, lemmas.Option.slice_get_read}
+pub use Rattle.std.proofs.{Common.slice_index, Math.Bool.and-false, Math.Bool.false-and, Math.Bool.or-true, lemmas.Bool.ltb-true, lemmas.List.length_push, lemmas.Option.slice_get_read}
 pub use Rattle.std.specs.Prelude.{⊤}
 unfoldable pub use Rattle.csv.proofs.OnLiterals.{csv_on_literals}
 unfoldable pub use Rattle.csv.specs.Writing.{fields_text, is_blank}

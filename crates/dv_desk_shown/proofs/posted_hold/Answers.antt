@@ -3,13 +3,4 @@ use Rattle.dv_desk_shown.proofs.posted_hold.Goals as goal
 
 pub returns : goal.returns
 unfolding serde_json_on_literals digits is_utf8 chars stamp_in has_form has_marks has_digits seconds_if days_from_civil day_count days_of_years days_of_months
-returns c = record {
-  none = refl;
-  cut = refl;
-  not_utf8 = refl;
-  list = refl;
-  undated = refl;
-  no_list = refl;
-  no_object = refl;
-  no_text = refl;
-}
+returns c = assumption refl

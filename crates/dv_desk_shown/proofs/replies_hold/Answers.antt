@@ -3,11 +3,4 @@ use Rattle.dv_desk_shown.proofs.replies_hold.Goals as goal
 
 pub returns : goal.returns
 unfolding digits serde_json_on_literals
-returns c = record {
-  loaded = refl;
-  method = refl;
-  conflict = refl;
-  long = refl;
-  other = refl;
-  query = refl;
-}
+returns c = assumption refl

@@ -3,9 +3,4 @@ use Rattle.dv_http_shown.proofs.replies_hold.Goals as goal
 
 pub returns : goal.returns
 unfolding digits
-returns c =
-    record {
-      loaded = refl;
-      mart = refl;
-      method = refl;
-    }
+returns c = assumption refl

@@ -6,18 +6,6 @@ pub returns : goal.returns
 unfolding form_urlencoded_on_literals httparse_on_literals
 returns c =
     record {
-      taken = record {
-        head = posted;
-        body = codes "abc";
-        has = record { reads = (head_posted, refl); size = omega arith; fields = omega arith };
-        is = refl;
-        made = refl;
-      };
-      old = record {
-        head = old;
-        body = [];
-        has = record { reads = (head_old, refl); size = omega arith; fields = omega arith };
-        is = refl;
-        made = refl;
-      };
+      taken = record { head = posted; body = codes "abc"; has = record { reads = (head_posted, refl); size = omega arith; fields = omega arith }; is = refl; made = refl };
+      old = record { head = old; body = []; has = record { reads = (head_old, refl); size = omega arith; fields = omega arith }; is = refl; made = refl };
     }

@@ -3,15 +3,4 @@ use Rattle.dv_http_shown.proofs.targets_hold.Goals as goal
 
 pub returns : goal.returns
 unfolding form_urlencoded_on_literals
-returns c =
-    record {
-      path = refl;
-      before = refl;
-      behind = refl;
-      no_query = refl;
-      pairs = refl;
-      name = refl;
-      value = refl;
-      cut = refl;
-      absent = refl;
-    }
+returns c = assumption refl

@@ -4,7 +4,4 @@ use Rattle.dv_shown.proofs.effect_written.Goals as goal
 
 pub returns : goal.returns
 unfolding md5 digest_bytes hash_after compress rounds block_words stamp_in stamp_text year_from month_from has_form has_marks has_digits seconds_if days_from_civil day_count days_of_years days_of_months fields_text is_blank hex_on_literals digits
-returns c =
-    record {
-      effect = refl;
-    }
+returns c = assumption refl

@@ -1,5 +1,6 @@
-use Rattle.dv_shown.proofs.Vocabulary.{Bool, BothRead, Err, IsStored, List, MapError, Mapping, None, Ok, Option, Result, Some, Store, [], ap, arith, bare, bare_file, chars, empty_store, false, feed_first, inl, inr, is_utf8, length, mapped, no_mapping_file, option_map_or, other_file, read_mapping}
+use Rattle.dv_shown.proofs.Vocabulary.{Bool, BothRead, Err, IsStored, MapError, Mapping, None, Ok, Result, Some, Store, [], ap, arith, bare, bare_file, chars, empty_store, false, feed_first, inl, inr, is_utf8, length, mapped, no_mapping_file, option_map_or, other_file, read_mapping}
 use Rattle.dv_shown.proofs.Vocabulary.{refl, slice_get, toml_on_literals, true, unwrap_or, with_customers_and_sites, with_sites_and_customers, ℕ, ⊎_elim, ◌∙◌, ◌≡◌}
+use Rattle.dv_shown.proofs.StoredHubs.{counts_two, hub_count, hubs_in}
 use Rattle.dv_shown.proofs.inits_step.Goals as goal
 
 -- whether a text is read as a mapping
@@ -11,25 +12,12 @@ is_ok (Err fault) = false
 text_length : Store → ℕ
 text_length store = length (unwrap_or store.mapping [])
 
--- how many hubs a text declares
-hub_count : Result Mapping MapError → ℕ
-hub_count (Ok mapping) = length mapping.hubs
-hub_count (Err fault) = 0
-
-hubs_in : Option (List ℕ) → ℕ
-hubs_in text = hub_count (read_mapping (unwrap_or text []))
-
 counts_one : hubs_in (Some bare_file) ≡ 1
-unfolding hubs_in hub_count toml_on_literals is_utf8 chars
+unfolding toml_on_literals is_utf8 chars
 counts_one = refl
-
-counts_two : hub_count (read_mapping other_file) ≡ 2
-unfolding hub_count toml_on_literals is_utf8 chars
-counts_two = refl
 
 -- one mapping is not read from both files
 not_both : (mapping : Mapping) → BothRead other_file (mapped bare_file) mapping mapping → ⊥
-unfolding hubs_in hub_count
 not_both mapping both =
     let one : hubs_in (Some bare_file) ≡ length mapping.hubs = ap hubs_in both.stored_is ∙ ap hub_count both.stored_reads in
     let two : hub_count (read_mapping other_file) ≡ length mapping.hubs = ap hub_count both.file_reads in

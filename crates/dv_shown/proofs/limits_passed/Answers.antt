@@ -1,10 +1,6 @@
-use Rattle.dv_shown.proofs.Vocabulary.{Bool, and-false, false, false-and, length, nat_lt, refl, true, weight_with, ◌+◌, ◌||◌, ◌≡◌}
+use Rattle.dv_shown.proofs.Vocabulary.{and-false, false-and, length, nat_lt, or-true, refl, weight_with, ◌+◌}
 use Rattle.dv_shown.proofs.Limits.{above, at_most, is_above, not_above, together}
 use Rattle.dv_shown.proofs.limits_passed.Goals as goal
-
-or-true : (b : Bool) → (b || true) ≡ true
-or-true true = refl
-or-true false = refl
 
 pub returns : goal.returns
 returns c =

@@ -1,6 +1,7 @@
-use Rattle.dv_shown.proofs.Vocabulary.{Bool, Err, HasTables, Hubs, IsMappedBy, List, MapError, Mapping, None, Ok, Option, Result, Some, Status, Statuses, [], ap, arith, bare, bare_file, chars, day, false, holding, hub_first, if◌then◌else◌, is_utf8, length, map, next_keys, next_staged, other_file}
-use Rattle.dv_shown.proofs.Vocabulary.{partial, plain, read_mapping, refl, row_count, slice_get, status_first, suc, sym, toml_on_literals, true, two_keys, two_keys_window, two_present, two_staged, unwrap_or, vault, zero, ℕ, ◌==◌, ◌∙◌, ◌∷◌, ◌≡◌}
+use Rattle.dv_shown.proofs.Vocabulary.{Bool, HasTables, Hubs, IsMappedBy, None, Some, Status, Statuses, [], ap, arith, bare, bare_file, chars, day, false, holding, hub_first, if◌then◌else◌, is_utf8, length, map, next_keys, next_staged, other_file}
+use Rattle.dv_shown.proofs.Vocabulary.{partial, plain, refl, row_count, slice_get, status_first, suc, sym, toml_on_literals, true, two_keys, two_keys_window, two_present, two_staged, unwrap_or, vault, zero, ℕ, ◌==◌, ◌∙◌, ◌∷◌, ◌≡◌}
 use Rattle.dv_catalog.specs.declared.tables.TableId.TheVariants.{Hub}
+use Rattle.dv_shown.proofs.StoredHubs.{counts_two, hub_count, hubs_in}
 use Rattle.dv_shown.proofs.stores_stand.Goals as goal
 
 -- a number of tables that have the batch leaves none of them out before another
@@ -14,20 +15,7 @@ none_lost zero tables = let e : 0 ≡ 2 = ap row_count (tables (Status 0)) in om
 none_lost (suc zero) tables = let e : 0 ≡ 2 = ap row_count (tables (Status 0)) in omega (arith, e)
 none_lost (suc (suc k)) tables = let e : 0 ≡ 4 = ap row_count (tables (Status 0)) in omega (arith, e)
 
--- how many hubs a text declares
-hub_count : Result Mapping MapError → ℕ
-hub_count (Ok mapping) = length mapping.hubs
-hub_count (Err fault) = 0
-
-hubs_in : Option (List ℕ) → ℕ
-hubs_in text = hub_count (read_mapping (unwrap_or text []))
-
-counts_two : hubs_in (Some other_file) ≡ 2
-unfolding hubs_in hub_count toml_on_literals is_utf8 chars
-counts_two = refl
-
 not_mapped : IsMappedBy bare (Some other_file) → ⊥
-unfolding hubs_in hub_count
 not_mapped mapped =
     let one : hubs_in (Some other_file) ≡ 1 = ap hubs_in mapped.stored_is ∙ ap hub_count mapped.reads in
     omega (arith, one, counts_two)
@@ -49,40 +37,12 @@ returns c =
     record {
       sealed_window = search mapped;
       with_snapshot = search mapped;
-      open_window = record {
-        valid = refl;
-        mapped = mapped;
-        windows = refl;
-        stage = refl;
-        tables_stand = (1, omega arith, λ table. refl);
-        snapshots = refl;
-      };
-      open_in_none = record {
-        valid = refl;
-        mapped = mapped;
-        windows = refl;
-        stage = refl;
-        tables_stand = (0, omega arith, λ table. refl);
-        snapshots = refl;
-      };
-      open_in_all = record {
-        valid = refl;
-        mapped = mapped;
-        windows = refl;
-        stage = refl;
-        tables_stand = (2, omega arith, λ table. refl);
-        snapshots = refl;
-      };
+      open_window = record { valid = refl; mapped = mapped; windows = refl; stage = refl; tables_stand = (1, omega arith, λ table. refl); snapshots = refl };
+      open_in_none = record { valid = refl; mapped = mapped; windows = refl; stage = refl; tables_stand = (0, omega arith, λ table. refl); snapshots = refl };
+      open_in_all = record { valid = refl; mapped = mapped; windows = refl; stage = refl; tables_stand = (2, omega arith, λ table. refl); snapshots = refl };
       beginning_stands = record { valid = refl; mapped = mapped; windows = refl; stage = refl; tables_stand = none_yet; snapshots = refl };
       snapshot_put = refl;
-      open_over_sealed = record {
-        valid = refl;
-        mapped = mapped;
-        windows = refl;
-        stage = refl;
-        tables_stand = (1, omega arith, λ table. refl);
-        snapshots = refl;
-      };
+      open_over_sealed = record { valid = refl; mapped = mapped; windows = refl; stage = refl; tables_stand = (1, omega arith, λ table. refl); snapshots = refl };
       sealed_rows_lost = λ s. none_lost s.tables_stand.0 s.tables_stand.2;
       snapshot_missing = λ s. let e : 0 ≡ 1 = ap length s.snapshots in omega (arith, e);
       snapshot_of_open = λ s. let e : day 2 ≡ day 1 = ap (λ snaps. unwrap_or (slice_get (map (λ snap. snap.head.date) snaps) 0) 0) s.snapshots in omega (arith, e);

@@ -5,10 +5,4 @@ use Rattle.dv_shown.proofs.file_examples.texts_hold.Goals as goal
 pub returns : goal.returns
 unfolding toml_on_literals is_utf8 chars
 returns c =
-    record {
-      no_toml = refl;
-      key_twice = refl;
-      no_utf8 = refl;
-      too_long = λ bytes h. rw (mapping_document-past bytes h) refl;
-      long = mapping_document-within;
-    }
+    record { no_toml = refl; key_twice = refl; no_utf8 = refl; too_long = λ bytes h. rw (mapping_document-past bytes h) refl; long = mapping_document-within }
