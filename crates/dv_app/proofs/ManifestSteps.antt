@@ -1,7 +1,6 @@
 -- The run over manifests, so far.
 use Rattle.dv_app.proofs.Vocabulary.{Absent, BringEnds, Ending, Err, GotPrefix, Hashes, IsLoaded, LineCut, LinesCut, List, Loaded, Loading, Mapping, Memory, NamedFile, NextEnds, Ok, Progress, Result, Seen, Some, Unbrought, Unloaded, Unread, Went, [], after, after-after, after-nil, ap}
-use Rattle.dv_app.proofs.Vocabulary.{bring_end_so, drop, drop_more, get_or, got_behind, inl, inr, joined, length, lines_of, refl, rose_later, slice_get-get_or, start, step, step_by, step_on, steps, subst, sym, take, take-append-drop, take_all, take_more, ℕ, ◌++◌, ◌+◌, ◌<◌, ◌∙◌, ◌∷◌, ◌≡◌, ◌≤◌}
-use Rattle.dv_app.proofs.Vocabulary.{◌⊎◌}
+use Rattle.dv_app.proofs.Vocabulary.{bring_end_so, drop, drop_more, get_or, got_behind, inl, inr, joined, length, lines_of, refl, rose_later, slice_get-get_or, start, step, step_by, step_on, steps, subst, sym, take, take-append-drop, take_all, take_more, ℕ, ◌++◌, ◌+◌, ◌<◌, ◌∙◌, ◌∷◌, ◌≡◌, ◌≤◌, ◌⊎◌}
 
 -- ---- the run over the folder's files
 

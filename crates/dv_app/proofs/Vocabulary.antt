@@ -2,7 +2,7 @@
 pub use Rattle.dv_given.proofs.Vocabulary.{BringEnds, Brings, EndsBy, EndsOrMemory, IfErr, IfOk, IsReadCause, MappingEnds, Ok, QueryEnds, Rose, Seen, StandsForWhole, append-nil, arrival, drop, drop_more, get_or, line_of_ending, lt-ltb, mapping_at, status_of, take_all, ◌||◌}
 pub use Rattle.dv_mart.proofs.Vocabulary.{HasKind, IsOffered, Some, find_none, is_table_of, mart_text, name_of_path, offered_mart, option_and_then, path_name, table_named, table_text, take_more, what_of}
 pub use Rattle.dv_outside.proofs.Vocabulary.{GotPrefix, after}
-pub use Rattle.dv_print.proofs.Vocabulary.{None, decimal, suc, ◌≤◌}
+pub use Rattle.dv_print.proofs.Vocabulary.{None, suc, ◌≤◌}
 pub use Rattle.dv_restore.proofs.Vocabulary.{DigestFunction}
 pub use Rattle.dv_text.proofs.Vocabulary.{ints}
 pub use Rattle.dv_vault.proofs.Vocabulary.{flat_map_more, none_found_at, none_pass, none_passes, slice_get-get_or, ⊎_elim}
@@ -17,7 +17,7 @@ pub use Rattle.dv_app.specs.{Kept.stored_id, Kept.stored_says, Kept.table_for, K
 pub use Rattle.dv_app.specs.{Loadings.NextEnds, Loadings.ReadsTrial, Loadings.TextCut, Loadings.TookArrival, Loadings.TookLine, Loadings.TookWindow, Loadings.TriesAll, Loadings.Unbrought, Loadings.Unloaded, Loadings.Went, Loadings.WhatEnds, Openings.IsOpen, Openings.IsUnopened, Openings.Opening}
 pub use Rattle.dv_app.specs.{Options.parted, Options.parted_from, Options.taken, Places.Places, Places.places_of, Queries.IsAnswer, Queries.IsAnswered, Queries.MartEnds, Queries.StoredEnds, Queries.TableEnds, Queries.ending_of_stored, Queries.text_reply, Replies.EndsAs, Replies.IsCauseOf}
 pub use Rattle.dv_app.specs.{Replies.IsSaidFor, Run.ChangesAsSaid, Run.CommandCompletes, Run.CommandSays, Run.DamageIsNamed, Run.Ends, Run.EndsAside, Run.HadAll, Run.IsCause, Run.NoneFell, Run.Ran, Run.usage_said, Says.CutShort, Says.IsCutLines, Says.IsEnded, Says.IsMemory, Says.Trial}
-pub use Rattle.dv_app.specs.{Says.TrialSays, Says.TrySays, Says.Wanted, Says.lines_before, Says.lines_of, Says.lines_with, Says.trial_of, Says.tried_of, Takings.Gave, Takings.IsStep, Texts.IsTextFor, Texts.IsTextOf, Texts.TextEnds, Tried.Progress, Tried.at_end, Tried.start, Tried.state_after}
+pub use Rattle.dv_app.specs.{GivenArrivals.Gave, GivenArrivals.IsStep, Says.TrialSays, Says.TrySays, Says.Wanted, Says.lines_before, Says.lines_of, Says.lines_with, Says.trial_of, Says.tried_of, Texts.IsTextFor, Texts.IsTextOf, Texts.TextEnds, Tried.Progress, Tried.at_end, Tried.start, Tried.state_after}
 pub use Rattle.dv_app.specs.{Tried.step, Tried.step_by, Tried.step_on, Tried.steps, Tried.tried_at, Tried.tried_for, Tried.tried_with, Tried.with_outcome, Tried.with_refusal, Tried.with_text, Words.Command, Words.Exercises, Words.Init, Words.KeptCommand, Words.Load, Words.Mart, Words.NoCommand}
 pub use Rattle.dv_app.specs.{Words.OnKeeper, Words.Resume, Words.Snapshot, Words.Stored, Words.StoredTable, Words.Table, Words.Tries, Words.Windows, Words.asked_of, Words.command_in, Words.command_of, Words.office_command, Words.stored_of, Works.Comes, Works.Does, Works.Tells, Works.Works}
 pub use Rattle.dv_app.specs.{Works.said_of}
@@ -26,7 +26,7 @@ pub use Rattle.dv_bridge.proofs.ZeroKeys.{zero_keys}
 pub use Rattle.dv_catalog.specs.declared.{map_error.MapError.MapError, rules.Rule.Rule, tables.TableId.TableId, windows.WindowIn.WindowIn}
 pub use Rattle.dv_given.proofs.{EndSteps.bring_cause, EndSteps.bring_end_so, EndSteps.ends_or, EndSteps.query_cause, EndSteps.rose_later, ReadSteps.between, ReadSteps.joined, ReadSteps.reads_ended, ReadSteps.reads_made}
 pub use Rattle.dv_given.specs.{Causes.HasLast, Causes.HasRefusal, Endings.DateEnds, Endings.ending_of_start, Endings.ending_of_store, FolderReads.Arrives, FolderReads.ReadsMapping, Given.absent_line, Given.query_line, Given.read_fault_line, Given.refused_mapping_line, Lines.memory_line}
-pub use Rattle.dv_given.specs.{Readings.arrival_of, Says.Gives, Takings.outcome_of, Takings.taken_text, Tried.Arrival, Tried.Broken, Tried.Brought, Tried.Tried, Tried.ended, Tried.is_refused, Tried.mapping_bytes, Tried.outcome_text, Tried.refusal_text, Tried.status_for, Tried.window_line}
+pub use Rattle.dv_given.specs.{Readings.arrival_of, Says.Gives, Tried.Arrival, Tried.Broken, Tried.Brought, Tried.Tried, Tried.ended, Tried.is_refused, Tried.mapping_bytes, Tried.outcome_text, Tried.refusal_text, Tried.status_for, Tried.window_line, WindowOutcomes.outcome_of, WindowOutcomes.taken_text}
 pub use Rattle.dv_given.specs.{Worlds.Sight, Worlds.sight_of}
 pub use Rattle.dv_given.specs.declared.{arrivals.Arrived.Arrived, endings.Ending.Ending, endings.Ending.TheVariants.Absent, endings.Ending.TheVariants.BadMapping, endings.Ending.TheVariants.BadQuery, endings.Ending.TheVariants.Memory, endings.Ending.TheVariants.Unread}
 pub use Rattle.dv_given.specs.declared.{endings.Ending.TheVariants.Unwritten, mapping_files.MappingFile.MappingFile, windows.Taken.Taken}

@@ -1,7 +1,6 @@
 -- How what an office takes is a step of the run.
 use Rattle.dv_app.proofs.Vocabulary.{Arrival, Arrived, Bool, Brings, Broken, Brought, HasRefusal, HasRows, Hashes, Held, IsReady, List, LoadAnswer, Loading, Mapping, None, Ok, Outcome, Progress, Rule, StaleAfter, StandsFor, StandsForWhole, State, StepsTo, Taken, TookArrival, TookLine, TookWindow}
-use Rattle.dv_app.proofs.Vocabulary.{WindowIn, [], ap, append-nil, append_assoc, arrival_of, false, is_refused, outcome, outcome_of, outcome_text, refl, refusal_text, state_after, step_by, subst, sym, taken_text, true, window_line, with_outcome, with_refusal, ℕ, ◌++◌, ◌||◌, ◌∙◌}
-use Rattle.dv_app.proofs.Vocabulary.{◌≡◌}
+use Rattle.dv_app.proofs.Vocabulary.{WindowIn, [], ap, append-nil, append_assoc, arrival_of, false, is_refused, outcome, outcome_of, outcome_text, refl, refusal_text, state_after, step_by, subst, sym, taken_text, true, window_line, with_outcome, with_refusal, ℕ, ◌++◌, ◌||◌, ◌∙◌, ◌≡◌}
 use Rattle.dv_given.specs.Tried.{Absent, loaded_text}
 use Rattle.dv_given.specs.declared.windows.Taken.TheVariants as taken
 use Rattle.dv_records.specs.declared.answers.LoadAnswer.TheVariants as answers

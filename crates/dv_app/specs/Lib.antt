@@ -3,6 +3,7 @@ pub mod Changes
 pub mod Damaged
 pub mod Exercised
 pub mod Generated
+pub mod GivenArrivals
 pub mod Inits
 pub mod Kept
 pub mod Lent
@@ -17,7 +18,6 @@ pub mod Queries
 pub mod Replies
 pub mod Run
 pub mod Says
-pub mod Takings
 pub mod Texts
 pub mod Tried
 pub mod Words

@@ -22,7 +22,7 @@ use Rattle.dv_given.specs.FolderReads.{Reads}
 use Rattle.dv_given.specs.Given.{absent_line}
 use Rattle.dv_given.specs.Lines.{memory_line}
 use Rattle.dv_given.specs.Says.{Gives}
-use Rattle.dv_given.specs.Takings.{outcome_of}
+use Rattle.dv_given.specs.WindowOutcomes.{outcome_of}
 use Rattle.dv_given.specs.Tried.{Absent, Arrival, Broken, Brought, status_for}
 use Rattle.dv_given.specs.Worlds.{Sight}
 use Rattle.dv_given.specs.declared.endings.Ending.{Ending}

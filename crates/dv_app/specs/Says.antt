@@ -14,7 +14,7 @@ use Rattle.dv_given.specs.Lines.{mapping_file, memory_line}
 use Rattle.dv_given.specs.Says.{Gives, IsReadFor}
 use Rattle.dv_given.specs.Tried.{Tried, ended, mapping_at}
 use Rattle.dv_given.specs.Worlds.{Sight}
-use Rattle.dv_app.specs.declared.words.Asked.{Asked}
+use Rattle.dv_app.specs.declared.words.TryWords.{TryWords}
 use Rattle.dv_app.specs.Tried.{Progress, start, steps, tried}
 
 -- what is asked of `try`: a mart or a table, a date, and the names of manifests
@@ -24,7 +24,7 @@ pub record Wanted : Type 0 where
   pub names : List (List ℕ)
 
 -- the same, as the code has it
-abbrev pub wanted : Asked → Wanted
+abbrev pub wanted : TryWords → Wanted
 wanted a = record { what = a.what.now; date = a.date.now; names = a.manifests.now }
 
 -- what is asked of `try`, of which files, and how keys are hashed

@@ -7,7 +7,7 @@ ghost use Rattle.dv_given.specs.Readings.{arrival_of};
 ghost use Rattle.dv_app.specs.Kept.{load_said};
 ghost use Rattle.dv_app.specs.Lent.{Same, places};
 ghost use Rattle.dv_app.specs.Openings.{IsOpen};
-ghost use Rattle.dv_app.specs.Takings.{Gave, taken_said};
+ghost use Rattle.dv_app.specs.GivenArrivals.{Gave, taken_said};
 ghost use Rattle.dv_app.specs.Words as words;
 ghost use Rattle.dv_app.specs.Works.{Tells, WorksBehind};
 

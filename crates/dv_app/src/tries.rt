@@ -10,7 +10,7 @@ ghost use Rattle.dv_app.specs.Says.{wanted, TrySays};
 use crate::loadings::{Loading, Tools, begin_loading, take};
 use crate::queries::check_what;
 use crate::texts::text_of;
-use crate::words::Asked;
+use crate::words::TryWords;
 use dv_given::{Ending, bring, check_date, end_command, read_mapping_file, status_of_windows};
 use dv_mart::What;
 use dv_outside::{Failed, Folder, Gate, Sink, Status, write_all};
@@ -66,7 +66,7 @@ fn load_all<R: Threads + Sync, F: Folder, E: Sink, H: KeyDigest, G: Gate>(
 // All that comes before the manifests.
 fn begin<F: Folder, H: KeyDigest>(
     alloc: Global,
-    asked: &Asked<'_>,
+    asked: &TryWords<'_>,
     folder: &mut F,
     digest: &H,
 ) -> Result<Readied, Ending>
@@ -87,7 +87,7 @@ fn begin<F: Folder, H: KeyDigest>(
 // The manifests are taken, and the mart's text is written: whether a window was refused.
 fn try_readied<R: Threads + Sync, F: Folder, O: Sink, E: Sink, H: KeyDigest, G: Gate>(
     readied: &mut Readied,
-    asked: &Asked<'_>,
+    asked: &TryWords<'_>,
     folder: &mut F,
     out: &mut O,
     err: &mut E,
@@ -109,7 +109,7 @@ fn try_readied<R: Threads + Sync, F: Folder, O: Sink, E: Sink, H: KeyDigest, G: 
 
 // All but the last line and the status: whether a window was refused.
 fn try_all<R: Threads + Sync, F: Folder, O: Sink, E: Sink, H: KeyDigest, G: Gate>(
-    asked: &Asked<'_>,
+    asked: &TryWords<'_>,
     folder: &mut F,
     out: &mut O,
     err: &mut E,
@@ -132,7 +132,7 @@ fn try_all<R: Threads + Sync, F: Folder, O: Sink, E: Sink, H: KeyDigest, G: Gate
 
 /// The command `try`.
 pub(crate) fn try_command<R: Threads + Sync, F: Folder, O: Sink, E: Sink, H: KeyDigest, G: Gate>(
-    asked: &Asked<'_>,
+    asked: &TryWords<'_>,
     folder: &mut F,
     out: &mut O,
     err: &mut E,

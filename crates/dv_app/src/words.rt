@@ -16,7 +16,7 @@ const MOST_ITEMS: u32 = 50_000;
 /// What `try` is asked for: a mart or a table, at a date, over the windows of manifests, of which
 /// there is one at least, and how these are loaded.
 #[derive(Clone, Copy)]
-pub(crate) struct Asked<'a> {
+pub(crate) struct TryWords<'a> {
     pub(crate) what: &'a Text,
     pub(crate) date: &'a Text,
     pub(crate) manifests: &'a [Text],
@@ -77,7 +77,7 @@ pub(crate) enum KeptCommand<'a> {
 #[derive(Clone, Copy)]
 pub(crate) enum Command<'a> {
     /// Windows are loaded, and nothing is kept.
-    Try(Asked<'a>),
+    Try(TryWords<'a>),
     /// Windows of so many items are made and loaded, and nothing is kept.
     Exercise { count: u32, options: LoadOptions },
     OnKeeper(KeptCommand<'a>),
@@ -178,7 +178,7 @@ fn command_with_two<'a>(word: &[u8], what: &'a Text, date: &'a Text) -> Option<C
 }
 
 // A command that takes three words or more.
-fn command_with_more<'a>(word: &[u8], asked: &Asked<'a>) -> Option<Command<'a>>
+fn command_with_more<'a>(word: &[u8], asked: &TryWords<'a>) -> Option<Command<'a>>
     ensures asked { command_of result ≡ spec.with_more word.now asked.now.what.now asked.now.date.now asked.now.manifests.now }
     ensures loads { LoadsAs (loads_by asked.now.options) result }
 {
@@ -204,7 +204,7 @@ fn command_with<'a>(
         [what, date] => command_with_two(word, what, date),
         [what, date, ..] => command_with_more(
             word,
-            &Asked {
+            &TryWords {
                 what,
                 date,
                 manifests: &positionals[2..],

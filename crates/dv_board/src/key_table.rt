@@ -1,4 +1,4 @@
-ghost use Rattle.std.specs.Prelude.{◌≡◌, ℕ, ◌+◌, ◌-◌, ◌*◌, ◌<◌, ◌≤◌, [], ◌∷◌, ◌++◌, length, true, false, IfOk, All};
+ghost use Rattle.std.specs.Prelude.{◌≡◌, ◌+◌, ◌-◌, ◌*◌, ◌<◌, ◌≤◌, [], ◌∷◌, ◌++◌, length, true, false, IfOk, All};
 ghost use Rattle.dv_board.specs.Items.{home_of};
 ghost use Rattle.dv_board.specs.KeyRule.{begun, fresh_view, first_view};
 ghost use Rattle.dv_board.specs.Looking.{AreFirstSlots, AreSlots, AreWords};

@@ -1,8 +1,6 @@
 // The items that a closed table keeps, as a list.
-ghost use Rattle.std.specs.Prelude.{◌≡◌, ◌≢◌, ℕ, ◌+◌, ◌-◌, ◌<◌, ◌≤◌, length, replicate, true, false, slice_index_or};
+ghost use Rattle.std.specs.Prelude.{◌≡◌, ◌+◌, ◌-◌, ◌<◌, ◌≤◌, length, replicate, true, false};
 ghost use Rattle.std.specs.Slots.{slots_items, slots_len, IsFull};
-ghost use Rattle.std.specs.List.{filter, range_with_len};
-ghost use Rattle.dv_board.specs.KeyRule.{word_at};
 ghost use Rattle.dv_board.specs.Listing.{AreBelow, AreMarked, marked};
 
 use atomic_table::Closed;

@@ -1,5 +1,5 @@
 // Items for the tests: each has a tag, and items with one tag are the same.
-ghost use Rattle.std.specs.Prelude.{◌≡◌, ◌≤◌, length};
+ghost use Rattle.std.specs.Prelude.{◌≤◌, length};
 
 use crate::key_items::KeyItems;
 

@@ -1,8 +1,7 @@
 -- A stable sort by hash keys leaves the links of each key as they stood.
-use Rattle.dv_bridge.proofs.Vocabulary.{Bool, IsPermutation, KeyedLink, KeyedRow, List, None, Option, Some, [], alike, ap, bytes_eq, digest_cmp, false, filter, filter_map, is_lt, key_of, keyed_at, keyed_row, keyed_with, length_permutation, map, map-map, met_by, nat_list_cmp_total}
-use Rattle.dv_bridge.proofs.Vocabulary.{nil_from_length, not, refl, subst, sym, texts_ties, ties, true, with_key, ℕ, ◌&&◌, ◌∙◌, ◌∷◌, ◌≡◌}
-use Rattle.dv_bridge.proofs.Vocabulary.{Equal, Greater, IsPartitionPoint, IsPartitionedBy, Less, Ordering, alike_tied, arith, behind_last, bytes_eq-Decides, drop, fails_before_first, false_from_ne_true, false≢true, get_or, get_or-drop, is_gt, length, length-drop, not-true, parted_rest}
-use Rattle.dv_bridge.proofs.Vocabulary.{passes_at_first, position_or_len, prefix_len-le-length, run_is, take, text_cmp-IsAntisymmetric, tied_itself, unlike_greater, unlike_less, ◌+◌, ◌<◌, ◌≤◌}
+use Rattle.dv_bridge.proofs.Vocabulary.{Bool, Equal, Greater, IsPartitionPoint, IsPartitionedBy, IsPermutation, KeyedLink, KeyedRow, Less, List, None, Option, Ordering, Some, [], alike, alike_tied, ap, arith, behind_last, bytes_eq, bytes_eq-Decides, digest_cmp, drop, fails_before_first, false}
+use Rattle.dv_bridge.proofs.Vocabulary.{false_from_ne_true, false≢true, filter, filter_map, get_or, get_or-drop, is_gt, is_lt, key_of, keyed_at, keyed_row, keyed_with, length, length-drop, length_permutation, map, map-map, met_by, nat_list_cmp_total, nil_from_length, not, not-true, parted_rest}
+use Rattle.dv_bridge.proofs.Vocabulary.{passes_at_first, position_or_len, prefix_len-le-length, refl, run_is, subst, sym, take, text_cmp-IsAntisymmetric, texts_ties, tied_itself, ties, true, unlike_greater, unlike_less, with_key, ℕ, ◌&&◌, ◌+◌, ◌<◌, ◌∙◌, ◌∷◌, ◌≡◌, ◌≤◌}
 use Rattle.std.specs.List.Sorted.{IsSortedByKey}
 use Rattle.dv_bridge.proofs.LongerWays.{filter-map, filter_same}
 

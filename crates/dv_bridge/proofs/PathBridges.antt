@@ -1,8 +1,7 @@
 -- The ways along the first feeds of a path: along one, along one more, and along all; and what they are of sealed windows.
-use Rattle.dv_bridge.proofs.Vocabulary.{AreFirstWays, Bool, BridgeFault, Contains, Err, HasSealed, HasTooManyWays, HasZeroKeys, Hashes, IfOk, KeyedRow, List, Mapping, Ok, PathDef, RawVault, Result, Some, TableRows, Window, [], ap, append_assoc, are_linked, arith, bare, bridge}
-use Rattle.dv_bridge.proofs.Vocabulary.{bridge_read, cases_lt, choices, contents, false, feed_links, filter, first_ways, get_or-range_with_len, inl, inr, is_path_too_large, is_too_large, is_valid, le-ltb, length, length-map, length-range_with_len, length-take-le, longer_ways, lt-ltb, map}
-use Rattle.dv_bridge.proofs.Vocabulary.{most_path_rows, nat_lt, none_pass, option_map_or, place_of, prefix_rows, range_with_len, row_along, slice_get, slice_get_within, some_passes_at, subst, suc, sym, take, take-length, take-map, take_got, true, valid_path, ℕ, ◌++◌, ◌+◌, ◌-◌, ◌<◌, ◌∙◌, ◌∷◌, ◌≡◌}
-use Rattle.dv_bridge.proofs.Vocabulary.{◌≤◌}
+use Rattle.dv_bridge.proofs.Vocabulary.{AreFirstWays, Bool, BridgeFault, Contains, Err, HasSealed, HasTooManyWays, HasZeroKeys, Hashes, IfOk, KeyedRow, List, Mapping, Ok, PathDef, RawVault, Result, Some, TableRows, Window, [], ap, append_assoc, are_linked, arith, bare, bridge, bridge_read}
+use Rattle.dv_bridge.proofs.Vocabulary.{cases_lt, choices, contents, false, feed_links, filter, first_ways, get_or-range_with_len, inl, inr, is_path_too_large, is_too_large, is_valid, le-ltb, length, length-map, length-range_with_len, length-take-le, longer_ways, lt-ltb, map, most_path_rows}
+use Rattle.dv_bridge.proofs.Vocabulary.{nat_lt, none_pass, option_map_or, place_of, prefix_rows, range_with_len, row_along, slice_get, slice_get_within, some_passes_at, subst, suc, sym, take, take-length, take-map, take_got, true, valid_path, ℕ, ◌++◌, ◌+◌, ◌-◌, ◌<◌, ◌∙◌, ◌∷◌, ◌≡◌, ◌≤◌}
 use Rattle.dv_bridge.proofs.{LongerWays.along_bare, LongerWays.next_ways, LongerWays.one_way, BridgesTell.bridges_tell, BridgesTell.prefixes_tell}
 use Rattle.dv_bridge.specs.declared.fault.BridgeFault.TheVariants as of_ways
 

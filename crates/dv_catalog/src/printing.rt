@@ -1,6 +1,6 @@
 //! How names and values are printed.
 
-ghost use Rattle.std.specs.Prelude.{◌≡◌, ◌++◌, IfOk, OnOk, map};
+ghost use Rattle.std.specs.Prelude.{◌≡◌, ◌++◌, IfOk, OnOk};
 ghost use Rattle.dv_catalog.specs.Printed as spec;
 
 use dv_text::{Memory, Text};

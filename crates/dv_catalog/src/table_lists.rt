@@ -1,6 +1,6 @@
 //! The raw tables of a mapping, and their names.
 
-ghost use Rattle.std.specs.Prelude.{◌≡◌, ◌+◌, ◌++◌, ◌∷◌, ◌^◌, ◌<◌, ◌≤◌, IfOk, IsTrue, OnOk, codes, length, map, slice_get};
+ghost use Rattle.std.specs.Prelude.{◌≡◌, ◌+◌, ◌++◌, ◌∷◌, ◌^◌, ◌<◌, IfOk, IsTrue, OnOk, length, map};
 ghost use Rattle.std.specs.List.{range_with_len};
 ghost use Rattle.dv_catalog.specs.TableLookups.{is_table_of, table_named};
 ghost use Rattle.dv_catalog.specs.Tables as spec;

@@ -1,8 +1,7 @@
 //! The checks of feeds: their key columns, all their columns, and their driving keys.
 
-ghost use Rattle.std.specs.Prelude.{◌≡◌, ◌==◌, ◌&&◌, ◌++◌, IfOk, OnOk, find, length, map, nat_lt, not, option_map};
-ghost use Rattle.std.specs.List.{flat_map, list_all, list_any, zip};
-ghost use Rattle.std.specs.Str.{bytes_eq};
+ghost use Rattle.std.specs.Prelude.{◌≡◌, ◌==◌, ◌&&◌, ◌++◌, IfOk, OnOk, find, length, map, not, option_map};
+ghost use Rattle.std.specs.List.{flat_map, list_all, zip};
 ghost use Rattle.dv_catalog.specs.Checks as spec;
 
 use dv_catalog::lookups::{find_named, has_name, name_again};

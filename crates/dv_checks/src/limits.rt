@@ -1,6 +1,6 @@
 //! The limits of a mapping.
 
-ghost use Rattle.std.specs.Prelude.{◌≡◌, ◌+◌, ◌<◌, ◌≤◌, IfOk, IfSome, IsNone, MatchOption, length, nat_lt, option_map, sum_by};
+ghost use Rattle.std.specs.Prelude.{◌≡◌, ◌+◌, ◌<◌, IfOk, MatchOption, length, nat_lt, option_map, sum_by};
 ghost use Rattle.std.specs.List.{list_any};
 ghost use Rattle.dv_catalog.specs.Checks as spec;
 ghost use Rattle.dv_catalog.specs.Limits.{most_references, most_columns, most_ignored, most_steps};

@@ -1,6 +1,6 @@
 //! From what a mapping file declares to the mapping: each name becomes the place of what it names.
 
-ghost use Rattle.std.specs.Prelude.{◌≡◌, ◌≢◌, ◌^◌, ◌<◌, ◌≤◌, Err, IfErr, IfOk, IsTrue, None, Ok, length, map};
+ghost use Rattle.std.specs.Prelude.{◌≡◌, ◌≢◌, ◌^◌, ◌<◌, Err, IfErr, IfOk, IsTrue, None, Ok, length, map};
 ghost use Rattle.std.specs.List.{position_or_len};
 ghost use Rattle.std.specs.Str.{bytes_eq};
 ghost use Rattle.dv_catalog.specs.Checks.{fault_of, reference_hubs};

@@ -1,10 +1,9 @@
 // Workers that draw tasks from a board, by fork and join of halves.
-ghost use Rattle.std.specs.Prelude.{◌≡◌, ℕ, ◌+◌, ◌-◌, ◌<◌, ◌≤◌, [], Ok as ok_of, IfOk};
+ghost use Rattle.std.specs.Prelude.{◌≡◌, ◌+◌, ◌-◌, ◌<◌, ◌≤◌, [], Ok as ok_of, IfOk};
 ghost use Rattle.std.specs.Thread.{IsSync};
-ghost use Rattle.dv_board.specs.Counting.{once_below, times};
 ghost use Rattle.dv_crew.specs.Orders.{counterpart};
 ghost use Rattle.dv_crew.specs.Results.{AreResults, DoesTasks, Gives, GivesWith, HasDoneAll, IsReady, IsReadyWith};
-ghost use Rattle.dv_crew.specs.Work.{AreDone, HasWorked, HasWorkedWith, MayWork, new_seat, numbers, tasks_drawn};
+ghost use Rattle.dv_crew.specs.Work.{HasWorked, HasWorkedWith, MayWork, new_seat};
 
 use crate::carried::{Alone, Carrier};
 use crate::orders::Order;

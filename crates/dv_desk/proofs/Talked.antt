@@ -1,5 +1,5 @@
 -- A talk in states: what is answered leads from a state to a state.
-use Rattle.dv_desk.proofs.Vocabulary.{Answer, AreSure, Asked, Chain, Collision, Differs, DigestFunction, Exchange, HasWidth, Hashes, IsCauseOf, IsIn, IsLeftIn, IsReplied, IsSome, IsSure, Late, LeadsInStates, List, Moment, NoFault, None, OpenOther, Option, Reply, Request, Rose, Rule, Served}
+use Rattle.dv_desk.proofs.Vocabulary.{Answer, AreSure, Chain, Collision, Differs, DigestFunction, Exchange, HasWidth, Hashes, IsCauseOf, IsIn, IsLeftIn, IsReplied, IsSome, IsSure, Late, LeadsInStates, List, Moment, NoFault, None, OpenOther, Option, Reply, Request, Rose, Routed, Rule, Served}
 use Rattle.dv_desk.proofs.Vocabulary.{Serves, ServesOn, Some, StandsAs, State, Store, Talked, TalksIn, TooLong, [], ap, arith, false≢true, hashes_of, refl, refusal, status_of, status_of_rule, subst, sym, ℕ, ◌∙◌, ◌∷◌, ◌≡◌, ◌≤◌}
 use Rattle.dv_serving.specs.Serving.{Tells}
 use Rattle.dv_desk.specs.declared.answers.Answer.TheVariants as answers
@@ -65,7 +65,7 @@ module _ (function : DigestFunction) where
   sure_rule (TooLong feed) is = omega (arith, is)
   sure_rule rule is = omega (arith, is)
 
-  sure_answer : (asked : Asked) (before after : Moment) (answer : Answer) → IsCauseOf function asked before after answer → NoFault before.faults after.faults → status_of answer ≡ 503 → ⊥
+  sure_answer : (asked : Routed) (before after : Moment) (answer : Answer) → IsCauseOf function asked before after answer → NoFault before.faults after.faults → status_of answer ≡ 503 → ⊥
   sure_answer asked before after answers.Keeper rose quiet is = quiet rose
   sure_answer asked before after (answers.Broken rule) cause quiet is = sure_rule rule is
   sure_answer asked before after answer cause quiet is = omega (arith, is)

@@ -1,5 +1,5 @@
 -- How a request that was answered is a turn.
-use Rattle.dv_desk.proofs.Vocabulary.{AgreesUnlessStale, Allowed, Answer, Answered, Asked, Bool, Came, CanReply, Damage, DigestFunction, Err, Faulty, Given, HasWidth, Hashes, Held, IsAllowed, IsAskedFor, IsCauseOf, IsDamageFor, IsDamageIn, IsIn, IsLeftIn, IsNamed, IsReadAs, IsReadCause}
+use Rattle.dv_desk.proofs.Vocabulary.{AgreesUnlessStale, Allowed, Answer, Answered, Bool, Came, CanReply, Damage, DigestFunction, Err, Faulty, Given, HasWidth, Hashes, Held, IsAllowed, IsAskedFor, IsCauseOf, IsDamageFor, IsDamageIn, IsIn, IsLeftIn, IsNamed, IsReadAs, IsReadCause, Routed}
 use Rattle.dv_desk.proofs.Vocabulary.{IsReplied, IsSome, IsSound, IsStoredDamage, IsStoredFor, IsThere, Leads, Leaves, LeavesOffice, LeavesStore, List, Load, LoadAnswer, LoadLeaves, LoadOffice, Manifest, Mapping, MayBe, Moment, NotAllowed, NotFound, NotJson, Ok, Option, PostSays, Posted, Query}
 use Rattle.dv_desk.proofs.Vocabulary.{Read, ReadOffice, Refreshed, RepliedTo, Reply, Request, Result, Rose, Said, Says, StaleAfter, StaleBy, State, StepsTo, Store, StoreBy, StoreFault, Told, WindowIn, answer_of, ap, arith, asked, came_of, false, false≢true, hashes_of, inl, inr, made_stale}
 use Rattle.dv_desk.proofs.Vocabulary.{posted, refl, reply_of, reply_text, subst, sym, true, unrefreshed, ℕ, ◌∙◌, ◌≡◌, ◌≤◌, ◌⊎◌}
@@ -27,7 +27,7 @@ staying P before after stayed same stale = by stayed.held
     by (inl is) = subst P (sym is) same
     by (inr is) = subst P (sym is) stale
 
-module _ (function : DigestFunction) (asked : Asked) (answer : Answer) (before after : Moment) (stayed : Stayed before after) where
+module _ (function : DigestFunction) (asked : Routed) (answer : Answer) (before after : Moment) (stayed : Stayed before after) where
   left : (state : State) → IsIn (hashes_of function) state before.held before.store → IsLeftIn (hashes_of function) state after.held after.store
   left state is_in = staying (λ h. IsLeftIn (hashes_of function) state h after.store) before after stayed
       (record { stands = is_in.stands; store_stands = λ s told. is_in.store_stands s (sym stayed.store ∙ told) })
@@ -107,12 +107,12 @@ module _ (mapping : Mapping) (hashes : Hashes) (state : State) (before after : O
   post_broken (Faulty place) broken = (inr broken, (refl, same))
   post_broken (Given given) broken = given_broken given broken
 
-  says_broken : (asked : Asked) → IsThere asked → IsBroken answer → Says mapping hashes state before after asked answer state
+  says_broken : (asked : Routed) → IsThere asked → IsBroken answer → Says mapping hashes state before after asked answer state
   says_broken (Load body) is broken = post_broken (posted body) broken
   says_broken (Read query) is broken = ((λ s told. inr broken), (refl, same))
   says_broken asked none broken = absurd none
 
-asked_there : (asked : Asked) (answer : Answer) → IsThere asked → IsAllowed answer → IsAskedFor asked answer
+asked_there : (asked : Routed) (answer : Answer) → IsThere asked → IsAllowed answer → IsAskedFor asked answer
 asked_there (Load body) answer is allowed = allowed
 asked_there (Read query) answer is allowed = allowed
 asked_there asked answer none allowed = absurd none
@@ -142,7 +142,7 @@ module _ (function : DigestFunction) (before after : Moment) (stale : before.hel
   still_stale : after.held.stale ≡ true
   still_stale = ap (λ (h : Held). h.stale) kept ∙ stale
 
-  broken_leaves : (asked : Asked) (answer : Answer) → IsThere asked → StaleBy answer before.held.stale after.held.stale → StoreBy answer before.store after.store → Leaves asked answer before after
+  broken_leaves : (asked : Routed) (answer : Answer) → IsThere asked → StaleBy answer before.held.stale after.held.stale → StoreBy answer before.store after.store → Leaves asked answer before after
   broken_leaves (Load body) answer is then store = record { stale = then; store = store; office = λ fresh. absurd (false≢true (sym fresh ∙ stale)) }
   broken_leaves (Read query) answer is then store = record { stale = then; store = same; office = λ fresh. absurd (false≢true (sym fresh ∙ stale)) }
   broken_leaves asked answer none then store = absurd none
@@ -150,7 +150,7 @@ module _ (function : DigestFunction) (before after : Moment) (stale : before.hel
   stays : Stayed before after
   stays = record { held = inl kept; store = same; later = later }
 
-  pub unrefreshed_answered : (fault : StoreFault) → IsUnrefreshed fault → CanReply before → (asked : Asked) → IsThere asked → Answered function asked (unrefreshed fault) before after
+  pub unrefreshed_answered : (fault : StoreFault) → IsUnrefreshed fault → CanReply before → (asked : Routed) → IsThere asked → Answered function asked (unrefreshed fault) before after
   unrefreshed_answered (faults.Damaged damage) told agrees asked is =
       let found = told.damaged damage refl in
       stays_answered function asked (answers.Damaged damage) before after stays agrees (λ state is_in wide. absurd (told.undamaged damage refl state is_in))
@@ -225,7 +225,7 @@ module _ (function : DigestFunction) (before after : Moment) (came : LoadAnswer)
     pub later : before.faults ≤ after.faults
     pub agrees : CanReply after
 
-  loaded_cause : (asked : Asked) (given : WindowIn) → Gave given → (c : LoadAnswer) → came ≡ c → StaleAfter c before.held.stale after.held.stale → IsCauseOf function asked before after (answer_of c)
+  loaded_cause : (asked : Routed) (given : WindowIn) → Gave given → (c : LoadAnswer) → came ≡ c → StaleAfter c before.held.stale after.held.stale → IsCauseOf function asked before after (answer_of c)
   loaded_cause asked given gave load.KeeperFault is stale = gave.cause is
   loaded_cause asked given gave (load.Damaged damage) is stale = ((λ s told. inl (stale.0, gave.damaged damage is s told)), inl (gave.formed damage is))
   loaded_cause asked given gave (load.Loaded rows) is stale = tt
@@ -259,7 +259,7 @@ module _ (function : DigestFunction) (before after : Moment) (came : LoadAnswer)
 
 -- ---- an answer behind a refresh
 
-module _ (function : DigestFunction) (asked : Asked) (before mid after : Moment) (there : IsThere asked) (refreshed : Refreshed function before mid) where
+module _ (function : DigestFunction) (asked : Routed) (before mid after : Moment) (there : IsThere asked) (refreshed : Refreshed function before mid) where
   mid_wide : HasWidth function.width before → HasWidth function.width mid
   mid_wide wide = by before.held.stale refl
     where
@@ -291,7 +291,7 @@ module _ (function : DigestFunction) (asked : Asked) (before mid after : Moment)
     left = led.left;
   }
 
-leaves_behind : (function : DigestFunction) (asked : Asked) (answer : Answer) (before mid after : Moment) → IsThere asked → Refreshed function before mid → Leaves asked answer mid after → Leaves asked answer before after
+leaves_behind : (function : DigestFunction) (asked : Routed) (answer : Answer) (before mid after : Moment) → IsThere asked → Refreshed function before mid → Leaves asked answer mid after → Leaves asked answer before after
 leaves_behind function (Load body) answer before mid after there refreshed leaves = record {
   stale = stale_behind function (Load body) before mid after there refreshed answer leaves.stale;
   store = subst (λ store. StoreBy answer store after.store) refreshed.store leaves.store;
@@ -304,7 +304,7 @@ leaves_behind function (Read query) answer before mid after there refreshed leav
 }
 leaves_behind function asked answer before mid after none refreshed leaves = absurd none
 
-pub answered_behind : (function : DigestFunction) (asked : Asked) (answer : Answer) (before mid after : Moment) → IsThere asked → Refreshed function before mid → Answered function asked answer mid after
+pub answered_behind : (function : DigestFunction) (asked : Routed) (answer : Answer) (before mid after : Moment) → IsThere asked → Refreshed function before mid → Answered function asked answer mid after
     → Answered function asked answer before after
 answered_behind function asked answer before mid after there refreshed answered =
     let turn = answered.turn in
@@ -336,8 +336,8 @@ pub agrees_at : (held held' : Held) (store store' : Option Store) → held ≡ h
 agrees_at held held' store store' same same_store agrees = subst (λ (h : Held). AgreesUnlessStale h store) (sym same) (subst (AgreesUnlessStale held') (sym same_store) agrees)
 
 -- what is asked for in other words is answered too
-pub answered_for : (function : DigestFunction) (asked asked' : Asked) (answer : Answer) (before after : Moment) → asked ≡ asked' → Answered function asked answer before after → Answered function asked' answer before after
-answered_for function asked asked' answer before after same answered = subst (λ (a : Asked). Answered function a answer before after) same answered
+pub answered_for : (function : DigestFunction) (asked asked' : Routed) (answer : Answer) (before after : Moment) → asked ≡ asked' → Answered function asked answer before after → Answered function asked' answer before after
+answered_for function asked asked' answer before after same answered = subst (λ (a : Routed). Answered function a answer before after) same answered
 
 -- ---- the reply
 

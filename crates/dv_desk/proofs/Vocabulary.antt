@@ -17,7 +17,7 @@ pub use Rattle.dv_catalog.specs.declared.{windows.WindowIn.WindowIn}
 pub use Rattle.dv_desk.specs.{Answers.refusal, Answers.reply_of, Answers.status_of, Answers.status_of_rule, Answers.unrefreshed, Bodies.begun_data, Bodies.feed_data, Bodies.head_data, Bodies.heads_body, Bodies.heads_data, Desks.moment_of, Desks.places, Doors.EndsAs, Doors.IsFaultOf}
 pub use Rattle.dv_desk.specs.{Doors.IsServeCause, Doors.ServedDoors, Doors.ServesBy, Doors.ServesWith, Doors.StandsThen, Doors.Started, Doors.Tells, Posted.json_of, Posted.posted, Queries.begun_load, Queries.mart_at, Queries.mart_for, Queries.pit_at, Queries.pit_for, Queries.stored_pit}
 pub use Rattle.dv_desk.specs.{Queries.table_for, Queries.text_or, Reads.Due, Reads.IsPitAt, Reads.IsQuiet, Reads.IsReadAs, Reads.IsReadBy, Reads.IsReadCause, Reads.Looked, Reads.LookedBy, Reads.answer_of_stored, Reads.bad_date, Reads.due_by, Reads.mart_due, Reads.or_memory, Reads.pit_due}
-pub use Rattle.dv_desk.specs.{Routes.Asked, Routes.Heads, Routes.Load, Routes.MartAt, Routes.NotAllowed, Routes.NotFound, Routes.PitAt, Routes.Query, Routes.Read, Routes.TableOf, Routes.asked, Routes.query_as, ServeWords.workers_said, Serving.AreSure, Serving.IsSure, Serving.LeadsInStates}
+pub use Rattle.dv_desk.specs.{Routes.Heads, Routes.Load, Routes.MartAt, Routes.NotAllowed, Routes.NotFound, Routes.PitAt, Routes.Query, Routes.Read, Routes.Routed, Routes.TableOf, Routes.asked, Routes.query_as, ServeWords.workers_said, Serving.AreSure, Serving.IsSure, Serving.LeadsInStates}
 pub use Rattle.dv_desk.specs.{Serving.Serves, Serving.StandsAs, Serving.Talked, Serving.TalksIn, Turns.Answered, Turns.CanReply, Turns.HasWidth, Turns.IsAllowed, Turns.IsAskedFor, Turns.IsCauseOf, Turns.IsDamageIn, Turns.IsDue, Turns.IsReplied, Turns.IsSound, Turns.IsStoredFor, Turns.IsThere}
 pub use Rattle.dv_desk.specs.{Turns.Leads, Turns.Leaves, Turns.LoadLeaves, Turns.LoadOffice, Turns.MayBe, Turns.Moment, Turns.PostSays, Turns.ReadOffice, Turns.Refreshed, Turns.Says, Turns.StaleBy, Turns.StoreBy, Turns.answer_of, Turns.moment}
 pub use Rattle.dv_desk.specs.{Doors.IsServedOut, Doors.ServeSays, Doors.ServedAll, Doors.ServedOut, Serving.IsSurelyReplied, Serving.ServesWhole}

@@ -6,8 +6,8 @@ use Rattle.dv_http.specs.declared.requests.Request.{Request}
 use Rattle.dv_print.specs.Words.{behind}
 use Rattle.dv_desk.specs.declared.routes.Route.{Route as Found}
 use Rattle.dv_desk.specs.declared.routes.Route.TheVariants as found
-use Rattle.dv_desk.specs.declared.routes.Asked.{Asked as Given}
-use Rattle.dv_desk.specs.declared.routes.Asked.TheVariants as given
+use Rattle.dv_desk.specs.declared.routes.Routed.{Routed as Given}
+use Rattle.dv_desk.specs.declared.routes.Routed.TheVariants as given
 use Rattle.dv_desk.specs.declared.routes.Query.{Query as GivenQuery}
 use Rattle.dv_desk.specs.declared.routes.Query.TheVariants as queries
 use Rattle.dv_desk.specs.declared.routes.Allowed.{Allowed}
@@ -56,32 +56,32 @@ pub data Query : Type 0 where
   -- the point-in-time table of a hub in the snapshot at a date
   PitAt : (hub date : List ℕ) → Query
 
-pub data Asked : Type 0 where
+pub data Routed : Type 0 where
   -- the window of a body is to be loaded
-  Load : (body : List ℕ) → Asked
+  Load : (body : List ℕ) → Routed
   -- this is to be read
-  Read : (query : Query) → Asked
+  Read : (query : Query) → Routed
   -- there is no such route
-  NotFound : Asked
+  NotFound : Routed
   -- the route has no such method, but these
-  NotAllowed : (methods : Allowed) → Asked
+  NotAllowed : (methods : Allowed) → Routed
 
 -- the date of a request; one without has a date of no bytes
 abbrev pub date_of : Request → List ℕ
 date_of request = unwrap_or request.at []
 
 -- what a request for a route that is only read asks for
-abbrev pub if_get : Request → Query → Asked
+abbrev pub if_get : Request → Query → Routed
 if_get request query = if bytes_eq request.method (codes "GET") then Read query else NotAllowed Get
 
 -- what a request for the windows asks for
-abbrev pub windows_asked : Request → Asked
+abbrev pub windows_asked : Request → Routed
 windows_asked request =
     if bytes_eq request.method (codes "GET") then Read Heads
     else (if bytes_eq request.method (codes "POST") then Load request.body else NotAllowed GetPost)
 
 -- what a request for a route asks for
-abbrev pub asked_at : Request → Route → Asked
+abbrev pub asked_at : Request → Route → Routed
 asked_at request Windows = windows_asked request
 asked_at request (Mart word) = if_get request (MartAt word (date_of request))
 asked_at request (Table name) = if_get request (TableOf name)
@@ -89,7 +89,7 @@ asked_at request (Pit hub) = if_get request (PitAt hub (date_of request))
 asked_at request NoRoute = NotFound
 
 -- what a request asks for
-abbrev pub asked : Request → Asked
+abbrev pub asked : Request → Routed
 asked request = asked_at request (route_of request.path)
 
 -- ---- all of it, as the code has it
@@ -110,7 +110,7 @@ query_as (queries.TableOf name) = TableOf name.now
 query_as (queries.PitAt hub date) = PitAt hub.now date.now
 
 -- what is asked for
-abbrev pub asked_as : Given → Asked
+abbrev pub asked_as : Given → Routed
 asked_as (given.Load body) = Load body.now
 asked_as (given.Read query) = Read (query_as query)
 asked_as given.NotFound = NotFound

@@ -25,7 +25,7 @@ use Rattle.dv_desk.specs.declared.posted.Posted.TheVariants.{NotJson, Faulty, Gi
 use Rattle.dv_desk.specs.Answers.{reply_of}
 use Rattle.dv_desk.specs.Posted.{posted}
 use Rattle.dv_desk.specs.Queries.{IsPitFor, heads_answer, mart_answer, pit_answer, table_answer}
-use Rattle.dv_desk.specs.Routes.{Asked, Load, NotAllowed, NotFound, Read, asked, Query, Heads, MartAt, PitAt, TableOf}
+use Rattle.dv_desk.specs.Routes.{Routed, Load, NotAllowed, NotFound, Read, asked, Query, Heads, MartAt, PitAt, TableOf}
 
 -- what stands between two requests: what the office holds, the keeper's store where it is told, and the keeper's count of
 -- faults
@@ -90,14 +90,14 @@ ReadSays mapping hashes state before after query answer state' =
     Told before (λ store. IsDue (due mapping hashes state query store) answer) × Stays state before after state'
 
 -- what is answered to what is asked for, and the state that it leads to
-abbrev pub Says : Mapping → Hashes → State → Option Store → Option Store → Asked → Answer → State → Type 0
+abbrev pub Says : Mapping → Hashes → State → Option Store → Option Store → Routed → Answer → State → Type 0
 Says mapping hashes state before after (Load body) answer state' = PostSays mapping hashes state before after (posted body) answer state'
 Says mapping hashes state before after (Read query) answer state' = ReadSays mapping hashes state before after query answer state'
 Says mapping hashes state before after NotFound answer state' = (answer ≡ answers.NotFound) × Stays state before after state'
 Says mapping hashes state before after (NotAllowed methods) answer state' = (answer ≡ answers.NotAllowed methods) × Stays state before after state'
 
 -- there is such a route, and it has the method
-abbrev pub IsThere : Asked → Type 0
+abbrev pub IsThere : Routed → Type 0
 IsThere NotFound = ⊥
 IsThere (NotAllowed methods) = ⊥
 IsThere asked = Unit {0}
@@ -105,22 +105,22 @@ IsThere asked = Unit {0}
 -- ---- why an answer is given, whatever the keeper tells
 
 -- the table of a stored snapshot that is asked for
-abbrev pub IsStoredFor : Mapping → Asked → SnapId → ℕ → Type 0
+abbrev pub IsStoredFor : Mapping → Routed → SnapId → ℕ → Type 0
 IsStoredFor mapping (Read (PitAt hub date)) id at = IsPitFor mapping hub date id at
 IsStoredFor mapping asked id at = ⊥
 
 -- a row of the store breaks a rule of form: one that a stale office reads again, or one of the stored table that is asked for
-abbrev pub IsDamageIn : DigestFunction → Asked → Moment → Moment → Store → Damage → Type 0
+abbrev pub IsDamageIn : DigestFunction → Routed → Moment → Moment → Store → Damage → Type 0
 IsDamageIn function asked before after store damage =
     ((before.held.stale ≡ true) × IsDamageFor before.held.vault.mapping (hashes_of function) function.width store damage)
     ⊎ ((id : SnapId) × (at : ℕ) × IsStoredFor before.held.vault.mapping asked id at × IsStoredDamage after.held id at store.snapshots damage)
 
 -- whatever is stored, it names a place and a rule that there may be, by the mapping, or a row of the table that is asked for
-abbrev pub MayBe : Mapping → Asked → Damage → Type 0
+abbrev pub MayBe : Mapping → Routed → Damage → Type 0
 MayBe mapping asked damage = IsNamed mapping damage ⊎ ((id : SnapId) × (at : ℕ) × IsStoredFor mapping asked id at × IsRowOf mapping id damage)
 
 -- the keeper failed only where its count rose, and a damage is there
-abbrev pub IsCauseOf : DigestFunction → Asked → Moment → Moment → Answer → Type 0
+abbrev pub IsCauseOf : DigestFunction → Routed → Moment → Moment → Answer → Type 0
 IsCauseOf function asked before after answers.Keeper = Rose before.faults after.faults
 IsCauseOf function asked before after (answers.Damaged damage) =
     Told before.store (λ store. IsDamageIn function asked before after store damage) × MayBe before.held.vault.mapping asked damage
@@ -132,7 +132,7 @@ IsAllowed (answers.NotAllowed methods) = ⊥
 IsAllowed answer = Unit {0}
 
 -- what is no route, or has not this method, is answered so, and nothing else is answered that it has not its method
-abbrev pub IsAskedFor : Asked → Answer → Type 0
+abbrev pub IsAskedFor : Routed → Answer → Type 0
 IsAskedFor NotFound answer = answer ≡ answers.NotFound
 IsAskedFor (NotAllowed methods) answer = answer ≡ answers.NotAllowed methods
 IsAskedFor asked answer = IsAllowed answer
@@ -179,7 +179,7 @@ pub record ReadLeaves (answer : Answer) (before after : Moment) : Type 0 where
   pub office : before.held.stale ≡ false → ReadOffice answer before.held after.held
 
 -- what a request leaves of the office and of the keeper's store; what is no route, or has not this method, leaves all
-abbrev pub Leaves : Asked → Answer → Moment → Moment → Type 0
+abbrev pub Leaves : Routed → Answer → Moment → Moment → Type 0
 Leaves (Load body) answer before after = LoadLeaves answer before after
 Leaves (Read query) answer before after = ReadLeaves answer before after
 Leaves asked answer before after = after ≡ before
@@ -191,13 +191,13 @@ abbrev pub HasWidth : ℕ → Moment → Type 0
 HasWidth width moment = moment.held.stale ≡ false → moment.held.width ≡ width
 
 -- an answer in a state, and the state that is left
-pub record Leads (hashes : Hashes) (state : State) (before after : Moment) (asked : Asked) (answer : Answer) : Type 0 where
+pub record Leads (hashes : Hashes) (state : State) (before after : Moment) (asked : Routed) (answer : Answer) : Type 0 where
   pub state' : State
   pub says : Says before.held.vault.mapping hashes state before.store after.store asked answer state'
   pub left : IsLeftIn hashes state' after.held after.store
 
 -- what is asked for is answered: what that does in each state that the office and its keeper stand for, and why
-pub record Turn (function : DigestFunction) (asked : Asked) (answer : Answer) (before after : Moment) : Type 0 where
+pub record Turn (function : DigestFunction) (asked : Routed) (answer : Answer) (before after : Moment) : Type 0 where
   pub leads : (state : State) → IsIn (hashes_of function) state before.held before.store → HasWidth function.width before
       → Leads (hashes_of function) state before after asked answer
   pub cause : IsCauseOf function asked before after answer
@@ -213,7 +213,7 @@ abbrev pub CanReply : Moment → Type 0
 CanReply moment = AgreesUnlessStale moment.held moment.store
 
 -- what is asked for is answered, and a request may come again
-pub record Answered (function : DigestFunction) (asked : Asked) (answer : Answer) (before after : Moment) : Type 0 where
+pub record Answered (function : DigestFunction) (asked : Routed) (answer : Answer) (before after : Moment) : Type 0 where
   pub turn : Turn function asked answer before after
   pub agrees : CanReply after
 
@@ -239,4 +239,4 @@ pub record Refreshed (function : DigestFunction) (before after : Moment) : Type 
 -- or the answer to whatever is asked for is that it could not be
 abbrev pub Refreshes : DigestFunction → Moment → Moment → Result (Unit {0}) Answer → Type 0
 Refreshes function before after (Ok done) = Refreshed function before after
-Refreshes function before after (Err answer) = (asked : Asked) → IsThere asked → Answered function asked answer before after
+Refreshes function before after (Err answer) = (asked : Routed) → IsThere asked → Answered function asked answer before after

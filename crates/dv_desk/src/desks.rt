@@ -4,7 +4,7 @@ ghost use Rattle.std.specs.Prelude.{◌≡◌, ◌<◌, ◌≤◌, false, length
 use crate::answers::{Answer, unrefreshed};
 use crate::posted::{Posted, read_body};
 use crate::queries::{bad_date, heads, hub_named, mart, or_memory, stored_answer, table};
-use crate::routes::{Asked, Query, asked_by};
+use crate::routes::{Query, Routed, asked_by};
 use dv_catalog::Rule;
 use dv_http::Request;
 use dv_outside::Gate;
@@ -132,13 +132,13 @@ impl<R: Threads + Sync, K: Keeper, H: KeyDigest, G: Gate> Desk<'_, '_, '_, '_, '
         ensures place { places self.new ≡ places self.old }
     {
         match asked_by(request) {
-            Asked::NotFound => Answer::NotFound,
-            Asked::NotAllowed { methods } => Answer::NotAllowed { methods },
-            Asked::Load { body } => match self.refresh() {
+            Routed::NotFound => Answer::NotFound,
+            Routed::NotAllowed { methods } => Answer::NotAllowed { methods },
+            Routed::Load { body } => match self.refresh() {
                 Ok(()) => self.load(alloc, body),
                 Err(answer) => answer,
             },
-            Asked::Read(query) => match self.refresh() {
+            Routed::Read(query) => match self.refresh() {
                 Ok(()) => self.read(alloc, &query),
                 Err(answer) => answer,
             },

@@ -37,7 +37,7 @@ pub(crate) enum Query<'a> {
 
 /// What a request asks for.
 #[derive(Clone, Copy)]
-pub(crate) enum Asked<'a> {
+pub(crate) enum Routed<'a> {
     /// The window of a body is to be loaded.
     Load { body: &'a [u8] },
     /// This is to be read.
@@ -106,40 +106,40 @@ fn date_of(request: &Request) -> &[u8]
 }
 
 // What a request for the windows asks for.
-fn asked_of_windows(request: &Request) -> Asked<'_>
+fn asked_of_windows(request: &Request) -> Routed<'_>
     ensures { asked_as result ≡ windows_asked request.now }
 {
     let method = request.method.bytes();
     if method == b"GET".as_slice() {
-        Asked::Read(Query::Heads)
+        Routed::Read(Query::Heads)
     } else if method == b"POST".as_slice() {
-        Asked::Load {
+        Routed::Load {
             body: request.body.items(),
         }
     } else {
-        Asked::NotAllowed {
+        Routed::NotAllowed {
             methods: Allowed::GetPost,
         }
     }
 }
 
 // What a request for a route asks for.
-fn asked_there<'a>(request: &'a Request, route: Route<'a>) -> Asked<'a>
+fn asked_there<'a>(request: &'a Request, route: Route<'a>) -> Routed<'a>
     ensures { asked_as result ≡ asked_at request.now (route_as route.entry) }
 {
     let is_get = request.method.bytes() == b"GET".as_slice();
     match route {
         Route::Windows => asked_of_windows(request),
-        Route::NoRoute => Asked::NotFound,
-        _ if !is_get => Asked::NotAllowed {
+        Route::NoRoute => Routed::NotFound,
+        _ if !is_get => Routed::NotAllowed {
             methods: Allowed::Get,
         },
-        Route::Mart { word } => Asked::Read(Query::MartAt {
+        Route::Mart { word } => Routed::Read(Query::MartAt {
             word,
             date: date_of(request),
         }),
-        Route::Table { name } => Asked::Read(Query::TableOf { name }),
-        Route::Pit { hub } => Asked::Read(Query::PitAt {
+        Route::Table { name } => Routed::Read(Query::TableOf { name }),
+        Route::Pit { hub } => Routed::Read(Query::PitAt {
             hub,
             date: date_of(request),
         }),
@@ -147,7 +147,7 @@ fn asked_there<'a>(request: &'a Request, route: Route<'a>) -> Asked<'a>
 }
 
 /// What a request asks for.
-pub(crate) fn asked_by(request: &Request) -> Asked<'_>
+pub(crate) fn asked_by(request: &Request) -> Routed<'_>
     ensures { asked_as result ≡ asked_of request.now }
 {
     asked_there(request, route_to(request.path.bytes()))

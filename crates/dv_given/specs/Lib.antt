@@ -6,6 +6,6 @@ pub mod Lines
 pub mod Numbers
 pub mod Readings
 pub mod Says
-pub mod Takings
 pub mod Tried
+pub mod WindowOutcomes
 pub mod Worlds

@@ -37,7 +37,7 @@ struct Reading {
 }
 
 impl Reading {
-    ghost use Rattle.std.specs.Prelude.{◌≡◌, ◌≤◌, IfOk, OnOk};
+    ghost use Rattle.std.specs.Prelude.{◌≡◌, ◌≤◌, OnOk};
     ghost use Rattle.dv_given.specs.Readings as spec;
     ghost use Rattle.dv_given.specs.Readings.{reading_of};
 

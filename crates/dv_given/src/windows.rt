@@ -1,6 +1,6 @@
 // What came of a window, and the line that says it.
 ghost use Rattle.std.specs.Prelude.{◌≡◌, ◌++◌, IfOk, OnOk};
-ghost use Rattle.dv_given.specs.Takings.{outcome_of, taken_text};
+ghost use Rattle.dv_given.specs.WindowOutcomes.{outcome_of, taken_text};
 ghost use Rattle.dv_given.specs.Tried.{is_refused, status_for, window_line as line_of_window};
 
 use dv_catalog::{Rule, printed, rule_text};

@@ -1,4 +1,4 @@
-ghost use Rattle.std.specs.Prelude.{◌≡◌, ◌<◌, ◌≤◌, length, take, true, false, IfOk, IsErrOf, OnErr, OnOk};
+ghost use Rattle.std.specs.Prelude.{◌≡◌, ◌<◌, length, take, true, false, IfOk, IsErrOf, OnErr, OnOk};
 ghost use Rattle.dv_text.specs.Causes.{HasCause};
 ghost use Rattle.dv_outside.specs.Bytes.{in_front};
 ghost use Rattle.httparse.specs.Grammar.{HasNoRequest, RequestHead};

@@ -1,11 +1,9 @@
 //! The links of a path's feeds with their keys, in the order of these.
 ghost use Rattle.std.specs.Prelude.{◌≡◌, ◌<◌, IfOk, IsTrue, length, map, nat_lt, slice_get};
 ghost use Rattle.std.specs.List.{list_all};
-ghost use Rattle.dv_catalog.specs.Feeds.{feed_hubs as hubs_of};
 ghost use Rattle.dv_catalog.specs.Mappings.{is_link_feed};
 ghost use Rattle.dv_records.specs.ReadBack.{key_read, keys_read};
 ghost use Rattle.dv_contents.specs.Contents as contents;
-ghost use Rattle.dv_bridge.specs.KeyedRows.{bare};
 ghost use Rattle.dv_mart.specs.PathTables as spec;
 
 use dv_bridge::{PathLink, feed_links};

@@ -1,7 +1,6 @@
 //! Path marts over the sealed windows of a vault.
 
-ghost use Rattle.std.specs.Prelude.{◌≡◌, ◌<◌, ◌++◌, ◌∷◌, false, Contains, IfOk, IsErrOf, List as list_of, Ok, OnOk, length, map, take, true};
-ghost use Rattle.std.specs.List.{flat_map};
+ghost use Rattle.std.specs.Prelude.{◌≡◌, ◌<◌, ◌++◌, ◌∷◌, false, IfOk, IsErrOf, List as list_of, Ok, OnOk, length, map, true};
 ghost use Rattle.std.specs.Io.KnownBytes.{Appends};
 ghost use Rattle.csv.specs.Writing.{text_written};
 ghost use Rattle.dv_text.specs.declared.rows.Window.{Window};
@@ -10,7 +9,7 @@ ghost use Rattle.dv_records.specs.Marts as marts;
 ghost use Rattle.dv_vault.specs.Vaults.{HasSealed};
 ghost use Rattle.dv_bridge.specs.Paths.{is_path_too_large};
 ghost use Rattle.dv_bridge.specs.ZeroKeys.{HasZeroKeys};
-ghost use Rattle.dv_print.specs.Texts.{all_parts, csv_text};
+ghost use Rattle.dv_print.specs.Texts.{csv_text};
 ghost use Rattle.dv_print.specs.Writers.{IsBetweenRecords};
 ghost use Rattle.dv_mart.specs.MartTexts as spec;
 ghost use Rattle.dv_mart.specs.PathTables.{path_row, steps_along, way_record};

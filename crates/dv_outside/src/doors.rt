@@ -1,4 +1,4 @@
-ghost use Rattle.std.specs.Prelude.{◌≡◌, ◌≤◌, ℕ, Option, Some, IfOk, IfSome, OnErr};
+ghost use Rattle.std.specs.Prelude.{◌≡◌, ℕ, Option, Some, IfOk, IfSome, OnErr};
 ghost use Rattle.dv_text.specs.Causes.{HasCause};
 ghost use Rattle.dv_outside.specs.Lines.{Lines, GivesNext, MayTakeBack, with_back};
 

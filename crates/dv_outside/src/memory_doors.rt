@@ -67,7 +67,7 @@ impl Doors for MemoryDoors {
     ghost use Rattle.std.specs.Prelude.{◌≡◌, ◌↔◌, Some, IfOk, IfSome, OnErr, IsErr, IsTrue, is_ok, if◌then◌else◌};
     ghost use Rattle.dv_text.specs.Causes.{HasCause};
     ghost use Rattle.dv_outside.specs.Calls.{one_more};
-    ghost use Rattle.dv_outside.specs.Lines.{GivesNext, MayTakeBack, with_back};
+    ghost use Rattle.dv_outside.specs.Lines.{GivesNext, MayTakeBack};
     ghost use Rattle.dv_outside.specs.MemoryDoors.{doors_lines, doors_port, doors_calls, doors_fails, doors_faults, doors_fails_next};
 
     type Line = MemoryLink;

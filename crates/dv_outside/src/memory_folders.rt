@@ -15,7 +15,6 @@ pub struct MemoryFolder {
 }
 
 impl MemoryFolder {
-    ghost use Rattle.std.specs.Prelude.{[]};
     ghost use Rattle.dv_outside.specs.MemoryFolders.{folder_files, folder_reads, folder_fails, folder_faults};
 
     /// A folder of these files. The reads whose numbers, from 1, are among `fails` are to fail.

@@ -17,7 +17,7 @@ use std::thread::Threads;
 
 // What the words ask for.
 #[derive(Clone, Copy)]
-enum Asked {
+enum Invocation {
     /// A command.
     Runs,
     /// Connections are to be served.
@@ -26,16 +26,16 @@ enum Asked {
     Misused,
 }
 
-fn asked_of(words: &[String]) -> Asked
+fn asked_of(words: &[String]) -> Invocation
     ensures words { spec.asked_as result ≡ spec.asked_of words.now }
     ensures workers { HasWorkers (spec.asked_as result) }
 {
     match words {
         [first, behind @ ..] if first.as_str() == "serve" => match serve_words(behind) {
-            Some(words) => Asked::Serves(words),
-            None => Asked::Misused,
+            Some(words) => Invocation::Serves(words),
+            None => Invocation::Misused,
         },
-        _ => Asked::Runs,
+        _ => Invocation::Runs,
     }
 }
 
@@ -89,12 +89,12 @@ pub fn program<
     ensures later_out { (O.faults out.old ≤ O.faults out.new) × (E.faults err.old ≤ E.faults err.new) }
 {
     match asked_of(words) {
-        Asked::Runs => run(rt, alloc, words, folder, keeper, out, err, digest, gate),
-        Asked::Serves(asked) => {
+        Invocation::Runs => run(rt, alloc, words, folder, keeper, out, err, digest, gate),
+        Invocation::Serves(asked) => {
             doors.listen(asked.port);
             let workers = asked.workers;
             serve(rt, alloc, doors, keeper, err, workers, digest, gate)
         }
-        Asked::Misused => end(err, USAGE, Status::Usage),
+        Invocation::Misused => end(err, USAGE, Status::Usage),
     }
 }

@@ -28,10 +28,10 @@ pub use Rattle.dv_records.specs.{States.State, States.all_windows, States.are_da
 pub use Rattle.dv_records.specs.{States.is_one_partner, States.is_one_row, States.is_row_of, States.is_staged, States.is_valid_state, States.is_window, States.last_load, States.snapshots_weight, Statuses.IsStatusBatch, Statuses.code_between, Statuses.code_of, Statuses.status_batch}
 pub use Rattle.dv_records.specs.{Statuses.status_cmp, Statuses.status_row, Steps.full_with, Steps.future, Steps.later_than, Steps.snapshot_refusal, Steps.snapshots_full, Steps.taken, Steps.with_date, Stores.appended_to, Stores.are_apart, Stores.are_snap_tables_apart}
 pub use Rattle.dv_records.specs.{Stores.are_snapshots_in_order, Stores.has_kind, Stores.have_kinds, Stores.is_new_snapshot, Stores.is_of_kind, Stores.is_well_formed, Stores.no_rows, Stores.row_count, Stores.rows_in, Stores.rows_of_snap, Stores.rows_then, Stores.snap_cmp, Stores.snap_id_eq}
-pub use Rattle.dv_records.specs.{Stores.snapshot_rows, Stores.table_eq, Stores.with_snapshot, Turns.without_first, Vault.HoldsTable, Vault.feed_batch, Vault.table_after, Vault.table_batch, Vault.table_entry, Vault.vault, Weights.rows_weight, Weights.tables_weight, Weights.vault_weight}
+pub use Rattle.dv_records.specs.{PlannedFailures.without_first, Stores.snapshot_rows, Stores.table_eq, Stores.with_snapshot, Vault.HoldsTable, Vault.feed_batch, Vault.table_after, Vault.table_batch, Vault.table_entry, Vault.vault, Weights.rows_weight, Weights.tables_weight, Weights.vault_weight}
 pub use Rattle.dv_records.specs.declared.{deliveries.Delivery.Delivery, mart_rows.Period.Period, mart_rows.PeriodRow.PeriodRow, raw_rows.Code.Code, raw_rows.EffectRow.EffectRow, raw_rows.HubRow.HubRow, raw_rows.LinkRow.LinkRow, raw_rows.MultiRow.MultiRow, raw_rows.SatRow.SatRow}
 pub use Rattle.dv_records.specs.declared.{raw_rows.StatusRow.StatusRow, snapshots.Snap.Snap, snapshots.SnapId.SnapId, snapshots.SnapId.TheVariants.Bridge, snapshots.SnapId.TheVariants.Pit, snapshots.SnapTable.SnapTable, stores.Rows.Rows, stores.Rows.TheVariants.Bridges}
-pub use Rattle.dv_records.specs.declared.{stores.Rows.TheVariants.Hubs, stores.Rows.TheVariants.Multis, stores.Rows.TheVariants.Pits, stores.Rows.TheVariants.Sats, stores.Rows.TheVariants.Statuses, stores.Store.Store, stores.TableRows.TableRows, turns.Fail.Fail}
+pub use Rattle.dv_records.specs.declared.{planned_failures.Fail.Fail, stores.Rows.TheVariants.Hubs, stores.Rows.TheVariants.Multis, stores.Rows.TheVariants.Pits, stores.Rows.TheVariants.Sats, stores.Rows.TheVariants.Statuses, stores.Store.Store, stores.TableRows.TableRows}
 pub use Rattle.dv_text.proofs.{Deciding.any_refs, Deciding.refs_eq-Decides, Deciding.refs_exact, Deciding.refs_total, Deciding.row_eq-Decides, Deciding.row_total, Deciding.texts_eq-Decides, Members.Contains-flat_map, Members.Contains-map, Members.filtered_members, Members.flat_map_member}
 pub use Rattle.dv_text.proofs.{Members.member_of_all, Members.reverse_member, Options.got_member, Options.made_of, Options.none_before_map, Options.one_value, Orderings.asymmetric, Orderings.equal_first, Orderings.irreflexive, Orderings.le_from_cmp, Orderings.less_first, Orderings.then_less}
 pub use Rattle.dv_text.proofs.{Passing.all_pass_replicate, Passing.all_pass_weaker, Passing.filter-all, Passing.filter-none, Passing.find_same, Passing.finds, Passing.same_answer, Passing.some_passes, Passing.some_passes_at, Places.by_place, Places.is_placed, Places.none_placed}

@@ -19,6 +19,7 @@ pub mod Marts
 pub mod MemoryKeepers
 pub mod MultiPlaces
 pub mod Outcomes
+pub mod PlannedFailures
 pub mod Ranks
 pub mod RawTables
 pub mod ReadBack
@@ -34,6 +35,5 @@ pub mod StatusPlaces
 pub mod Statuses
 pub mod Steps
 pub mod Stores
-pub mod Turns
 pub mod Vault
 pub mod Weights

@@ -6,9 +6,9 @@ use Rattle.dv_records.specs.declared.keepers.KeeperError.{KeeperError}
 use Rattle.dv_records.specs.declared.keepers.KeeperError.TheVariants.{Failed, Memory}
 use Rattle.dv_records.specs.declared.memory_keepers.MemoryKeeper.{MemoryKeeper}
 use Rattle.dv_records.specs.declared.stores.Store.{Store}
-use Rattle.dv_records.specs.declared.turns.Turn.TheVariants.{Works, FailsBefore, FailsAfter}
+use Rattle.dv_records.specs.declared.planned_failures.Turn.TheVariants.{Works, FailsBefore, FailsAfter}
 use Rattle.dv_records.specs.Stores.{is_well_formed}
-use Rattle.dv_records.specs.Turns.{Plan, next_turn, after_change, after_failure}
+use Rattle.dv_records.specs.PlannedFailures.{Plan, next_turn, after_change, after_failure}
 
 -- a store with nothing in it
 abbrev pub empty_store : Store
@@ -19,7 +19,7 @@ keeper_store keeper = keeper.store
 
 -- the failures that are still planned, how many calls changed the store or were to, and how many calls failed
 abbrev pub keeper_plan : MemoryKeeper → Plan
-keeper_plan keeper = keeper.turns
+keeper_plan keeper = keeper.plan
 
 -- a changing call works exactly where no failure of its number is planned, and want of memory changes nothing;
 -- one that fails makes its change where its failure is planned so, and is counted

@@ -4,10 +4,10 @@ ghost use Rattle.dv_records.specs.Stores.{is_well_formed};
 use crate::appends::append;
 use crate::keepers::{Keeper, KeeperError};
 use crate::pages::table_page;
+use crate::planned_failures::{Fail, PlannedCalls};
 use crate::snapshots::{SnapHead, SnapId, SnapTable};
 use crate::stored_snapshots::{heads_of, insert, snapshot_page};
 use crate::stores::{Rows, Store};
-use crate::turns::{Fail, Turns};
 use dv_catalog::TableId;
 use dv_text::{Duplicate, List, Memory, Stamp, Text, Window, WindowHead};
 use std::alloc::Global;
@@ -27,13 +27,13 @@ impl From<Memory> for KeeperError {
 #[derive(Debug, Drop)]
 pub struct MemoryKeeper {
     store: Store,
-    turns: Turns,
+    plan: PlannedCalls,
     ghost well_formed: { IsTrue (is_well_formed store) },
 }
 
 impl MemoryKeeper {
     ghost use Rattle.std.specs.Prelude.{◌≡◌};
-    ghost use Rattle.dv_records.specs.Turns.{new_plan};
+    ghost use Rattle.dv_records.specs.PlannedFailures.{new_plan};
     ghost use Rattle.dv_records.specs.MemoryKeepers.{empty_store, keeper_plan, keeper_store};
 
     /// A keeper of an empty store, with these failures planned. With
@@ -52,7 +52,7 @@ impl MemoryKeeper {
         };
         MemoryKeeper {
             store,
-            turns: Turns::new(fails),
+            plan: PlannedCalls::new(fails),
         }
     }
 
@@ -66,7 +66,7 @@ impl MemoryKeeper {
     {
         MemoryKeeper {
             store,
-            turns: Turns::new(fails),
+            plan: PlannedCalls::new(fails),
         }
     }
 
@@ -83,7 +83,7 @@ impl Keeper for MemoryKeeper {
     ghost use Rattle.dv_text.specs.Told.{Told};
     ghost use Rattle.dv_records.specs.Stores.{is_new_snapshot, is_of_kind, page, rows_in, snapshot_rows, with_mapping, with_rows, with_seal, with_snapshot, with_stage, IsStagedAt};
     ghost use Rattle.dv_records.specs.Changes.{Changes, KeeperCause};
-    ghost use Rattle.dv_records.specs.Turns.{ReadTurn};
+    ghost use Rattle.dv_records.specs.PlannedFailures.{ReadTurn};
     ghost use Rattle.dv_records.specs.MemoryKeepers.{keeper_plan, keeper_store, told_well_formed, ChangeTurn};
 
     ghost store = { λ k. Some (keeper_store k) };
@@ -98,7 +98,7 @@ impl Keeper for MemoryKeeper {
         ensures cause { KeeperCause (keeper_plan self.old).faults (keeper_plan self.new).faults result }
         ensures turn { ReadTurn (keeper_plan self.old) (keeper_plan self.new) result }
     {
-        self.turns.read()?;
+        self.plan.read()?;
         match &self.store.mapping {
             None => Ok(None),
             Some(text) => Ok(Some(text.copy()?)),
@@ -112,11 +112,11 @@ impl Keeper for MemoryKeeper {
         ensures turn { ChangeTurn (with_mapping text.now) self.old self.new result }
     {
         let text = text.copy()?;
-        let turn = self.turns.next();
+        let turn = self.plan.next();
         if turn.takes_effect() {
             self.store.mapping = Some(text);
         }
-        self.turns.end(turn)
+        self.plan.end(turn)
     }
 
     fn windows(&mut self, _alloc: Global) -> Result<List<WindowHead>, KeeperError>
@@ -125,7 +125,7 @@ impl Keeper for MemoryKeeper {
         ensures cause { KeeperCause (keeper_plan self.old).faults (keeper_plan self.new).faults result }
         ensures turn { ReadTurn (keeper_plan self.old) (keeper_plan self.new) result }
     {
-        self.turns.read()?;
+        self.plan.read()?;
         Ok(self.store.windows.copy()?)
     }
 
@@ -135,7 +135,7 @@ impl Keeper for MemoryKeeper {
         ensures cause { KeeperCause (keeper_plan self.old).faults (keeper_plan self.new).faults result }
         ensures turn { ReadTurn (keeper_plan self.old) (keeper_plan self.new) result }
     {
-        self.turns.read()?;
+        self.plan.read()?;
         match &self.store.stage {
             None => Ok(None),
             Some(window) => Ok(Some(window.copy()?)),
@@ -149,11 +149,11 @@ impl Keeper for MemoryKeeper {
         ensures turn { ChangeTurn (with_stage window.now) self.old self.new result }
     {
         let window = window.copy()?;
-        let turn = self.turns.next();
+        let turn = self.plan.next();
         if turn.takes_effect() {
             self.store.stage = Some(window);
         }
-        self.turns.end(turn)
+        self.plan.end(turn)
     }
 
     fn rows(
@@ -169,7 +169,7 @@ impl Keeper for MemoryKeeper {
         ensures cause { KeeperCause (keeper_plan self.old).faults (keeper_plan self.new).faults result }
         ensures turn { ReadTurn (keeper_plan self.old) (keeper_plan self.new) result }
     {
-        self.turns.read()?;
+        self.plan.read()?;
         Ok(table_page(alloc, self.store.tables.items(), table, from, most)?)
     }
 
@@ -181,12 +181,12 @@ impl Keeper for MemoryKeeper {
         ensures turn { ChangeTurn (with_rows table rows.now) self.old self.new result }
     {
         let rows = rows.copy()?;
-        let turn = self.turns.next();
+        let turn = self.plan.next();
         if !turn.takes_effect() {
-            return self.turns.end(turn);
+            return self.plan.end(turn);
         }
         append(alloc, &mut self.store.tables, table, rows)?;
-        self.turns.end(turn)
+        self.plan.end(turn)
     }
 
     fn seal(&mut self, _alloc: Global, head: &WindowHead) -> Result<(), KeeperError>
@@ -196,12 +196,12 @@ impl Keeper for MemoryKeeper {
         ensures turn { ChangeTurn (with_seal head.now) self.old self.new result }
     {
         let head = head.copy()?;
-        let turn = self.turns.next();
+        let turn = self.plan.next();
         if turn.takes_effect() {
             self.store.windows.push(head)?;
             self.store.stage = None;
         }
-        self.turns.end(turn)
+        self.plan.end(turn)
     }
 
     fn snapshots(&mut self, alloc: Global) -> Result<List<SnapHead>, KeeperError>
@@ -210,7 +210,7 @@ impl Keeper for MemoryKeeper {
         ensures cause { KeeperCause (keeper_plan self.old).faults (keeper_plan self.new).faults result }
         ensures turn { ReadTurn (keeper_plan self.old) (keeper_plan self.new) result }
     {
-        self.turns.read()?;
+        self.plan.read()?;
         Ok(heads_of(alloc, self.store.snapshots.items())?)
     }
 
@@ -226,12 +226,12 @@ impl Keeper for MemoryKeeper {
         ensures turn { ChangeTurn (with_snapshot (record { head = head.now; tables = tables.now })) self.old self.new result }
     {
         let tables = tables.copy()?;
-        let turn = self.turns.next();
+        let turn = self.plan.next();
         if !turn.takes_effect() {
-            return self.turns.end(turn);
+            return self.plan.end(turn);
         }
         insert(alloc, &mut self.store.snapshots, *head, tables)?;
-        self.turns.end(turn)
+        self.plan.end(turn)
     }
 
     fn snapshot_rows(
@@ -248,7 +248,7 @@ impl Keeper for MemoryKeeper {
         ensures cause { KeeperCause (keeper_plan self.old).faults (keeper_plan self.new).faults result }
         ensures turn { ReadTurn (keeper_plan self.old) (keeper_plan self.new) result }
     {
-        self.turns.read()?;
+        self.plan.read()?;
         Ok(snapshot_page(alloc, self.store.snapshots.items(), date, id, from, most)?)
     }
 }

@@ -1,7 +1,7 @@
 -- The kinds of rows of tables, and of what a window adds to them.
 use Rattle.dv_restore.proofs.Vocabulary.{Bool, Bridges, Effects, Extract, Hashes, Hubs, Links, List, Mapping, Multis, NRow, None, Option, Pits, Rows, Sats, Some, Statuses, Table, TableId, Window, [], added, and_from, ap, drop, entry_of, extract_added, is_of_kind, kind_of, map, refl, row_count}
 use Rattle.dv_restore.proofs.Vocabulary.{rows_loaded, rows_then, rules, sym, true, ℕ, ◌∙◌, ◌∷◌, ◌≡◌}
-use Rattle.dv_restore.proofs.{RowLoads.are_of_kinds, RowHalves.drop_exactly}
+use Rattle.dv_restore.proofs.{RowLoads.are_of_kinds, PartedRows.drop_exactly}
 
 -- ---- kinds
 

@@ -12,10 +12,10 @@ pub mod LoadedRows
 pub mod Misnamed
 pub mod NamedDamages
 pub mod OpenParts
+pub mod PartedRows
 pub mod PartedTables
 pub mod ReadSteps
 pub mod Reopening
-pub mod RowHalves
 pub mod RowLoads
 pub mod StandingStores
 pub mod StoreReads

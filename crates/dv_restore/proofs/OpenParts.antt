@@ -1,7 +1,6 @@
 -- The parts of an open window in a vault of which some first tables have its batches.
-use Rattle.dv_restore.proofs.Vocabulary.{ArePartsOf, Backwards, Hashes, List, Mapping, Part, Rows, TableId, TableRows, Window, [], all_lacking, ap, arith, backwards, batch_adds, drop, is_of_kind, map, none_like, opened_in, partial, parts_at, refl, rest_in, row_count, rows_then, rows_weight}
-use Rattle.dv_restore.proofs.Vocabulary.{rules, suc, sum_by, sum_by-cons, sym, table_after, table_after-newest, table_batch, table_entry, tables, tables_there, tables_weight, take, then_none, true, vault, vault_weight, weight_with_batches, window_batches, with_newest, zero, ℕ, ◌++◌, ◌+◌, ◌∙◌}
-use Rattle.dv_restore.proofs.Vocabulary.{◌∷◌, ◌≡◌}
+use Rattle.dv_restore.proofs.Vocabulary.{ArePartsOf, Backwards, Hashes, List, Mapping, Part, Rows, TableId, TableRows, Window, [], all_lacking, ap, arith, backwards, batch_adds, drop, is_of_kind, map, none_like, opened_in, partial, parts_at, refl, rest_in, row_count, rows_then, rows_weight, rules}
+use Rattle.dv_restore.proofs.Vocabulary.{suc, sum_by, sum_by-cons, sym, table_after, table_after-newest, table_batch, table_entry, tables, tables_there, tables_weight, take, then_none, true, vault, vault_weight, weight_with_batches, window_batches, with_newest, zero, ℕ, ◌++◌, ◌+◌, ◌∙◌, ◌∷◌, ◌≡◌}
 use Rattle.dv_restore.proofs.Completing.{same_behind}
 
 -- a table and its batch are of its kind

@@ -32,7 +32,7 @@ pub use Rattle.dv_records.specs.declared.{answers.Damage.Damage, deliveries.Deli
 pub use Rattle.dv_records.specs.declared.{snapshots.SnapHead.SnapHead, stores.Rows.Rows, stores.Rows.TheVariants.Bridges, stores.Rows.TheVariants.Effects, stores.Rows.TheVariants.Hubs, stores.Rows.TheVariants.Links, stores.Rows.TheVariants.Multis, stores.Rows.TheVariants.Pits}
 pub use Rattle.dv_records.specs.declared.{stores.Rows.TheVariants.Sats, stores.Rows.TheVariants.Statuses, stores.Store.Store, stores.TableRows.TableRows}
 pub use Rattle.dv_restore.specs.{Begins.AreAllApart, Begins.AreNamed, Begins.HasMisnamed, Begins.HasPlace, Begins.HaveNoZeroLinks, Begins.IsMisnamed, Begins.broken_window, Begins.compared_in, Completions.IsBegunAs, Completions.IsBegunOf, Completions.IsOpenBehind, Completions.MayGoOn}
-pub use Rattle.dv_restore.specs.{Completions.rows_there, Damages.BreaksRule, Damages.IsBesideTables, Damages.IsFormRule, Damages.IsInForm, Damages.IsNamed, Damages.IsNotRead, Damages.IsReadAs, Damages.KeepsF15, Halves.AreHalves, Halves.is_of_load, Halves.is_of_other, Parts.AreParted}
+pub use Rattle.dv_restore.specs.{Completions.rows_there, Damages.BreaksRule, Damages.IsBesideTables, Damages.IsFormRule, Damages.IsInForm, Damages.IsNamed, Damages.IsNotRead, Damages.IsReadAs, Damages.KeepsF15, PartedRows.ArePartedRows, PartedRows.is_of_load, PartedRows.is_of_other, Parts.AreParted}
 pub use Rattle.dv_restore.specs.{Parts.EndsAt, Parts.IsParted, Parts.are_loaded, Parts.entry_before, Parts.rows_at, Parts.rows_before, Readings.AreCounted, Readings.AreGathered, Readings.AreInForm, Readings.AreRead, Readings.HasHeads, Readings.HasPut, Readings.IsKnownBy, Readings.IsPut}
 pub use Rattle.dv_restore.specs.{Readings.IsRawDamage, Readings.TellsKnown, Readings.entries_in, Readings.flaw_read, Readings.hub_entries, Readings.known_first, Readings.link_entries, Restored.IsOfState, Restored.are_in_order, Restored.heads_of_state, Sealed.rows_loaded, Sealed.sealed_entry}
 pub use Rattle.dv_restore.specs.{Sealed.sealed_of, Sealed.sealed_rows, Sealed.sealed_vault, Sealed.stored_vault, Sealed.vault_of}

@@ -2,7 +2,7 @@ pub mod Begins
 pub mod Completions
 pub mod Damages
 pub mod Faults
-pub mod Halves
+pub mod PartedRows
 pub mod Parts
 pub mod Readings
 pub mod Restored

@@ -9,10 +9,10 @@ ghost use Rattle.dv_records.specs.SatPlaces.{sat_place};
 ghost use Rattle.dv_records.specs.StatusPlaces.{status_place};
 ghost use Rattle.dv_records.specs.Weights.{rows_weight, tables_weight};
 ghost use Rattle.dv_vault.specs.Vaults.{entry_of};
-ghost use Rattle.dv_restore.specs.Halves.{AreHalves};
+ghost use Rattle.dv_restore.specs.PartedRows.{ArePartedRows};
 ghost use Rattle.dv_restore.specs.Parts.{AreParted, IsParted};
 
-use crate::halves::{ends_at, halves};
+use crate::parted_rows::{ends_at, part_rows};
 use dv_hub_link::{HubTable, LinkTable};
 use dv_records::{EffectRow, HubRow, LinkRow, MultiRow, Rows, SatRow, StatusRow, weight};
 use dv_sat::{MultiTable, SatTable};
@@ -36,12 +36,12 @@ fn hub_parts(
     load: Stamp,
 ) -> Result<(HubTable, List<HubRow>), Memory>
     requires { IsTrue (is_up_to load (Rows.Hubs table.rows)) }
-    ensures { IfOk result (λ parts. AreHalves hub_place load table.rows parts.0.rows parts.1) }
+    ensures { IfOk result (λ parts. ArePartedRows hub_place load table.rows parts.0.rows parts.1) }
 {
     if !ends_at(table.rows(), load) {
         return Ok((table, List::new(alloc)));
     }
-    let (sealed, opened) = halves(table.into_rows(), load)?;
+    let (sealed, opened) = part_rows(table.into_rows(), load)?;
     let table = HubTable::from_rows(alloc, sealed)?;
     Ok((table, opened))
 }
@@ -53,12 +53,12 @@ fn link_parts(
     load: Stamp,
 ) -> Result<(LinkTable, List<LinkRow>), Memory>
     requires { IsTrue (is_up_to load (Rows.Links table.rows)) }
-    ensures { IfOk result (λ parts. AreHalves link_place load table.rows parts.0.rows parts.1) }
+    ensures { IfOk result (λ parts. ArePartedRows link_place load table.rows parts.0.rows parts.1) }
 {
     if !ends_at(table.rows(), load) {
         return Ok((table, List::new(alloc)));
     }
-    let (sealed, opened) = halves(table.into_rows(), load)?;
+    let (sealed, opened) = part_rows(table.into_rows(), load)?;
     let table = LinkTable::from_rows(alloc, sealed)?;
     Ok((table, opened))
 }
@@ -70,12 +70,12 @@ fn sat_parts(
     load: Stamp,
 ) -> Result<(SatTable, List<SatRow>), Memory>
     requires { IsTrue (is_up_to load (Rows.Sats table.rows)) }
-    ensures { IfOk result (λ parts. AreHalves sat_place load table.rows parts.0.rows parts.1) }
+    ensures { IfOk result (λ parts. ArePartedRows sat_place load table.rows parts.0.rows parts.1) }
 {
     if !ends_at(table.rows(), load) {
         return Ok((table, List::new(alloc)));
     }
-    let (sealed, opened) = halves(table.into_rows(), load)?;
+    let (sealed, opened) = part_rows(table.into_rows(), load)?;
     let table = SatTable::from_rows(alloc, sealed)?;
     Ok((table, opened))
 }
@@ -87,12 +87,12 @@ fn multi_parts(
     load: Stamp,
 ) -> Result<(MultiTable, List<MultiRow>), Memory>
     requires { IsTrue (is_up_to load (Rows.Multis table.rows)) }
-    ensures { IfOk result (λ parts. AreHalves multi_place load table.rows parts.0.rows parts.1) }
+    ensures { IfOk result (λ parts. ArePartedRows multi_place load table.rows parts.0.rows parts.1) }
 {
     if !ends_at(table.rows(), load) {
         return Ok((table, List::new(alloc)));
     }
-    let (sealed, opened) = halves(table.into_rows(), load)?;
+    let (sealed, opened) = part_rows(table.into_rows(), load)?;
     let table = MultiTable::from_rows(alloc, sealed)?;
     Ok((table, opened))
 }
@@ -104,12 +104,12 @@ fn status_parts(
     load: Stamp,
 ) -> Result<(StatusTable, List<StatusRow>), Memory>
     requires { IsTrue (is_up_to load (Rows.Statuses table.rows)) }
-    ensures { IfOk result (λ parts. AreHalves status_place load table.rows parts.0.rows parts.1) }
+    ensures { IfOk result (λ parts. ArePartedRows status_place load table.rows parts.0.rows parts.1) }
 {
     if !ends_at(table.rows(), load) {
         return Ok((table, List::new(alloc)));
     }
-    let (sealed, opened) = halves(table.into_rows(), load)?;
+    let (sealed, opened) = part_rows(table.into_rows(), load)?;
     let table = StatusTable::from_rows(alloc, sealed)?;
     Ok((table, opened))
 }
@@ -121,12 +121,12 @@ fn effect_parts(
     load: Stamp,
 ) -> Result<(EffectTable, List<EffectRow>), Memory>
     requires { IsTrue (is_up_to load (Rows.Effects table.rows)) }
-    ensures { IfOk result (λ parts. AreHalves effect_place load table.rows parts.0.rows parts.1) }
+    ensures { IfOk result (λ parts. ArePartedRows effect_place load table.rows parts.0.rows parts.1) }
 {
     if !ends_at(table.rows(), load) {
         return Ok((table, List::new(alloc)));
     }
-    let (sealed, opened) = halves(table.into_rows(), load)?;
+    let (sealed, opened) = part_rows(table.into_rows(), load)?;
     let table = EffectTable::from_rows(alloc, sealed)?;
     Ok((table, opened))
 }

@@ -1,6 +1,6 @@
 // The store of a keeper behind its mapping.
 ghost use Rattle.std.specs.Option.{option_map_or, option_to_list};
-ghost use Rattle.std.specs.Prelude.{◌≡◌, ◌≤◌, ◌++◌, ℕ, IfOk, IfSome, IsErrOf, IsTrue, List, None, Some, length, map, true};
+ghost use Rattle.std.specs.Prelude.{◌≡◌, ◌≤◌, ◌++◌, IfOk, IfSome, IsErrOf, IsTrue, List, None, Some, map, true};
 ghost use Rattle.dv_text.specs.Causes.{Rose};
 ghost use Rattle.dv_text.specs.Keys.{hashes_of};
 ghost use Rattle.dv_text.specs.Told.{Told};

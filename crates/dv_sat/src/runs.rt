@@ -3,7 +3,7 @@ ghost use Rattle.std.specs.Prelude.{◌≡◌, ◌==◌, ◌&&◌, filter};
 ghost use Rattle.std.specs.List.Sorted.{IsStrictlySortedBy};
 ghost use Rattle.std.specs.Str.{bytes_eq};
 ghost use Rattle.std.specs.Ordering.{is_gt, is_lt};
-ghost use Rattle.dv_text.specs.Orders.{refs_cmp, row_cmp};
+ghost use Rattle.dv_text.specs.Orders.{row_cmp};
 ghost use Rattle.dv_records.specs.Satellites.{rows_of};
 ghost use Rattle.dv_sat.specs.MultiRows.{multi_order};
 ghost use Rattle.dv_sat.specs.RowPlaces.{place_cmp};

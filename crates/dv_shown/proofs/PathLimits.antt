@@ -1,5 +1,5 @@
 -- A path's rows at their limit and past it.
-use Rattle.dv_shown.proofs.Vocabulary.{Asked, Bool, Err, List, Ok, Option, PathDef, PathLimitsHold, Some, TooLarge, [], ap, bridge_text_by, cond, false, get_or-range_with_len, if_not_too_large, is_too_large, length, length-range_with_len, list_any}
+use Rattle.dv_shown.proofs.Vocabulary.{Bool, Err, List, Ok, Option, PathDef, PathLimitsHold, PathQuery, Some, TooLarge, [], ap, bridge_text_by, cond, false, get_or-range_with_len, if_not_too_large, is_too_large, length, length-range_with_len, list_any}
 use Rattle.dv_shown.proofs.Vocabulary.{list_any_at, nat_lt, path_text_by, range_with_len, refl, slice_get, subst, sym, true, ℕ, ◌+◌, ◌<◌, ◌∙◌, ◌∷◌, ◌≡◌, ◌≤◌}
 use Rattle.dv_shown.proofs.Limits.{not_above}
 use Rattle.dv_shown.specs.PathLimits.{row_count}
@@ -8,7 +8,7 @@ none_passes : {X : Type 0} (test : X → Bool) → ((x : X) → test x ≡ false
 none_passes test none [] = refl
 none_passes test none (x ∷ xs) = rw (none x) (none_passes test none xs)
 
-module _ (a : Asked) where
+module _ (a : PathQuery) where
   abbrev large : Bool
   large = is_too_large a.mapping a.sealed a.date a.path
 

@@ -7,7 +7,7 @@ pub use Rattle.dv_checks.proofs.Vocabulary.{is_link, is_link_feed, is_none, is_o
 pub use Rattle.dv_checks.proofs.Vocabulary.{most_parts, most_references, most_steps, nat_eq, nat_le, nat_lt, nat_tests, none_from, not, not-true, number_twice, option_map_or, option_or, or_none, parent_def, passes_at, path_def, position_or_len, range_with_len, reference_place, refl, slice_get}
 pub use Rattle.dv_checks.proofs.Vocabulary.{some_passes, some_passes_at, subst, sym, take, text_twice, true, ℕ, ◌&&◌, ◌++◌, ◌+◌, ◌<◌, ◌==◌, ◌||◌, ◌∙◌, ◌∷◌, ◌≡◌, ◌≤◌}
 pub use Rattle.dv_mapfile.proofs.Vocabulary.{document_of, mapping_document, mapping_valid}
-pub use Rattle.dv_mart.proofs.Vocabulary.{Err, Ok, Result, cond, if_not_too_large, if◌then◌else◌, is_too_large, mart_text, option_and_then, path_text_by, row_cmp, valid_path}
+pub use Rattle.dv_mart.proofs.Vocabulary.{Err, Ok, Result, cond, if_not_too_large, if◌then◌else◌, is_too_large, option_and_then, path_text_by, row_cmp, valid_path}
 pub use Rattle.dv_records.proofs.Vocabulary.{IsInLoadOrder, list_any-append}
 pub use Rattle.dv_store_rules.proofs.Vocabulary.{AllByRecursion, Extract, HasTables, Hashes, Mapping, State, append-nil, append_assoc, cases_lt, filter_map_member, find_none, flat_map_member, history, is_missing, le-leb, length-append, list_any_at, none_pass, option_map, option_to_list, or_parts}
 pub use Rattle.dv_store_rules.proofs.Vocabulary.{partial, row_count, rules, snapshots_weight, suc, sum_by-append, valid_feed, valid_hub, valid_link, vault, zero, ◌⊎◌}
@@ -19,12 +19,11 @@ pub use Rattle.dv_catalog.specs.declared.{outlines.ParentName.TheVariants.Hub, o
 pub use Rattle.dv_checks.proofs.{Apart.passes_at_place, Apart.place_under, Apart.same_place, Resolved.columns_fit, Resolved.hubs_of_parent, Resolved.is_step, Resolved.places_of_step}
 pub use Rattle.dv_mapfile.specs.Manifests.{manifest_in, manifest_or_text}
 pub use Rattle.dv_mart.specs.MartTexts.{bridge_text_by}
-pub use Rattle.dv_mart.specs.declared.whats.What.TheVariants.{Bridge, Path}
-pub use Rattle.dv_print.specs.declared.{query_rules.QueryRule.QueryRule, query_rules.QueryRule.TheVariants.TooLarge}
+pub use Rattle.dv_print.specs.declared.{query_rules.QueryRule.TheVariants.TooLarge}
 pub use Rattle.dv_records.specs.{Loads.loaded, MemoryKeepers.empty_store, Reconstruction.key_row, Steps.BothRead}
 pub use Rattle.dv_records.specs.declared.{answers.Outcome.TheVariants.Load, answers.Outcome.TheVariants.Refused, answers.Outcome.TheVariants.Repeated, answers.SnapAnswer.TheVariants.Future, keepers.KeeperError.TheVariants.Failed, keepers.KeeperError.TheVariants.Memory}
 pub use Rattle.dv_records.specs.declared.{stores.Rows.TheVariants.Hubs, stores.Rows.TheVariants.Statuses, stores.Store.Store}
-pub use Rattle.dv_shown.specs.{Answered.first_loaded, CatalogLaws.IsAtLeast, CatalogLaws.rule_at, Limited.weight_with, Mappings.bare, Mappings.with_customers_and_sites, Mappings.with_names, Mappings.with_sites_and_customers, PathLimits.Asked, PathLimits.PathLimitsHold, Stepped.bare_file}
+pub use Rattle.dv_shown.specs.{Answered.first_loaded, CatalogLaws.IsAtLeast, CatalogLaws.rule_at, Limited.weight_with, Mappings.bare, Mappings.with_customers_and_sites, Mappings.with_names, Mappings.with_sites_and_customers, PathLimits.PathLimitsHold, PathLimits.PathQuery, Stepped.bare_file}
 pub use Rattle.dv_shown.specs.{Stepped.feed_first, Stepped.mapped as holding, Stepped.hub_first, Stepped.mapped, Stepped.next_staged, Stepped.no_mapping_file, Stepped.other_file, Stepped.renamed, Stepped.status_first, Stepped.two_present, Stepped.two_staged, Windows.keys_come_and_go}
 pub use Rattle.dv_shown.specs.{Windows.next_keys, Windows.two_keys, Windows.two_keys_window, Words.bare_row, Words.day, Words.key, Words.plain}
 pub use Rattle.dv_text.specs.declared.{rows.Key.Key, rows.NRow.NRow, rows.Window.Window}

@@ -15,7 +15,7 @@ use Rattle.dv_records.specs.Changes.{Changes, KeeperCause}
 use Rattle.dv_records.specs.MemoryKeepers.{empty_store}
 use Rattle.dv_records.specs.Stores.{IsStagedAt, appended_to, are_apart, are_snap_tables_apart, are_snapshots_in_order, have_kinds, is_new_snapshot, is_of_kind, is_well_formed, page}
 use Rattle.dv_records.specs.Stores.{row_count, rows_in, rows_then, snap_id_eq, snapshot_rows, table_eq, with_mapping, with_rows, with_seal, with_snapshot, with_stage}
-use Rattle.dv_records.specs.Turns.{after_read, new_plan, next_turn, read_fails, takes_effect, turn_of}
+use Rattle.dv_records.specs.PlannedFailures.{after_read, new_plan, next_turn, read_fails, takes_effect, turn_of}
 use Rattle.dv_shown.specs.Answered.{first_loaded}
 use Rattle.dv_shown.specs.Words.{day, in_effect, in_hub, in_link, in_multi, in_sat, in_status}
 

@@ -13,7 +13,7 @@ use Rattle.dv_print.specs.declared.query_rules.QueryRule.TheVariants.{TooLarge}
 use Rattle.dv_mart.specs.declared.whats.What.TheVariants.{Bridge, Path}
 
 -- a path of a mapping, what it is asked of, and at which date
-pub record Asked : Type 0 where
+pub record PathQuery : Type 0 where
   pub mapping : Mapping
   pub hashes : Hashes
   pub sealed : List Window
@@ -24,23 +24,23 @@ pub record Asked : Type 0 where
   pub path_is : slice_get mapping.paths place ≡ Some path
 
 -- the number of rows of the path's first n feeds
-abbrev pub row_count : Asked → ℕ → ℕ
+abbrev pub row_count : PathQuery → ℕ → ℕ
 row_count a n = length (prefix_rows a.mapping (contents a.sealed a.date) a.path n)
 
 pub record PathLimitsHold : Type 0 where
   -- a million rows are not too many
   pub mart_kept :
-      (a : Asked) → ((n : ℕ) → row_count a n ≤ 1000000)
+      (a : PathQuery) → ((n : ℕ) → row_count a n ≤ 1000000)
       → mart_text a.mapping a.hashes a.sealed a.tables (Path a.place) a.date
       ≡ Ok (path_text a.mapping a.path.feeds (path_mart a.mapping a.sealed a.place a.date))
   pub bridge_kept :
-      (a : Asked) → ((n : ℕ) → row_count a n ≤ 1000000)
+      (a : PathQuery) → ((n : ℕ) → row_count a n ≤ 1000000)
       → mart_text a.mapping a.hashes a.sealed a.tables (Bridge a.place) a.date
       ≡ Ok (bridge_text a.mapping a.path.feeds a.date (bridge a.mapping a.hashes a.sealed a.place a.date))
   -- one row more of some first feeds is one too many
   pub mart_passed :
-      (a : Asked) (i : ℕ) → i < length a.path.feeds → row_count a (1 + i) ≡ 1000001
+      (a : PathQuery) (i : ℕ) → i < length a.path.feeds → row_count a (1 + i) ≡ 1000001
       → mart_text a.mapping a.hashes a.sealed a.tables (Path a.place) a.date ≡ Err (TooLarge a.path.name)
   pub bridge_passed :
-      (a : Asked) (i : ℕ) → i < length a.path.feeds → row_count a (1 + i) ≡ 1000001
+      (a : PathQuery) (i : ℕ) → i < length a.path.feeds → row_count a (1 + i) ≡ 1000001
       → mart_text a.mapping a.hashes a.sealed a.tables (Bridge a.place) a.date ≡ Err (TooLarge a.path.name)

@@ -1,5 +1,5 @@
 // The names of a header, and the rules that it may break.
-ghost use Rattle.std.specs.Prelude.{◌≡◌, [], IfOk, find, flat_map, not, option_copied};
+ghost use Rattle.std.specs.Prelude.{◌≡◌, IfOk, find, flat_map, not, option_copied};
 ghost use Rattle.std.specs.List.{list_any};
 ghost use Rattle.csv.specs.Records.{fields_of};
 ghost use Rattle.dv_catalog.specs.Headers as spec;

@@ -1,7 +1,6 @@
 // Driving keys beside the references that they stand in, in order, so that those with several partners are
 // neighbours.
-ghost use Rattle.std.specs.Prelude.{◌≡◌, ◌<◌, [], IfOk, Some, length, map, option_copied, option_map, slice_get};
-ghost use Rattle.dv_text.specs.Sorting.{sorted_by};
+ghost use Rattle.std.specs.Prelude.{◌≡◌, ◌<◌, IfOk, Some, map, option_copied, slice_get};
 ghost use Rattle.dv_catalog.specs.Records as records;
 ghost use Rattle.dv_catalog.specs.Readings as readings;
 ghost use Rattle.dv_stage.specs.Partners as spec;

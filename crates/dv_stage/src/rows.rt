@@ -1,7 +1,7 @@
 // The row of a record.
 ghost use Rattle.std.specs.Prelude.{◌≡◌, IfOk, map, option_copied, slice_get};
 ghost use Rattle.csv.specs.Records.{fields_of};
-ghost use Rattle.dv_text.specs.Normal.{norm_field, norm_key};
+ghost use Rattle.dv_text.specs.Normal.{norm_field};
 ghost use Rattle.dv_stage.specs.Layouts as spec;
 
 use crate::fields::field_at;

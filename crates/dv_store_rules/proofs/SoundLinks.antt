@@ -1,8 +1,7 @@
 -- The rows of a link's table after valid windows break no rule of form.
-use Rattle.dv_store_rules.proofs.Vocabulary.{Bool, Contains, Contains-cons_here, Contains-cons_there, Delivery, Hub, Key, Known, Link, LinkRow, LinkTable, Links, List, None, Option, Parent, Some, Window, [], all_missing, all_pass, and_from, and_parts, ap, are_references, as_many}
-use Rattle.dv_store_rules.proofs.Vocabulary.{bytes_eq, bytes_eq-Decides, each_hash, eq-eqb, false, false≢true, fit_hubs, fits_hub, flat_map, if_not, is_digest, is_in_hub, is_known, is_light, is_link_row, is_missing, is_offered, is_reference, key_at_first, key_at_later, keys_at, known_hashed}
-use Rattle.dv_store_rules.proofs.Vocabulary.{length, length-map, link_batch, link_place, link_row, link_rule, list_all, map_member, missing_refs, not, offered_refs, or_left, or_right, parent_hubs, refl, reverse, some_passes_at, source, subst, sym, true}
-use Rattle.dv_store_rules.proofs.Vocabulary.{zero_key, zip, ℕ, ◌++◌, ◌+◌, ◌∙◌, ◌∷◌, ◌≡◌}
+use Rattle.dv_store_rules.proofs.Vocabulary.{Bool, Contains, Contains-cons_here, Contains-cons_there, Delivery, Hub, Key, Known, Link, LinkRow, LinkTable, Links, List, None, Option, Parent, Some, Window, [], all_missing, all_pass, and_from, and_parts, ap, are_references, as_many, bytes_eq}
+use Rattle.dv_store_rules.proofs.Vocabulary.{bytes_eq-Decides, each_hash, eq-eqb, false, false≢true, fit_hubs, fits_hub, flat_map, if_not, is_digest, is_in_hub, is_known, is_light, is_link_row, is_missing, is_offered, is_reference, key_at_first, key_at_later, keys_at, known_hashed, length}
+use Rattle.dv_store_rules.proofs.Vocabulary.{length-map, link_batch, link_place, link_row, link_rule, list_all, map_member, missing_refs, not, offered_refs, or_left, or_right, parent_hubs, refl, reverse, some_passes_at, source, subst, sym, true, zero_key, zip, ℕ, ◌++◌, ◌+◌, ◌∙◌, ◌∷◌, ◌≡◌}
 use Rattle.dv_store_rules.proofs.{Around.Around, Around.HaveHubs, Around.IsFlawless, Around.is_wide, BatchRows.IsOfBatch, BatchRows.event_in, Brought.hub_of_link, Brought.key_brought, Brought.offered_from, KeyRows.IsMade, KeyRows.KeyFacts, KeyRows.key_facts, SoundRows.sound_rows}
 use Rattle.dv_store_rules.proofs.{Widths.AreOfWidth}
 

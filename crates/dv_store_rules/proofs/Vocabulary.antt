@@ -5,7 +5,7 @@ pub use Rattle.dv_hub_link.proofs.Vocabulary.{key_at_first, length-map, length-r
 pub use Rattle.dv_hub_link.proofs.{Hashables.all_missing}
 pub use Rattle.dv_index.proofs.Vocabulary.{IsSorted, cases_eq, cases_lt, drop_more, get_or-take, get_or_default, last_of, length-drop, length-take, length-take-le, min, not_from_false, ranks_by, slice_get-get_or, slice_get_within, sorted_far, take-append-drop, take-take, take_all, then_total}
 pub use Rattle.dv_records.proofs.Vocabulary.{All-weaker, AllByRecursion, Bool, Contains, Contains-append_cases, Contains-append_left, Contains-append_right, Contains-cons_cases, Contains-cons_here, Contains-cons_there, Contains-flat_map, Contains-map, Contains-nil, Contains-range, Extract}
-pub use Rattle.dv_records.proofs.Vocabulary.{Hashes, IsApart, IsTotalOrder, List, Mapping, None, Option, Place, Some, Span, Stands, State, TablesStand, [], all_pass, all_pass_replicate, all_pass_weaker, all_refs, all_windows, and_from, and_parts, ap, append-nil, appended, are_apart}
+pub use Rattle.dv_records.proofs.Vocabulary.{Hashes, IsApart, IsTotalOrder, List, Mapping, None, Option, Place, Some, Span, Stands, State, TablesStand, [], all_pass, all_pass_weaker, all_refs, all_windows, and_from, and_parts, ap, append-nil, appended, are_apart}
 pub use Rattle.dv_records.proofs.Vocabulary.{are_dates_valid, are_in_load_order, are_not_later, are_snapshots_in_order, are_windows_valid, arith, ascending-sorted_by, ascends, backwards, batch_of, bytes_eq, bytes_eq-Decides, code_between, code_of, collision, collision_in, cond, deliveries}
 pub use Rattle.dv_records.proofs.Vocabulary.{delivers, digest_cmp, drop, each_hash, effect_batch, effect_cmp, effect_row, eq-eqb, eqb-true, equal_first, extract_of, false, false≢true, feed_hubs, feed_tables, filter_map, filter_map_member, filtered_members, find, find-append, find_same, fit_hubs}
 pub use Rattle.dv_records.proofs.Vocabulary.{fits_hub, flat_map, flat_map_member, found_member, get_or, get_or_from_slice_get, got_member, has_kind, hashed_refs, have_kinds, history, hub_batch, hub_row, hub_rows, hub_rows_in, inl, inr, irreflexive, is_appearance, is_changed, is_declared}

@@ -1,5 +1,5 @@
 // The rules of form of the rows of effectivity tables.
-ghost use Rattle.std.specs.Prelude.{◌≡◌, ◌+◌, ◌&&◌, ◌||◌, ◌==◌, nat_lt, IfErr, IfOk, None};
+ghost use Rattle.std.specs.Prelude.{◌≡◌, ◌+◌, ◌&&◌, ◌==◌, IfErr, IfOk, None};
 ghost use Rattle.dv_text.specs.Keys.{hashes_of};
 ghost use Rattle.dv_catalog.specs.declared.tables.TableId.TheVariants as tables;
 ghost use Rattle.dv_records.specs.Effects.{effect_cmp};

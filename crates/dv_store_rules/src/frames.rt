@@ -1,5 +1,5 @@
 // What the rules of every kind of rows look up: load dates and record sources.
-ghost use Rattle.std.specs.Prelude.{◌≡◌, ℕ, IfOk, Some, map, nat_eq};
+ghost use Rattle.std.specs.Prelude.{◌≡◌, ℕ, IfOk, Some, map};
 ghost use Rattle.std.specs.List.{list_any};
 ghost use Rattle.std.specs.Str.{bytes_eq};
 ghost use Rattle.dv_catalog.specs.Feeds.{source_by};

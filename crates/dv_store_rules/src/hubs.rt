@@ -1,5 +1,5 @@
 // The rules of form of the rows of hubs.
-ghost use Rattle.std.specs.Prelude.{◌≡◌, ◌+◌, ◌≤◌, ◌&&◌, ℕ, IfErr, IfOk, IsTrue, None, Some, is_none, map, slice_get};
+ghost use Rattle.std.specs.Prelude.{◌≡◌, ◌+◌, ◌≤◌, ◌&&◌, ℕ, IfErr, IfOk, None, Some, map, slice_get};
 ghost use Rattle.dv_text.specs.Keys.{hashes_of};
 ghost use Rattle.dv_catalog.specs.declared.tables.TableId.TheVariants as tables;
 ghost use Rattle.dv_catalog.specs.Feeds.{parts_of, source_by};

@@ -1,5 +1,5 @@
 // A walk over the rows of a table, up to the first that breaks a rule by itself or weighs too much.
-ghost use Rattle.std.specs.Prelude.{◌≡◌, ◌⊎◌, ◌<◌, ◌+◌, ℕ, Bool, IsTrue, Option, None, Some, if◌then◌else◌, length, nat_le, slice_get, take, true};
+ghost use Rattle.std.specs.Prelude.{◌≡◌, ◌⊎◌, ◌<◌, ◌+◌, ℕ, Bool, IsTrue, Option, None, Some, if◌then◌else◌, nat_le, true};
 ghost use Rattle.std.specs.declared.cmp.Ordering.{Ordering};
 ghost use Rattle.dv_text.specs.Keys.{Hashes, hashes_of};
 ghost use Rattle.dv_records.specs.Limits.{most_weight};

@@ -1,5 +1,5 @@
 // Values in order by a number first, which is a prefix of the value, and by the whole value where these tie.
-ghost use Rattle.std.specs.Prelude.{◌≡◌, ◌↔◌, ◌∷◌, Contains, IfOk, IsTrue, map};
+ghost use Rattle.std.specs.Prelude.{◌≡◌, ◌↔◌, Contains, IfOk, IsTrue, map};
 ghost use Rattle.std.specs.List.Sorted.{IsStrictlySortedBy};
 ghost use Rattle.dv_text.specs.Prefixes as spec;
 ghost use Rattle.dv_text.specs.Sorting.{sorted_by};

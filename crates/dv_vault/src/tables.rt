@@ -1,5 +1,5 @@
 // A raw table of the vault, of any kind, and what a window adds to it.
-ghost use Rattle.std.specs.Prelude.{◌≡◌, All, ◌≤◌, ◌<◌, ◌==◌, [], false, find, IfNone, IfOk, IfSome, IsTrue, OnOk, length, option_map};
+ghost use Rattle.std.specs.Prelude.{◌≡◌, ◌≤◌, ◌<◌, ◌==◌, [], false, find, IfNone, IfOk, IfSome, IsTrue, OnOk, length, option_map};
 ghost use Rattle.std.specs.List.{list_all};
 ghost use Rattle.std.specs.List.Sorted.{IsStrictlySortedBy};
 ghost use Rattle.dv_text.specs.Keys.{hashes_of};

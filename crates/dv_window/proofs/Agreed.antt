@@ -1,6 +1,6 @@
 -- A keeper's store agrees with an office again after a window, or with what is left of it.
-use Rattle.dv_window.proofs.Vocabulary.{Agrees, AgreesUnlessStale, Became, Begun, Bool, Err, Failed, Fits, HasKept, HasLeft, HasRows, Hashes, Held, IfSome, IsMappedBy, IsPlan, KeeperError, List, MayBeLeft, Memory, None, Ok, Option, RawVault, Result, Snap, Some, StaleAfter, Store, TakesWindow}
-use Rattle.dv_window.proofs.Vocabulary.{Told, TookOrBroke, Window, WindowHead, WindowIn, [], ap, false, fits_left, head_of, held_broken, held_with, load_answer, map, none_opened, option_map, refl, staged, subst, sym, tables_there, tables_whole, true, ℕ, ◌++◌, ◌∙◌, ◌∷◌, ◌≡◌}
+use Rattle.dv_window.proofs.Vocabulary.{Agrees, AgreesUnlessStale, Became, Begun, Bool, Err, Failed, Fits, HasKept, HasLeft, HasRows, Hashes, Held, IfSome, IsMappedBy, IsPlan, KeeperError, List, MayBeLeft, Memory, None, Ok, Option, RawVault, Result, Snap, Some, Store, TakesWindow}
+use Rattle.dv_window.proofs.Vocabulary.{Told, TookOrBroke, Window, WindowHead, WindowIn, [], ap, false, fits_left, head_of, held_broken, held_with, map, none_opened, option_map, refl, staged, subst, sym, tables_there, tables_whole, true, ℕ, ◌++◌, ◌∙◌, ◌∷◌, ◌≡◌}
 
 agrees_taken : (held : Held) (begun : Begun) (before after : Option Store) → Told before (Agrees held) → TakesWindow begun.window (tables_whole held.vault.tables begun.parts.items) before after → Told after (Agrees (held_with begun held))
 agrees_taken held begun before after told takes now e =
@@ -50,17 +50,6 @@ agrees_then held is_open begun held' before after told none (Err Failed) broke =
     by e = cc
 agrees_then held is_open begun held' before after told none (Err Memory) broke =
     λ fresh. subst (λ (held : Held). Told after (Agrees held)) (sym broke.held_is) (agrees_left held broke.left before after told (λ e. none (closed_none is_open begun broke.left broke.broke.left e)) (broke.broke.exact refl))
-
--- ---- what else a taking leaves
-
-module _ (held : Held) (fresh : held.stale ≡ false) (is_open : Bool) (begun : Begun) (held' : Held) (before after : Option Store) where
-  pub stale_then : (result : Result ℕ KeeperError) → TookOrBroke is_open begun held held' before after result → StaleAfter (load_answer result) held.stale held'.stale
-  stale_then (Ok rows) (rows_are, is, took) = ap (λ (held : Held). held.stale) is ∙ fresh
-  stale_then (Err Failed) broke = ap (λ (held : Held). held.stale) broke.held_is
-  stale_then (Err Memory) broke = λ e. absurd (by (sym (ap (λ (held : Held). held.stale) broke.held_is) ∙ e))
-    where
-      by : false ≡ true → ⊥
-      by e = cc
 
 -- ---- no window is open
 

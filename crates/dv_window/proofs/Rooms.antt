@@ -1,7 +1,6 @@
 -- What is read of an extract with much room is read of it with less room, where that has place for its records.
 use Rattle.dv_window.proofs.Vocabulary.{Bool, ExtractIn, FeedDef, List, Mapping, NRow, None, Option, PlacedExtract, Rule, Some, Taken, TooManyRows, [], ap, arith, empty_key, extract_at, extract_records, false, field_long, first_of, header_names, header_rule, if◌then◌else◌, length, map, nat_lt}
-use Rattle.dv_window.proofs.Vocabulary.{nat_tests, not_utf8, option_map, option_or, or_none, ragged, read_at, read_by, reads, record_rule, records_read, records_rule, refl, room_after, row_of, rule_or_rows, same_Some, slice_get, taken_count, two_drivers, two_rows, ℕ, ◌++◌, ◌+◌, ◌∙◌, ◌∷◌, ◌≡◌}
-use Rattle.dv_window.proofs.Vocabulary.{◌≤◌}
+use Rattle.dv_window.proofs.Vocabulary.{nat_tests, not_utf8, option_map, option_or, or_none, ragged, read_at, read_by, reads, record_rule, records_read, records_rule, refl, room_after, row_of, rule_or_rows, same_Some, slice_get, taken_count, two_drivers, two_rows, ℕ, ◌++◌, ◌+◌, ◌∙◌, ◌∷◌, ◌≡◌, ◌≤◌}
 
 -- no answer stays, where the first of two tests has none and the second becomes another that has none either
 none_still : (a b c : Option Rule) → option_or a b ≡ None → (b ≡ None → c ≡ None) → option_or a c ≡ None

@@ -1,5 +1,5 @@
 -- The text of a stored table of a snapshot, where the store stands for a state that the office is in.
-use Rattle.dv_window.proofs.Vocabulary.{Asked, Bridge, Damage, HasTable, Hashes, Held, IsIn, IsStoredDamage, IsStoredText, Key, List, Mapping, None, Pit, SnapHead, SnapId, Some, State, Store, ap, asked_of, false, flawed_row, heads_of_state, length, read_rows, refl, rows_text, subst, sym}
+use Rattle.dv_window.proofs.Vocabulary.{Bridge, Damage, HasTable, Hashes, Held, IsIn, IsStoredDamage, IsStoredText, Key, List, Mapping, None, Pit, SnapHead, SnapId, SnapshotQuery, Some, State, Store, ap, asked_of, false, flawed_row, heads_of_state, length, read_rows, refl, rows_text, subst, sym}
 use Rattle.dv_window.proofs.Vocabulary.{table_text, ℕ, ◌∙◌, ◌≡◌}
 use Rattle.dv_window.specs.StoredRows.{head_at}
 use Rattle.dv_window.proofs.{SoundTables.unflawed_rows, StandingRows.head_dated, StandingRows.rows_stand, StandingRows.table_rows}
@@ -10,7 +10,7 @@ shown mapping hashes state date (Pit hub) = refl
 shown mapping hashes state date (Bridge path) = refl
 
 -- what holds of what is asked for by one mapping and width holds of the same by the same
-pub asked_alike : (P : Mapping → ℕ → Asked → Type 0) (m m' : Mapping) (w w' : ℕ) (a a' : Asked) → m ≡ m' → w ≡ w' → a ≡ a' → P m w a → P m' w' a'
+pub asked_alike : (P : Mapping → ℕ → SnapshotQuery → Type 0) (m m' : Mapping) (w w' : ℕ) (a a' : SnapshotQuery) → m ≡ m' → w ≡ w' → a ≡ a' → P m w a → P m' w' a'
 asked_alike P m m' w w' a a' mapping width asked holds = subst (λ a. P m' w' a) asked (subst (λ w. P m' w a) width (subst (λ m. P m w a) mapping holds))
 
 module _ (hashes : Hashes) (state : State) (held : Held) (store : Store) (is : IsIn hashes state held (Some store)) (fresh : held.stale ≡ false) (id : SnapId) (date : ℕ) (has : HasTable held.vault.mapping id) where

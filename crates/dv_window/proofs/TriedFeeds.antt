@@ -1,13 +1,7 @@
 -- Feeds whose extracts were tried, the first one and those behind it.
-use Rattle.dv_window.proofs.Vocabulary.{AreResults, AreTried, ExtractIn, IsTried, List, Mapping, Option, Staged2, arith, length, refl, subst, suc, ℕ, ◌+◌, ◌<◌, ◌∷◌}
+use Rattle.dv_window.proofs.Vocabulary.{AreTried, ExtractIn, IsTried, List, Mapping, Option, Staged2, arith, length, refl, subst, suc, ℕ, ◌+◌, ◌<◌, ◌∷◌}
 
 module _ (mapping : Mapping) (extracts : List ExtractIn) where
-  pub all_tried : (all : List (Option Staged2)) → AreResults (IsTried mapping extracts) (length mapping.feeds) all → AreTried mapping extracts 0 all
-  all_tried all results = let many = results.as_many in record {
-    as_many = omega (arith, many);
-    each = λ later tried e. subst (λ place. IsTried mapping extracts place tried) (omega arith) (results.each later tried e);
-  }
-
   module _ (feed : ℕ) (tried : Option Staged2) (rest : List (Option Staged2)) (all : AreTried mapping extracts feed (tried ∷ rest)) where
     pub tried_within : feed < length mapping.feeds
     tried_within = let many = all.as_many in omega (arith, many)

@@ -9,7 +9,7 @@ pub use Rattle.dv_records.proofs.Vocabulary.{snap_cmp, snap_head, snap_id_eq, sn
 pub use Rattle.dv_restore.proofs.Vocabulary.{BreaksRule, IsInForm, IsNotRead, IsOfState, IsOpenBehind, IsReadAs, are_in_order, heads_of_state, read_mapping, rows_there, table_name}
 pub use Rattle.dv_stage.proofs.Vocabulary.{Ok, empty_key, field_long, not_utf8, ragged, two_rows, unplaced}
 pub use Rattle.dv_store_rules.proofs.Vocabulary.{heads_weight, page, unwrap_or, whole}
-pub use Rattle.dv_vault.proofs.Vocabulary.{AreApart, ArePartsOf, AreResults, Became, Bool, Bor, BrokeOff, Changes, Contains-append_right, Contains-cons_cases, Contains-cons_here, Contains-cons_there, Contains-nil, Err, Fits, HasLeft, HasRows, HasSealed, HasTables, Hashes, IfOk-weaker, IfSome}
+pub use Rattle.dv_vault.proofs.Vocabulary.{AreApart, ArePartsOf, Became, Bool, Bor, BrokeOff, Changes, Contains-append_right, Contains-cons_cases, Contains-cons_here, Contains-cons_there, Contains-nil, Err, Fits, HasLeft, HasRows, HasSealed, HasTables, Hashes, IfOk-weaker, IfSome}
 pub use Rattle.dv_vault.proofs.Vocabulary.{IsAddition, IsBegunBehind, IsLeftOf, IsOpen, IsSync, IsVaultOf, KeepsOthers, List, Mapping, MayBeLeft, None, Option, RawVault, Result, Some, TakesWindow, Told, TookWindow, [], all_pass, all_refs, and_from, and_parts, ap, append-nil, append_assoc}
 pub use Rattle.dv_vault.proofs.Vocabulary.{are_heads_of, are_windows_valid, arith, ascends, backwards, changed, collision, cond, crosses, entries_with, enumerate_from, eq-eqb, eqb-true, err_from_is_err_and, false, feed_hubs, filtered_members, flat_map, flat_map_member, found_member, full_at}
 pub use Rattle.dv_vault.proofs.Vocabulary.{has_table, hashes_of, head_of, hubs_by, if◌then◌else◌, inl, inr, is_fed_by, is_missing, is_of_kind, is_valid, is_window, last_head, last_load, last_or, late_after, length, length-append, length-map, link_hubs, list_all, list_any, list_any-map, loaded}
@@ -44,8 +44,8 @@ pub use Rattle.dv_window.specs.{Plans.held_broken, Plans.held_with, Plans.late_b
 pub use Rattle.dv_window.specs.{SnapshotRefusals.early_refusal, SnapshotRefusals.late_refusal, SnapshotRefusals.taken_among, SnapshotTables.bridge_ids, SnapshotTables.bridge_table, SnapshotTables.first_large, SnapshotTables.ids_of, SnapshotTables.pit_ids, SnapshotTables.pit_table}
 pub use Rattle.dv_window.specs.{Snapshots.IsSnapshotIn, Snapshots.KeepsTo, Snapshots.MayKeep, Snapshots.head_cmp, Stagings.AreTried, Stagings.IsTried, Stopping.answer_of, Stopping.is_failed, Stopping.load_answer, Stopping.resume_answer, Stopping.unrefreshed, Stopping.unresumed}
 pub use Rattle.dv_window.specs.{StoredRows.asked_of, StoredRows.first_flaw, StoredRows.first_place, StoredRows.flaw_in, StoredRows.flaw_place, StoredRows.has_width, StoredRows.own_rows, StoredRows.read_rows, StoredRows.stored_rows, StoredTexts.HasTable, StoredTexts.IsDamageOf}
-pub use Rattle.dv_window.specs.{StoredTexts.IsRowOf, StoredTexts.IsStoredDamage, StoredTexts.IsStoredText, StoredTexts.IsTextOf, StoredTexts.flawed_row, StoredTexts.rows_text, StoredTexts.table_text, Takings.BrokeAt, Takings.CompletesAs, Takings.TookOrBroke}
-pub use Rattle.dv_window.specs.declared.{asked.Asked.Asked, pages.Read.Read, pages.Read.TheVariants.Rows as AllRows, pages.Read.TheVariants.Flawed, stops.Stop.Stop, stored.StoredFault.StoredFault}
+pub use Rattle.dv_window.specs.{StoredTexts.IsRowOf, StoredTexts.IsStoredDamage, StoredTexts.IsStoredText, StoredTexts.IsTextOf, StoredTexts.flawed_row, StoredTexts.rows_text, StoredTexts.table_text, TakenWindows.BrokeAt, TakenWindows.CompletesAs, TakenWindows.TookOrBroke}
+pub use Rattle.dv_window.specs.declared.{snapshot_queries.SnapshotQuery.SnapshotQuery, pages.Read.Read, pages.Read.TheVariants.Rows as AllRows, pages.Read.TheVariants.Flawed, stops.Stop.Stop, stored.StoredFault.StoredFault}
 pub use Rattle.dv_window_rules.proofs.{FeedSteps.fault_told, FeedSteps.feed_absent, FeedSteps.feed_read, FeedSteps.rows_from, FeedSteps.rows_taken, FeedSteps.rule_from, ReadWindows.window_of-is_window}
 pub use Rattle.std.proofs.lemmas.List.Sums.{length-filter}
 pub use Rattle.std.specs.{List.Contains, Prelude.Decides, Prelude.IsErrOf, Prelude.count_by}

@@ -12,4 +12,4 @@ pub mod Stopping
 pub mod StoredFaults
 pub mod StoredRows
 pub mod StoredTexts
-pub mod Takings
+pub mod TakenWindows

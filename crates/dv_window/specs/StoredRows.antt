@@ -8,7 +8,7 @@ use Rattle.dv_records.specs.declared.snapshots.SnapHead.{SnapHead}
 use Rattle.dv_records.specs.declared.snapshots.SnapId.{SnapId}
 use Rattle.dv_records.specs.declared.stores.Rows.{Rows}
 use Rattle.dv_records.specs.Stores.{page, row_count, snapshot_rows}
-use Rattle.dv_window.specs.declared.asked.Asked.{Asked}
+use Rattle.dv_window.specs.declared.snapshot_queries.SnapshotQuery.{SnapshotQuery}
 
 -- ---- what is asked for
 
@@ -17,17 +17,17 @@ abbrev pub head_at : ℕ → List SnapHead → Option SnapHead
 head_at date heads = find (λ head. head.date == date) heads
 
 -- what is asked for of a table in a stored snapshot: as many rows as its head says
-abbrev pub asked_of : SnapId → SnapHead → Asked
+abbrev pub asked_of : SnapId → SnapHead → SnapshotQuery
 asked_of id head = record { date = head.date; id = id; most = head.rows }
 
 -- ---- the rows that are stored
 
 -- the rows that are stored of what is asked for
-abbrev pub stored_rows : Asked → List Snap → Rows
+abbrev pub stored_rows : SnapshotQuery → List Snap → Rows
 stored_rows asked snapshots = snapshot_rows asked.date asked.id snapshots
 
 -- those of them that are read: the first, as many as are asked for
-abbrev pub read_rows : Asked → List Snap → Rows
+abbrev pub read_rows : SnapshotQuery → List Snap → Rows
 read_rows asked snapshots = page 0 asked.most (stored_rows asked snapshots)
 
 -- ---- their form

@@ -15,7 +15,7 @@ use Rattle.dv_records.specs.declared.stores.Rows.{Rows}
 use Rattle.dv_records.specs.declared.stores.Store.{Store}
 use Rattle.dv_records.specs.Snapshots.{bridge, pit}
 use Rattle.dv_records.specs.States.{State}
-use Rattle.dv_window.specs.declared.asked.Asked.{Asked}
+use Rattle.dv_window.specs.declared.snapshot_queries.SnapshotQuery.{SnapshotQuery}
 use Rattle.dv_window.specs.RowForms.{bridge_form, bridges_in, is_sound_bridge, is_sound_pit, pit_form, pits_in}
 use Rattle.dv_window.specs.StoredRows.{asked_of, first_flaw, head_at, own_rows, read_rows}
 use Rattle.dv_print.specs.Texts.{bridge_text, pit_text}
@@ -60,12 +60,12 @@ pub record IsRowOf (mapping : Mapping) (id : SnapId) (damage : Damage) : Type 0 
   pub rule_is : damage.rule ≡ 4
 
 -- none of the rows that are asked for is flawed, and the text has them
-pub record IsTextOf (mapping : Mapping) (width : ℕ) (asked : Asked) (snapshots : List Snap) (text : List ℕ) : Type 0 where
+pub record IsTextOf (mapping : Mapping) (width : ℕ) (asked : SnapshotQuery) (snapshots : List Snap) (text : List ℕ) : Type 0 where
   pub sound : flawed_row mapping width asked.id (read_rows asked snapshots) ≡ None
   pub text_is : text ≡ rows_text mapping asked.id asked.date (read_rows asked snapshots)
 
 -- the damage names the first of the rows that are asked for that is flawed, and the rule F4
-pub record IsDamageOf (mapping : Mapping) (width : ℕ) (asked : Asked) (snapshots : List Snap) (damage : Damage) : Type 0 where
+pub record IsDamageOf (mapping : Mapping) (width : ℕ) (asked : SnapshotQuery) (snapshots : List Snap) (damage : Damage) : Type 0 where
   pub row_is : flawed_row mapping width asked.id (read_rows asked snapshots) ≡ Some damage.row
   pub table_is : damage.table ≡ snap_name mapping asked.id
   pub rule_is : damage.rule ≡ 4

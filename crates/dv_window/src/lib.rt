@@ -3,7 +3,6 @@
 //! at a date, or why nothing is, and the text of a stored point-in-time table or bridge.
 #![tactic(auto)]
 
-mod asked;
 mod bridge_forms;
 mod damages;
 mod loads;
@@ -17,6 +16,7 @@ mod resumes;
 mod row_forms;
 mod snapshot_heads;
 mod snapshot_plans;
+mod snapshot_queries;
 mod snapshot_refusals;
 mod snapshot_tables;
 mod snapshots;
@@ -26,7 +26,7 @@ mod stops;
 mod stored;
 mod stored_texts;
 mod taken_snapshots;
-mod takings;
+mod taken_windows;
 mod workers;
 
 pub use dv_crew::Order;

@@ -7,8 +7,8 @@ ghost use Rattle.dv_records.specs.Changes.{KeeperCause};
 ghost use Rattle.dv_window.specs.Pages.{AreFirst, CountsFlaw, IsGrown, TellsPage, TellsRows, joined};
 ghost use Rattle.dv_window.specs.StoredRows as spec;
 
-use crate::asked::Asked;
 use crate::row_forms::RowForm;
+use crate::snapshot_queries::SnapshotQuery;
 use dv_records::{Keeper, KeeperError, Rows};
 use dv_text::{List, Memory};
 use std::alloc::Global;
@@ -102,7 +102,7 @@ fn goes_on(taken: u64, most: u64, before: u64, after: u64) -> bool
 fn take_page<K: Keeper>(
     alloc: Global,
     keeper: &mut K,
-    asked: &Asked,
+    asked: &SnapshotQuery,
     rows: &mut Rows,
 ) -> Result<bool, KeeperError>
     requires { Told (K.store keeper.old) (λ s. AreFirst asked.now.most (spec.stored_rows asked.now s.snapshots) rows.old) }
@@ -129,7 +129,7 @@ fn take_page<K: Keeper>(
 pub(crate) fn read_rows<R: Drop, F: RowForm<R>, K: Keeper>(
     alloc: Global,
     keeper: &mut K,
-    asked: &Asked,
+    asked: &SnapshotQuery,
     form: &F,
 ) -> Result<Read<R>, KeeperError>
     ensures counted { IfOk result CountsFlaw }

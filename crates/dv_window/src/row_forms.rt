@@ -1,6 +1,6 @@
 // What the rows of a stored table have to be.
 ghost use Rattle.std.specs.List.{list_all};
-ghost use Rattle.std.specs.Prelude.{◌≡◌, ℕ, Bool, List as list_of, Option, Some, length};
+ghost use Rattle.std.specs.Prelude.{◌≡◌, Bool, List as list_of, Option, Some, length};
 ghost use Rattle.dv_records.specs.declared.stores.Rows.{Rows};
 ghost use Rattle.dv_records.specs.Stores.{row_count};
 ghost use Rattle.dv_window.specs.StoredRows.{has_width};

@@ -2,13 +2,12 @@
 ghost use Rattle.std.specs.List.{insert, position};
 ghost use Rattle.std.specs.Option.{unwrap_or};
 ghost use Rattle.std.specs.Prelude.{◌≡◌, ◌++◌, ◌+◌, IfOk, OnOk, false, length, nat_le};
-ghost use Rattle.dv_text.specs.Sorting.{insert_by};
 ghost use Rattle.dv_records.specs.Changes.{KeeperCause};
 ghost use Rattle.dv_window.specs.Offices.{AgreesUnlessStale};
-ghost use Rattle.dv_window.specs.Snapshots.{KeepsInStates, LeavesAll, MayKeep, StaleWhereFailed, head_cmp};
+ghost use Rattle.dv_window.specs.Snapshots.{KeepsInStates, LeavesAll, MayKeep, StaleWhereFailed};
 
 use crate::offices::Office;
-use crate::takings::is_failed;
+use crate::taken_windows::is_failed;
 use dv_records::{Keeper, KeeperError, SnapHead, SnapTable};
 use dv_text::{List, Memory, Stamp};
 use std::alloc::Global;

@@ -10,12 +10,12 @@ ghost use Rattle.dv_window.specs.StoredRows as rows;
 ghost use Rattle.dv_window.specs.StoredTexts as spec;
 ghost use Rattle.dv_window.specs.Offices.{IsIn, made_stale};
 
-use crate::asked::{Asked, asked_of, head_at};
 use crate::bridge_forms::bridge_form;
 use crate::damages::damaged;
 use crate::offices::Office;
 use crate::pages::{Read, read_rows};
 use crate::pit_forms::pit_form;
+use crate::snapshot_queries::{SnapshotQuery, asked_of, head_at};
 use crate::stored::StoredFault;
 use dv_catalog::Catalog;
 use dv_print::{bridge_text, pit_text};
@@ -30,7 +30,7 @@ fn asked_text<K: Keeper>(
     catalog: &Catalog,
     width: u8,
     keeper: &mut K,
-    asked: &Asked,
+    asked: &SnapshotQuery,
 ) -> Result<Text, StoredFault>
     requires { spec.HasTable catalog.now asked.now.id }
     ensures text { IfOk result (λ text. Told (K.store keeper.old) (λ s. spec.IsTextOf catalog.now width asked.now s.snapshots text)) }

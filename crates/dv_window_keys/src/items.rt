@@ -1,8 +1,6 @@
 // The items of a window's keys, which workers offer to the table that they share: which are the same, and where the
 // table looks for each.
 ghost use Rattle.std.specs.Prelude.{◌≡◌, ◌*◌, ◌<◌, ◌≤◌, ◌==◌, ◌&&◌, fold, length};
-ghost use Rattle.dv_text.specs.Keys.{refs_eq};
-ghost use Rattle.dv_catalog.specs.Feeds.{parent_eq};
 ghost use Rattle.dv_window_keys.specs.WindowItems as spec;
 
 use crate::offers::Offer;

@@ -1,5 +1,5 @@
 // The limits of an extract's bytes, and of those of a window.
-ghost use Rattle.std.specs.Prelude.{◌≡◌, IfOk, option_map, length};
+ghost use Rattle.std.specs.Prelude.{◌≡◌, IfOk, option_map};
 ghost use Rattle.dv_records.specs.Outcomes as spec;
 ghost use Rattle.dv_window_rules.specs.Lengths.{first_long};
 

@@ -1,9 +1,9 @@
 use Rattle.dv_restore.proofs.Vocabulary.{arith, effect_cmp, effect_order, effect_place, in_load_order}
-use Rattle.dv_restore.proofs.RowHalves.{front_sorted}
+use Rattle.dv_restore.proofs.PartedRows.{front_sorted}
 use Rattle.dv_restore.proofs.parts.effect_parts.Goals as goal
 
-pub halves-requires : goal.halves-requires
-halves-requires c = (omega arith, (rw c.into_rows.ensures.value (in_load_order effect_place effect_cmp c.args.table.rows c.into_rows.ensures.kept), rw c.into_rows.ensures.value c.requires))
+pub part_rows-requires : goal.part_rows-requires
+part_rows-requires c = (omega arith, (rw c.into_rows.ensures.value (in_load_order effect_place effect_cmp c.args.table.rows c.into_rows.ensures.kept), rw c.into_rows.ensures.value c.requires))
 
 pub from_rows-requires : goal.from_rows-requires
 from_rows-requires c =

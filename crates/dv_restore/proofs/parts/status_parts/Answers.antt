@@ -1,9 +1,9 @@
 use Rattle.dv_restore.proofs.Vocabulary.{arith, in_load_order, status_cmp, status_order, status_place}
-use Rattle.dv_restore.proofs.RowHalves.{front_sorted}
+use Rattle.dv_restore.proofs.PartedRows.{front_sorted}
 use Rattle.dv_restore.proofs.parts.status_parts.Goals as goal
 
-pub halves-requires : goal.halves-requires
-halves-requires c = (omega arith, (rw c.into_rows.ensures.value (in_load_order status_place status_cmp c.args.table.rows c.into_rows.ensures.kept), rw c.into_rows.ensures.value c.requires))
+pub part_rows-requires : goal.part_rows-requires
+part_rows-requires c = (omega arith, (rw c.into_rows.ensures.value (in_load_order status_place status_cmp c.args.table.rows c.into_rows.ensures.kept), rw c.into_rows.ensures.value c.requires))
 
 pub from_rows-requires : goal.from_rows-requires
 from_rows-requires c =

@@ -16,7 +16,7 @@ abbrev pub are_rows_up_to : {R : Type 0} → (R → Place) → ℕ → List R �
 are_rows_up_to place date rows = list_all (λ load. nat_le load date) (map (λ row. (place row).load) rows)
 
 -- rows in two: those of other load dates, and behind them those of one
-pub record AreHalves {R : Type 0} (place : R → Place) (load : ℕ) (rows sealed opened : List R) : Type 0 where
+pub record ArePartedRows {R : Type 0} (place : R → Place) (load : ℕ) (rows sealed opened : List R) : Type 0 where
   pub sealed_are : sealed ≡ filter (is_of_other place load) rows
   pub opened_are : opened ≡ filter (is_of_load place load) rows
   pub whole : rows ≡ sealed ++ opened

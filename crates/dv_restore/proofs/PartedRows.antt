@@ -1,5 +1,5 @@
 -- Rows whose load dates do not fall are those that are earlier than the last date, and behind them those of it.
-use Rattle.dv_restore.proofs.Vocabulary.{AllByRecursion, AreHalves, Bool, Contains, Contains-cons_here, Contains-cons_there, IsStrictlySortedBy, List, None, Ordering, Place, Some, [], and_from, and_parts, ap, append-nil, are_in_load_order, are_parents_apart, are_placed_rows, arith, bytes_eq}
+use Rattle.dv_restore.proofs.Vocabulary.{AllByRecursion, ArePartedRows, Bool, Contains, Contains-cons_here, Contains-cons_there, IsStrictlySortedBy, List, None, Ordering, Place, Some, [], and_from, and_parts, ap, append-nil, are_in_load_order, are_parents_apart, are_placed_rows, arith, bytes_eq}
 use Rattle.dv_restore.proofs.Vocabulary.{drop, eq-eqb, eqb-true, false, false≢true, filter, get_or, got_member, has_row_under, is_of_load, is_of_other, leb-true, length, length-append, list_all, list_all-map, list_any-append, map, nat_le, not, passes_at, refl, slice_get, slice_get-get_or, subst}
 use Rattle.dv_restore.proofs.Vocabulary.{sym, take, true, up_to_last, ℕ, ◌++◌, ◌-◌, ◌==◌, ◌||◌, ◌∙◌, ◌∷◌, ◌≡◌, ◌≤◌}
 
@@ -49,16 +49,16 @@ module _ {R : Type 0} (place : R → Place) (load : ℕ) where
   pub front_within : (rows : List R) → are_in_load_order place rows ≡ true → AreUpTo rows → length (front rows) ≤ length rows
   front_within rows order up = omega (arith, length-append (front rows) (filter (is_of_load place load) rows), ap length (whole rows order up))
 
-  pub are_halves : (rows sealed opened : List R) → are_in_load_order place rows ≡ true → AreUpTo rows
-      → sealed ≡ take (length (front rows)) rows → opened ≡ drop (length (front rows)) rows → AreHalves place load rows sealed opened
-  are_halves rows sealed opened order up is_front is_back =
+  pub are_parted : (rows sealed opened : List R) → are_in_load_order place rows ≡ true → AreUpTo rows
+      → sealed ≡ take (length (front rows)) rows → opened ≡ drop (length (front rows)) rows → ArePartedRows place load rows sealed opened
+  are_parted rows sealed opened order up is_front is_back =
       let all = whole rows order up in
       let sealed_are = is_front ∙ ap (take (length (front rows))) all ∙ take_exactly (front rows) (filter (is_of_load place load) rows) in
       let opened_are = is_back ∙ ap (drop (length (front rows))) all ∙ drop_exactly (front rows) (filter (is_of_load place load) rows) in
       record { sealed_are = sealed_are; opened_are = opened_are; whole = all ∙ sym (λ i. sealed_are i ++ opened_are i) }
 
   -- rows of other dates
-  pub none_opened : (rows : List R) → ((row : R) → Contains rows row → ((place row).load == load) ≡ false) → AreHalves place load rows rows []
+  pub none_opened : (rows : List R) → ((row : R) → Contains rows row → ((place row).load == load) ≡ false) → ArePartedRows place load rows rows []
   none_opened rows others = record { sealed_are = sym (both rows others).0; opened_are = sym (both rows others).1; whole = sym (append-nil rows) }
     where
       both : (rows : List R) → ((row : R) → Contains rows row → ((place row).load == load) ≡ false) → (filter (is_of_other place load) rows ≡ rows) × (filter (is_of_load place load) rows ≡ [])
@@ -69,7 +69,7 @@ module _ {R : Type 0} (place : R → Place) (load : ℕ) where
           (rw here (ap (λ l. row ∷ l) all), rw here none)
 
   -- where the last row has another date, no row has it
-  pub ends_before : (rows : List R) (last : R) → slice_get rows (length rows - 1) ≡ Some last → ((place last).load == load) ≡ false → are_in_load_order place rows ≡ true → AreUpTo rows → AreHalves place load rows rows []
+  pub ends_before : (rows : List R) (last : R) → slice_get rows (length rows - 1) ≡ Some last → ((place last).load == load) ≡ false → are_in_load_order place rows ≡ true → AreUpTo rows → ArePartedRows place load rows rows []
   ends_before rows last at differs order up = none_opened rows (λ row has. by ((place row).load == load) refl (up_to_last place rows last order at row has))
     where
       late : (place last).load ≡ load → ⊥
@@ -83,7 +83,7 @@ module _ {R : Type 0} (place : R → Place) (load : ℕ) where
           absurd (late (omega (arith, le, high, same)))
 
   -- where there is no last row there is none
-  pub ends_nowhere : (rows : List R) → slice_get rows (length rows - 1) ≡ None → AreHalves place load rows rows []
+  pub ends_nowhere : (rows : List R) → slice_get rows (length rows - 1) ≡ None → ArePartedRows place load rows rows []
   ends_nowhere [] at = record { sealed_are = refl; opened_are = refl; whole = refl }
   ends_nowhere (row ∷ rows) at =
       let there = slice_get-get_or (row ∷ rows) (length (row ∷ rows) - 1) row (omega arith) in
@@ -122,15 +122,15 @@ module _ {X : Type 0} where
       not_under false b e = refl
       not_under true b e = e
 
-  module _ (place : X → Place) (load : ℕ) (rows sealed opened : List X) (halves : AreHalves place load rows sealed opened) where
+  module _ (place : X → Place) (load : ℕ) (rows sealed opened : List X) (parted : ArePartedRows place load rows sealed opened) where
     pub front_placed : are_placed_rows place rows ≡ true → are_placed_rows place sealed ≡ true
     front_placed placed =
         let (apart, order) = and_parts (are_parents_apart place rows) (are_in_load_order place rows) placed in
-        and_from _ _ (front_apart place sealed opened (subst (λ l. are_parents_apart place l ≡ true) halves.whole apart))
-        (front_in_order place sealed opened (subst (λ l. are_in_load_order place l ≡ true) halves.whole order))
+        and_from _ _ (front_apart place sealed opened (subst (λ l. are_parents_apart place l ≡ true) parted.whole apart))
+        (front_in_order place sealed opened (subst (λ l. are_in_load_order place l ≡ true) parted.whole order))
 
     pub front_sorted : (cmp : X → X → Ordering) → IsStrictlySortedBy cmp rows → IsStrictlySortedBy cmp sealed
-    front_sorted cmp up = front_ascends cmp sealed opened (subst (IsStrictlySortedBy cmp) halves.whole up)
+    front_sorted cmp up = front_ascends cmp sealed opened (subst (IsStrictlySortedBy cmp) parted.whole up)
 
   -- rows up to a date, told by their load dates
   pub up_to_rows : (load_of : X → ℕ) (date : ℕ) (rows : List X) → list_all (λ load. nat_le load date) (map load_of rows) ≡ true → list_all (λ row. nat_le (load_of row) date) rows ≡ true

@@ -8,7 +8,7 @@ use dv_text::Stamp;
 /// What is asked for of a stored snapshot: rows of one of its tables, the first ones and at most so
 /// many.
 #[derive(Clone, Copy)]
-pub(crate) struct Asked {
+pub(crate) struct SnapshotQuery {
     pub(crate) date: Stamp,
     pub(crate) id: SnapId,
     pub(crate) most: u64,
@@ -22,10 +22,10 @@ pub(crate) fn head_at(heads: &[SnapHead], date: Stamp) -> Option<SnapHead>
 }
 
 /// What is asked for of a table in the snapshot with a head. Takes no memory.
-pub(crate) fn asked_of(id: SnapId, head: SnapHead) -> Asked
+pub(crate) fn asked_of(id: SnapId, head: SnapHead) -> SnapshotQuery
     ensures { result ≡ spec.asked_of id head }
 {
-    Asked {
+    SnapshotQuery {
         date: head.date,
         id,
         most: head.rows,

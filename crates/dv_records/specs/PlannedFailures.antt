@@ -3,9 +3,9 @@ use Rattle.std.specs.Prelude.{◌≡◌, ℕ, ◌+◌, ◌-◌, ◌^◌, ◌==�
 use Rattle.std.specs.List.{list_any}
 use Rattle.dv_records.specs.declared.keepers.KeeperError.{KeeperError}
 use Rattle.dv_records.specs.declared.keepers.KeeperError.TheVariants.{Failed, Memory}
-use Rattle.dv_records.specs.declared.turns.Fail.{Fail}
-use Rattle.dv_records.specs.declared.turns.Turn.{Turn}
-use Rattle.dv_records.specs.declared.turns.Turn.TheVariants.{Works, FailsBefore, FailsAfter}
+use Rattle.dv_records.specs.declared.planned_failures.Fail.{Fail}
+use Rattle.dv_records.specs.declared.planned_failures.Turn.{Turn}
+use Rattle.dv_records.specs.declared.planned_failures.Turn.TheVariants.{Works, FailsBefore, FailsAfter}
 
 -- the failures that are still planned, how many calls changed the store or were to, and how many calls failed
 pub record Plan : Type 0 where

@@ -1,6 +1,6 @@
 use Rattle.dv_restore.proofs.Vocabulary.{ap, sym, ◌==◌, ◌∙◌}
-use Rattle.dv_restore.proofs.RowHalves.{ends_before, ends_nowhere, up_to_rows}
-use Rattle.dv_restore.proofs.halves.ends_at.Goals as goal
+use Rattle.dv_restore.proofs.PartedRows.{ends_before, ends_nowhere, up_to_rows}
+use Rattle.dv_restore.proofs.parted_rows.ends_at.Goals as goal
 
 pub returns-in-Some : goal.returns-in-Some
 returns-in-Some g c = λ no.

@@ -1,6 +1,6 @@
 use Rattle.dv_restore.proofs.Vocabulary.{ap, arith, drop, filter, is_of_other, length, take, ◌∙◌, ◌≡◌}
-use Rattle.dv_restore.proofs.RowHalves.{are_halves, front_within, up_to_rows}
-use Rattle.dv_restore.proofs.halves.halves.Goals as goal
+use Rattle.dv_restore.proofs.PartedRows.{are_parted, front_within, up_to_rows}
+use Rattle.dv_restore.proofs.parted_rows.part_rows.Goals as goal
 
 pub split_off-requires : goal.split_off-requires
 split_off-requires g c =
@@ -18,4 +18,4 @@ returns g c =
     let front : c.from_vec.result ≡ take (length (filter (is_of_other g.R.Placed.place c.args.load) c.args.rows)) c.args.rows = rw c.from_vec.ensures taken in
     let back : c.from_vec-2.result ≡ drop (length (filter (is_of_other g.R.Placed.place c.args.load) c.args.rows)) c.args.rows =
     c.from_vec-2.ensures ∙ (c.in_ok-opened.ensures {u = tt}).tail ∙ (λ i. drop (count i) (all i)) in
-    are_halves g.R.Placed.place c.args.load c.args.rows _ _ c.requires.order (up_to_rows (λ row. (g.R.Placed.place row).load) c.args.load c.args.rows c.requires.dated) front back
+    are_parted g.R.Placed.place c.args.load c.args.rows _ _ c.requires.order (up_to_rows (λ row. (g.R.Placed.place row).load) c.args.load c.args.rows c.requires.dated) front back

@@ -11,7 +11,7 @@ use Rattle.dv_records.specs.declared.stores.Store.{Store}
 use Rattle.dv_records.specs.States.{State}
 use Rattle.dv_window.specs.Offices.{Held, IsIn, LeavesStore}
 use Rattle.dv_given.specs.declared.windows.Taken.{Taken}
-use Rattle.dv_given.specs.Takings.{outcome_of, taken_text}
+use Rattle.dv_given.specs.WindowOutcomes.{outcome_of, taken_text}
 use Rattle.dv_given.specs.Tried.{Arrival, Tried, ended, is_refused, status_for, window_line}
 use Rattle.dv_app.specs.Kept.{ArrivalStep, StandsAt}
 

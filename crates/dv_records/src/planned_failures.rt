@@ -2,7 +2,7 @@ ghost use Rattle.std.specs.Prelude.{◌≡◌, ◌==◌, find};
 ghost use Rattle.std.specs.Bool.{OnTrue, OnFalse};
 ghost use Rattle.std.specs.List.{position};
 ghost use Rattle.dv_records.specs.Changes.{KeeperCause};
-ghost use Rattle.dv_records.specs.Turns.{next_turn, new_plan, read_fails, takes_effect, turn_of, without_first, EndsTurn, ReadTurn};
+ghost use Rattle.dv_records.specs.PlannedFailures.{next_turn, new_plan, read_fails, takes_effect, turn_of, without_first, EndsTurn, ReadTurn};
 
 use crate::keepers::KeeperError;
 use dv_text::List;
@@ -39,14 +39,14 @@ impl Turn {
 /// The calls of a keeper in memory: the failures that are planned, how many calls changed the store or were
 /// to, and how many failed.
 #[derive(Debug, Drop)]
-pub(crate) struct Turns {
+pub(crate) struct PlannedCalls {
     fails: List<Fail>,
     changes: u64,
     faults: u64,
 }
 
-impl Model for Turns {
-    ghost use Rattle.dv_records.specs.Turns.{Plan};
+impl Model for PlannedCalls {
+    ghost use Rattle.dv_records.specs.PlannedFailures.{Plan};
 
     ghost Value = { Plan };
 
@@ -98,12 +98,12 @@ fn turn_of(failure: Option<Fail>) -> Turn
     }
 }
 
-impl Turns {
+impl PlannedCalls {
     /// No calls yet, with these failures planned.
-    pub(crate) fn new(fails: List<Fail>) -> Turns
+    pub(crate) fn new(fails: List<Fail>) -> PlannedCalls
         ensures { result ≡ new_plan fails }
     {
-        Turns {
+        PlannedCalls {
             fails,
             changes: 0,
             faults: 0,

@@ -7,7 +7,7 @@ ghost use Rattle.dv_vault.specs.Keeping.{IsBegunIn};
 ghost use Rattle.dv_catalog.specs.Mappings.{is_valid};
 ghost use Rattle.dv_window.specs.Offices.{AgreesUnlessStale};
 ghost use Rattle.dv_window.specs.Stopping as spec;
-ghost use Rattle.dv_window.specs.Takings.{CompletesAs, TookOrBroke};
+ghost use Rattle.dv_window.specs.TakenWindows.{CompletesAs, TookOrBroke};
 
 use crate::offices::Office;
 use dv_records::{Keeper, KeeperError};

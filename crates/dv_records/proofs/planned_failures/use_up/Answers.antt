@@ -1,6 +1,6 @@
 use Rattle.dv_records.proofs.Vocabulary.{Bool, Fail, ap, arith, is_placed, is_some, placed_within, position, sym, ◌==◌, ◌∙◌}
 use Rattle.dv_records.proofs.Plans.{first_removed}
-use Rattle.dv_records.proofs.turns.use_up.Goals as goal
+use Rattle.dv_records.proofs.planned_failures.use_up.Goals as goal
 
 abbrev reads : Fail → Bool
 reads fail = fail.change == 0

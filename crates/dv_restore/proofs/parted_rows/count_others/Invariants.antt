@@ -1,5 +1,5 @@
 use Rattle.dv_restore.proofs.Vocabulary.{filter, is_of_other, length, take, ◌≡◌, ◌≤◌}
-use Rattle.dv_restore.proofs.halves.count_others.Given as goal
+use Rattle.dv_restore.proofs.parted_rows.count_others.Given as goal
 
 -- how many they are so far
 abbrev pub invariant-loop-row : goal.invariant-loop-row
