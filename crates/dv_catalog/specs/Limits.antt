@@ -3,6 +3,7 @@ use Rattle.std.specs.Prelude.{ℕ, ◌==◌, Bool, ◌&&◌, ◌||◌, List, len
 use Rattle.std.specs.List.{list_all}
 use Rattle.std.specs.Str.{bytes_eq}
 use Rattle.dv_text.specs.Normal.{norm_field}
+pub use Rattle.dv_text.specs.Limits.{most_field_bytes}
 
 abbrev pub most_hubs : ℕ
 most_hubs = 32
@@ -59,10 +60,6 @@ most_extract_bytes = 33_554_432
 -- the bytes of the extracts of a window together
 abbrev pub most_window_bytes : ℕ
 most_window_bytes = 67_108_864
-
--- the bytes of a field of a record
-abbrev pub most_field_bytes : ℕ
-most_field_bytes = 4_096
 
 -- the records of an extract
 abbrev pub most_records : ℕ

@@ -5,6 +5,7 @@
 
 mod catalogs;
 mod entries;
+mod limits;
 pub mod lookups;
 mod map_error;
 mod map_texts;
@@ -19,6 +20,7 @@ mod windows;
 
 pub use catalogs::Catalog;
 pub use entries::{FeedDef, HubDef, LinkDef, Parent, PathDef};
+pub use limits::{MOST_EXTRACT_BYTES, MOST_MANIFEST_BYTES, MOST_MAPPING_BYTES, MOST_WINDOW_BYTES};
 pub use map_error::MapError;
 pub use outlines::{FeedOutline, HubOutline, LinkOutline, Outline, ParentName, PathOutline};
 pub use printing::{add_field, printed};

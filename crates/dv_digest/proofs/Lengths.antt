@@ -1,5 +1,5 @@
 -- How long joined texts are, and that those of a staged row fit.
-use Rattle.dv_digest.proofs.Vocabulary.{Bool, Key, List, ROOM_SIZE, [], and_parts, arith, attrs_fit, join_with_byte, joined, key_text, le-leb, leb-true, length, length-append, length-map, list_all, longest_text, map, mul-le-mul_right, nat_le, refl, refs_fit, refs_text, suc-mul, texts_fit, true}
+use Rattle.dv_digest.proofs.Vocabulary.{Bool, Key, List, ROOM_SIZE, [], and_parts, arith, attrs_fit, join_with_byte, joined, key_text, le-leb, leb-true, length, length-append, length-map, list_all, most_field_bytes, map, mul-le-mul_right, nat_le, refl, refs_fit, refs_text, suc-mul, texts_fit, true}
 use Rattle.dv_digest.proofs.Vocabulary.{ℕ, ◌*◌, ◌+◌, ◌-◌, ◌∷◌, ◌≡◌, ◌≤◌}
 
 -- texts of at most so many bytes
@@ -26,8 +26,8 @@ length-joined count most (x ∷ xs) few h =
 
 texts_fit-length : (count : ℕ) (texts : List (List ℕ)) → texts_fit count texts ≡ true → length (joined texts) ≤ count * 4097 - 1
 texts_fit-length count texts h =
-    let parts = and_parts (nat_le (length texts) count) (are_short longest_text texts) h in
-    length-joined count longest_text texts (leb-true (length texts) count parts.0) parts.1
+    let parts = and_parts (nat_le (length texts) count) (are_short most_field_bytes texts) h in
+    length-joined count most_field_bytes texts (leb-true (length texts) count parts.0) parts.1
 
 -- each key's text is at most 16,387 bytes long
 short_keys : (refs : List Key) → list_all (λ key. texts_fit 4 key.parts) refs ≡ true → are_short 16387 (map key_text refs) ≡ true

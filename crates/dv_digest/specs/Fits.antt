@@ -2,14 +2,11 @@
 use Rattle.std.specs.Prelude.{ℕ, Bool, ◌&&◌, List, length, nat_le}
 use Rattle.std.specs.List.{list_all}
 use Rattle.dv_text.specs.declared.rows.Key.{Key}
-
--- the bytes of a text that is hashed
-abbrev pub longest_text : ℕ
-longest_text = 4_096
+use Rattle.dv_text.specs.Limits.{most_field_bytes}
 
 -- at most so many texts, none too long
 abbrev pub texts_fit : ℕ → List (List ℕ) → Bool
-texts_fit most texts = nat_le (length texts) most && list_all (λ text. nat_le (length text) longest_text) texts
+texts_fit most texts = nat_le (length texts) most && list_all (λ text. nat_le (length text) most_field_bytes) texts
 
 -- at most four references, of at most four parts each
 abbrev pub refs_fit : List Key → Bool

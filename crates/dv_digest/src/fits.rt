@@ -2,18 +2,18 @@
 ghost use Rattle.std.specs.Prelude.{◌≡◌, ◌≤◌, IsTrue, length, nat_le};
 ghost use Rattle.std.specs.List.{list_all};
 ghost use Rattle.dv_text.specs.Keys.{joined, refs_text};
+ghost use Rattle.dv_text.specs.Limits.{most_field_bytes};
 ghost use Rattle.dv_digest.specs.Fits as spec;
 ghost use Rattle.dv_digest.specs.declared.rooms.TheConstants.{ROOM_SIZE};
 
-use dv_text::{Key, List, Text};
-
-// A text that is hashed has at most so many bytes.
-const LONGEST_TEXT: usize = 4096;
+use dv_text::{Key, List, MOST_FIELD_BYTES, Text};
 
 fn are_short(texts: &[Text]) -> bool
-    ensures { result ≡ list_all (λ text. nat_le (length text) spec.longest_text) texts.now }
+    ensures { result ≡ list_all (λ text. nat_le (length text) most_field_bytes) texts.now }
 {
-    texts.iter().all(|text| text.bytes().len() <= LONGEST_TEXT)
+    texts
+        .iter()
+        .all(|text| text.bytes().len() <= MOST_FIELD_BYTES)
 }
 
 fn texts_fit(most: usize, texts: &[Text]) -> bool

@@ -5,20 +5,13 @@ ghost use Rattle.dv_given.specs.Readings.{reading_of};
 
 use crate::endings::Ending;
 use crate::reads::read_named;
-use dv_catalog::{ExtractIn, Rule, WindowIn};
+use dv_catalog::{
+    ExtractIn, MOST_EXTRACT_BYTES, MOST_MANIFEST_BYTES, MOST_WINDOW_BYTES, Rule, WindowIn,
+};
 use dv_mapfile::{Manifest, ManifestExtract, ShapeFault};
 use dv_outside::Folder;
 use dv_text::{Duplicate, List, Memory, Text};
 use std::alloc::Global;
-
-/// The most bytes of a manifest.
-const MOST_MANIFEST_BYTES: u64 = 65_536;
-
-/// The most bytes of an extract.
-const MOST_BYTES: u64 = 33_554_432;
-
-/// The most bytes of the extracts of a window together.
-const MOST_WINDOW_BYTES: u64 = 67_108_864;
 
 /// What a manifest brings: a window, or the rule that it breaks before the load.
 #[derive(Drop)]
@@ -46,7 +39,7 @@ impl Reading {
     {
         Reading {
             extracts: List::new(alloc),
-            left: MOST_WINDOW_BYTES,
+            left: MOST_WINDOW_BYTES as u64,
             is_over: false,
         }
     }
@@ -56,7 +49,7 @@ impl Reading {
         ensures value { result ≡ spec.allowed self.now.left }
         ensures most { result ≤ 33554432 }
     {
-        MOST_BYTES.min(self.left)
+        (MOST_EXTRACT_BYTES as u64).min(self.left)
     }
 
     // Puts the next extract behind those that were read.
@@ -142,6 +135,6 @@ fn bring_files<F: Folder>(alloc: Global, folder: &mut F, bytes: &[u8]) -> Result
 pub fn bring<F: Folder>(alloc: Global, folder: &mut F, name: &Text) -> Result<Arrived, Ending>
     ensures { Arrives name.now (seen F.files F.faults folder.old folder.new) result }
 {
-    let bytes = read_named(alloc, folder, name, MOST_MANIFEST_BYTES + 1)?;
+    let bytes = read_named(alloc, folder, name, MOST_MANIFEST_BYTES as u64 + 1)?;
     bring_files(alloc, folder, bytes.items())
 }

@@ -8,14 +8,11 @@ ghost use Rattle.dv_given.specs.FolderReads.{ReadsMapping};
 use crate::endings::Ending;
 use crate::lines::MAPPING_NAME;
 use crate::reads::read_named;
-use dv_catalog::{Catalog, MapError};
+use dv_catalog::{Catalog, MOST_MAPPING_BYTES, MapError};
 use dv_mapfile::read_catalog;
 use dv_outside::Folder;
 use dv_text::{List, Text};
 use std::alloc::Global;
-
-/// The most bytes of a mapping's file.
-const MOST_MAPPING_BYTES: u64 = 1_048_576;
 
 // The end where a mapping is refused, or could not be read for want of memory.
 fn end_mapping(e: MapError) -> Ending
@@ -40,7 +37,7 @@ pub fn read_mapping_file<F: Folder>(alloc: Global, folder: &mut F) -> Result<Map
     ensures reads { IfOk result (λ file. read_mapping file.bytes ≡ Ok file.catalog) }
 {
     let name = Text::of(alloc, MAPPING_NAME)?;
-    let bytes = read_named(alloc, folder, &name, MOST_MAPPING_BYTES + 1)?;
+    let bytes = read_named(alloc, folder, &name, MOST_MAPPING_BYTES as u64 + 1)?;
     match read_catalog(alloc, bytes.items()) {
         Ok(catalog) => Ok(MappingFile { bytes, catalog }),
         Err(e) => Err(end_mapping(e)),

@@ -4,6 +4,7 @@ use Rattle.std.specs.List.{list_all}
 use Rattle.dv_text.specs.declared.rows.Key.{Key}
 use Rattle.dv_text.specs.declared.rows.Window.{Window}
 use Rattle.dv_text.specs.Keys.{Hashes}
+use Rattle.dv_text.specs.Limits.{most_field_bytes}
 use Rattle.dv_catalog.specs.declared.entries.Parent.TheVariants.{Hub}
 use Rattle.dv_catalog.specs.declared.tables.TableId.TheVariants.{Hub as HubTable}
 use Rattle.dv_catalog.specs.Entries.{Mapping}
@@ -28,7 +29,7 @@ pub record IsHubItem (mapping : Mapping) (hub : ℕ) (item : Delivery) : Type 0 
   pub key : Key
   pub single : item.refs ≡ key ∷ []
   pub shape : length key.parts ≡ parts_of (slice_get mapping.hubs hub)
-  pub short : list_all (λ part. nat_le (length part) 4096) key.parts ≡ true
+  pub short : list_all (λ part. nat_le (length part) most_field_bytes) key.parts ≡ true
 
 -- deliveries to one hub of the mapping, no two of one key
 pub record AreHubItems (mapping : Mapping) (items : List Delivery) : Type 0 where

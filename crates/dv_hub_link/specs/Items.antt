@@ -2,6 +2,7 @@
 use Rattle.std.specs.Prelude.{◌≡◌, ◌<◌, ℕ, ◌==◌, ◌&&◌, nat_le, Bool, true, false, List, [], Contains, length, slice_get}
 use Rattle.std.specs.List.{list_all, zip}
 use Rattle.dv_text.specs.declared.rows.Key.{Key}
+use Rattle.dv_text.specs.Limits.{most_field_bytes}
 use Rattle.dv_catalog.specs.declared.entries.Parent.{Parent}
 use Rattle.dv_catalog.specs.declared.tables.TableId.{TableId}
 use Rattle.dv_catalog.specs.declared.tables.TableId.TheVariants.{Hub as HubTable, Link as LinkTable, Sat, Multi, Status, Effect}
@@ -13,7 +14,7 @@ use Rattle.dv_records.specs.Deliveries.{table_of}
 
 -- a key of a hub's number of parts, each of at most 4,096 bytes
 abbrev pub is_key_of : Mapping → ℕ → Key → Bool
-is_key_of mapping hub key = (length key.parts == parts_of (slice_get mapping.hubs hub)) && list_all (λ part. nat_le (length part) 4096) key.parts
+is_key_of mapping hub key = (length key.parts == parts_of (slice_get mapping.hubs hub)) && list_all (λ part. nat_le (length part) most_field_bytes) key.parts
 
 -- a key of each hub, in their order
 abbrev pub are_keys_of : Mapping → List ℕ → List Key → Bool

@@ -2,11 +2,10 @@ ghost use Rattle.std.specs.Prelude.{◌≡◌, IfOk, option_map};
 ghost use Rattle.toml.specs.View.{table_view};
 ghost use Rattle.dv_catalog.specs.Documents.{document_of, mapping_document};
 
+use dv_catalog::MOST_MAPPING_BYTES;
 use dv_text::Memory;
 use std::alloc::Global;
 use toml::Table;
-
-const MOST_BYTES: usize = 1_048_576;
 
 /// The document of some bytes; none where `toml` refuses them.
 pub(crate) fn any_document(alloc: Global, bytes: &[u8]) -> Result<Option<Table>, Memory>
@@ -23,7 +22,7 @@ pub(crate) fn any_document(alloc: Global, bytes: &[u8]) -> Result<Option<Table>,
 pub(crate) fn document(alloc: Global, bytes: &[u8]) -> Result<Option<Table>, Memory>
     ensures { IfOk result (λ found. option_map table_view found ≡ mapping_document bytes.now) }
 {
-    if bytes.len() > MOST_BYTES {
+    if bytes.len() > MOST_MAPPING_BYTES {
         return Ok(None);
     }
     any_document(alloc, bytes)

@@ -8,11 +8,10 @@ use crate::forms::Form;
 use crate::shape_faults::ShapeFault;
 use crate::shapes::{Entry, read_entries};
 use crate::tops::tables_at;
+use dv_catalog::MOST_MANIFEST_BYTES;
 use dv_text::{List, Memory, Stamp, Text};
 use std::alloc::Global;
 use toml::{Table, Value};
-
-const MOST_BYTES: usize = 65_536;
 
 /// A window's manifest: its load date, and the extracts in the manifest's order.
 #[derive(Debug, Drop)]
@@ -72,7 +71,7 @@ impl Manifest {
     pub fn read(alloc: Global, bytes: &[u8]) -> Result<Manifest, ShapeFault>
         ensures { Meets result (spec.manifest_in bytes.now) }
     {
-        if bytes.len() > MOST_BYTES {
+        if bytes.len() > MOST_MANIFEST_BYTES {
             return Err(ShapeFault::at(alloc, "length"));
         }
         match any_document(alloc, bytes)? {

@@ -32,7 +32,7 @@ pub use deliveries::{Delivery, DeltaFault, HashedDelivery, HubNames};
 pub use keepers::{Keeper, KeeperError};
 pub use mart_rows::{HubCell, HubMartRow, PathRow, Period, PeriodRow};
 pub use memory_keepers::MemoryKeeper;
-pub use pages::table_page;
+pub use pages::{PAGE_ROWS, table_page};
 pub use planned_failures::Fail;
 pub use raw_kinds::RawRow;
 pub use raw_rows::{Code, EffectRow, HubRow, LinkRow, MultiRow, SatRow, StatusRow};

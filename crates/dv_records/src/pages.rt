@@ -6,6 +6,9 @@ use dv_catalog::TableId;
 use dv_text::{Duplicate, List, Memory};
 use std::alloc::Global;
 
+/// How many rows a page has that is read of a keeper's table, but for the last one.
+pub const PAGE_ROWS: u32 = 1000;
+
 /// Whether two tables are one.
 pub(crate) fn is_same_table(a: TableId, b: TableId) -> bool
     ensures { result ≡ table_eq a b }

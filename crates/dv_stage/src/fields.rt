@@ -6,9 +6,7 @@ ghost use Rattle.csv.specs.Records.{fields_of};
 ghost use Rattle.dv_catalog.specs.Limits.{most_field_bytes};
 
 use csv::ByteRecord;
-
-// A field has at most so many bytes.
-const LONGEST_FIELD: usize = 4096;
+use dv_text::MOST_FIELD_BYTES;
 
 // The field at a place, where the record has one.
 #[tactic(auto, using(crate::proofs::FieldFacts::field_facts))]
@@ -38,7 +36,7 @@ fn is_text(bytes: &[u8]) -> bool
 fn is_long(bytes: &[u8]) -> bool
     ensures { result ≡ nat_lt most_field_bytes (length bytes.now) }
 {
-    bytes.len() > LONGEST_FIELD
+    bytes.len() > MOST_FIELD_BYTES
 }
 
 // Whether each field is UTF-8.

@@ -9,12 +9,9 @@ ghost use Rattle.dv_records.specs.Weights.{rows_weight};
 ghost use Rattle.dv_store_rules.specs.Pages.{AreFirst, IsGrown, IsOfTable, TellsPage, TellsRows};
 
 use dv_catalog::TableId;
-use dv_records::{Keeper, KeeperError, Rows, weight};
+use dv_records::{Keeper, KeeperError, PAGE_ROWS, Rows, weight};
 use dv_window_rules::MOST_WEIGHT;
 use std::alloc::Global;
-
-// How many rows a page has, but for the last one.
-const PAGE: u32 = 1000;
 
 /// What reading a table came to: its rows, or so many of its first ones that they weigh too much with what was read
 /// before; or that a row, which is counted from 1, is of another kind than the table's.
@@ -61,7 +58,7 @@ fn take_page<K: Keeper>(
     ensures kept { K.store keeper.new ≡ K.store keeper.old }
     ensures cause { KeeperCause (K.faults keeper.old) (K.faults keeper.new) result }
 {
-    let page = keeper.rows(alloc, table, rows.count(), PAGE)?;
+    let page = keeper.rows(alloc, table, rows.count(), PAGE_ROWS)?;
     let taken = page.count();
     if taken == 0 {
         return Ok(Page::Last);
@@ -72,7 +69,7 @@ fn take_page<K: Keeper>(
     let sum = added(weight, &page);
     rows.put_behind(page)?;
     match sum {
-        Some(weight) if taken >= u64::from(PAGE) => Ok(Page::More { weight }),
+        Some(weight) if taken >= u64::from(PAGE_ROWS) => Ok(Page::More { weight }),
         _ => Ok(Page::Last),
     }
 }

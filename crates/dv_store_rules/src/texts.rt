@@ -4,8 +4,7 @@ ghost use Rattle.std.specs.List.{list_all};
 ghost use Rattle.dv_records.specs.Limits.{most_field_bytes};
 ghost use Rattle.dv_store_rules.specs.FormRules as spec;
 
-use dv_text::{Digest, Text};
-use dv_window_rules::MOST_FIELD_BYTES;
+use dv_text::{Digest, MOST_FIELD_BYTES, Text};
 
 fn are_short(texts: &[Text]) -> bool
     ensures { result ≡ list_all (λ text. nat_le (length text) most_field_bytes) texts.now }

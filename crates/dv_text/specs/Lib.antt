@@ -2,6 +2,7 @@ pub mod Causes
 pub mod Digests
 pub mod Exact
 pub mod Keys
+pub mod Limits
 pub mod Normal
 pub mod Orders
 pub mod PrefixLaws

@@ -9,12 +9,9 @@ ghost use Rattle.dv_window.specs.StoredRows as spec;
 
 use crate::row_forms::RowForm;
 use crate::snapshot_queries::SnapshotQuery;
-use dv_records::{Keeper, KeeperError, Rows};
+use dv_records::{Keeper, KeeperError, PAGE_ROWS, Rows};
 use dv_text::{List, Memory};
 use std::alloc::Global;
-
-// How many rows a page has, but for the last one.
-const PAGE: u64 = 1000;
 
 /// What reading came to: the rows that are asked for, or all where there are fewer; or that one is
 /// flawed, counted from 1.
@@ -115,7 +112,7 @@ fn take_page<K: Keeper>(
     if have >= asked.most {
         return Ok(false);
     }
-    let most = (asked.most - have).min(PAGE);
+    let most = (asked.most - have).min(PAGE_ROWS as u64);
     let page = keeper.snapshot_rows(alloc, asked.date, asked.id, have, most as u32)?;
     let taken = page.count();
     put_page(rows, page)?;

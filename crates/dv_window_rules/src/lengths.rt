@@ -3,15 +3,9 @@ ghost use Rattle.std.specs.Prelude.{◌≡◌, IfOk, option_map};
 ghost use Rattle.dv_records.specs.Outcomes as spec;
 ghost use Rattle.dv_window_rules.specs.Lengths.{first_long};
 
-use dv_catalog::{ExtractIn, Rule, WindowIn};
+use dv_catalog::{ExtractIn, MOST_EXTRACT_BYTES, MOST_WINDOW_BYTES, Rule, WindowIn};
 use dv_text::{Memory, Text};
 use std::alloc::Global;
-
-/// The most bytes of an extract.
-const MOST_BYTES: usize = 33_554_432;
-
-/// The most bytes of the extracts of a window together.
-const MOST_WINDOW_BYTES: usize = 67_108_864;
 
 // The first extract that is too long, or with which the window is.
 fn long_extract(extracts: &[ExtractIn]) -> Option<&ExtractIn>
@@ -20,7 +14,7 @@ fn long_extract(extracts: &[ExtractIn]) -> Option<&ExtractIn>
     let mut bytes = 0;
     for extract in extracts {
         let more = extract.bytes.items().len();
-        if more > MOST_BYTES || bytes + more > MOST_WINDOW_BYTES {
+        if more > MOST_EXTRACT_BYTES || bytes + more > MOST_WINDOW_BYTES {
             return Some(extract);
         }
         bytes += more;

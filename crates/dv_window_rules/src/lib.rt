@@ -17,7 +17,7 @@ mod text_forms;
 pub use forms::is_window;
 pub use given_rules::given_rule;
 pub use lengths::too_long;
-pub use limits::{MOST_FIELD_BYTES, MOST_WEIGHT, MOST_WINDOWS, full};
+pub use limits::{MOST_WEIGHT, MOST_WINDOWS, full};
 pub use load_dates::{late, open_other};
 pub use repeats::{differs, same_extracts};
 pub use stagings::{room_after, stage_feed, stage_window};

@@ -4,9 +4,6 @@ ghost use Rattle.dv_records.specs.Outcomes as spec;
 
 use dv_catalog::Rule;
 
-/// The most bytes of a text of a row.
-pub const MOST_FIELD_BYTES: usize = 4_096;
-
 /// The most records of an extract.
 pub(crate) const MOST_RECORDS: usize = 200_000;
 

@@ -7,8 +7,7 @@ ghost use Rattle.dv_text.specs.Normal as normal;
 ghost use Rattle.dv_records.specs.Limits.{most_field_bytes};
 ghost use Rattle.dv_records.specs.States as states;
 
-use crate::limits::MOST_FIELD_BYTES;
-use dv_text::Text;
+use dv_text::{MOST_FIELD_BYTES, Text};
 
 fn is_blank(byte: u8) -> bool
     ensures { result ≡ normal.is_blank byte }
