@@ -20,7 +20,7 @@ HERE = pathlib.Path(__file__).resolve().parent
 sys.path.insert(0, str(HERE.parent))
 from programs import build_peer, build_program  # noqa: E402
 
-USES = ["dv_sat", "dv_track", "dv_records", "dv_digest", "dv_mapfile", "dv_catalog", "dv_text", "anyhow"]
+USES = ["dv_sat", "dv_track", "dv_index", "dv_records", "dv_digest", "dv_mapfile", "dv_catalog", "dv_text", "anyhow"]
 WINDOW = 10_000
 SIZES = "10000,100000,1000000"
 

@@ -15,5 +15,4 @@ pub use Rattle.httparse.specs.Spans.{IsRequestAt, IsWithin, RequestOverflows, he
 pub use Rattle.httparse.specs.declared.{spans.HeaderSpan.HeaderSpan, spans.RequestSpans.RequestSpans}
 pub use Rattle.std.proofs.{Common.length-append, Common.min, Common.take-take, Common.⊎_elim, Common.◌==◌, Math.Seq.drop-append_seam, Math.Seq.take-append-add, lemmas.Bool.cases_lt, lemmas.Fmt.IsAscii-from_digits, lemmas.List.drop-append-le, lemmas.List.drop-take, lemmas.List.length-take}
 pub use Rattle.std.proofs.{lemmas.List.take-append-le, lemmas.List.take_min, lemmas.Str.IsUtf8-from_ascii, lemmas.Str.digit_value_digit}
-pub use Rattle.std.specs.{Int.IsInRange, Prelude.Err, Prelude.IfSome, Prelude.IsSomeAnd, Prelude.Ok, Prelude.Result, Prelude.nat_le, Prelude.nat_lt, Prelude.slice_range, Prelude.unwrap_or, Str.IsUtf8, Str.Parse.AllDigits, Str.Parse.IsNumeral, Str.Parse.digits_value}
-pub use Rattle.std.specs.{Str.Parse.without_leading_plus}
+pub use Rattle.std.specs.{Int.IsInRange, Prelude.Err, Prelude.IfSome, Prelude.IsSomeAnd, Prelude.Ok, Prelude.Result, Prelude.nat_le, Prelude.nat_lt, Prelude.slice_range, Prelude.unwrap_or, Str.IsUtf8, Str.Parse.AllDigits, Str.Parse.IsNumeral, Str.Parse.digits_value, Str.Parse.without_leading_plus}

@@ -1,6 +1,5 @@
 -- Deliveries to a hub.
-use Rattle.dv_hub_link.proofs.Vocabulary.{AreHubItems, AreItems, Delivery, Hub, IsHubItem, IsItem, List, Mapping, [], and_from, are_keys_of, eq-eqb, is_key_of, length, list_all, lt-ltb, nat_le, parts_of, refl, slice_get, subst, sym, true}
-use Rattle.dv_hub_link.proofs.Vocabulary.{ℕ, ◌==◌, ◌∷◌, ◌≡◌}
+use Rattle.dv_hub_link.proofs.Vocabulary.{AreHubItems, AreItems, Delivery, Hub, IsHubItem, IsItem, List, Mapping, [], and_from, are_keys_of, eq-eqb, is_key_of, length, list_all, lt-ltb, nat_le, parts_of, refl, slice_get, subst, sym, true, ℕ, ◌==◌, ◌∷◌, ◌≡◌}
 
 item_is : (mapping : Mapping) (hub : ℕ) (item : Delivery) → IsHubItem mapping hub item → IsItem mapping (Hub hub) item
 item_is mapping hub item is = record { table = is.table; feed = is.feed; keys = subst (λ r. are_keys_of mapping (hub ∷ []) r ≡ true) (sym is.single) (and_from (is_key_of mapping hub is.key) true key_is refl) }

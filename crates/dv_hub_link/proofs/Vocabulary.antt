@@ -12,17 +12,15 @@ pub use Rattle.dv_records.proofs.Vocabulary.{source, subst, suc, sym, table_of, 
 pub use Rattle.dv_text.proofs.Vocabulary.{append_assoc, false_from_ne_true, key_eq, length-map, nat_cmp_total, option_to_list, recursion_from_All, replicate, same_Some, tied_itself, ◌&&◌}
 pub use Rattle.dv_catalog.proofs.ValidReads.{valid_parts}
 pub use Rattle.dv_catalog.specs.Feeds.{hubs_by, parent_eq}
-pub use Rattle.dv_catalog.specs.declared.{entries.FeedDef.FeedDef, entries.HubDef.HubDef, entries.LinkDef.LinkDef, entries.Parent.Parent, entries.Parent.TheVariants.Hub, entries.Parent.TheVariants.Link, tables.TableId.TableId, tables.TableId.TheVariants.Effect}
-pub use Rattle.dv_catalog.specs.declared.{tables.TableId.TheVariants.Hub as HubTable, tables.TableId.TheVariants.Link as LinkTable, tables.TableId.TheVariants.Multi, tables.TableId.TheVariants.Sat, tables.TableId.TheVariants.Status}
+pub use Rattle.dv_catalog.specs.declared.{entries.FeedDef.FeedDef, entries.HubDef.HubDef, entries.LinkDef.LinkDef, entries.Parent.Parent, entries.Parent.TheVariants.Hub, entries.Parent.TheVariants.Link}
 pub use Rattle.dv_digest.proofs.Lengths.{refs_text_fits}
 pub use Rattle.dv_digest.specs.declared.rooms.TheConstants.{ROOM_SIZE}
 pub use Rattle.dv_hub_link.specs.{HashedLists.HashedList, HashedLists.brought_lists, HashedLists.hashed_cmp, HashedLists.hashed_item, HashedLists.hashed_list, HashedLists.hashed_lists, HashedLists.list_beside, HashedLists.missing_of, HashedLists.told, HashedLists.with_missing}
 pub use Rattle.dv_hub_link.specs.{HashedOrder.hashed_cmp-IsAntisymmetric, HashedOrder.lent_cmp, HashedOrder.rivals_cmp-IsAntisymmetric, HeldLists.are_held_apart, HeldLists.beside, HeldLists.is_held, HeldLists.list_under, HeldLists.standing, HubDeltas.AreHubItems, HubDeltas.IsHeld}
-pub use Rattle.dv_hub_link.specs.{HubDeltas.IsHubItem, HubDeltas.IsNext, HubDeltas.hub_delta, HubDeltas.hub_hashed, Items.AreItems, Items.IsItem}
-pub use Rattle.dv_hub_link.specs.{Items.are_keys_of, Items.is_key_of, Items.is_parent_table, KeyDeltas.delta, KeyDeltas.lists_of, KeyDeltas.new_row, KeyDeltas.row_cmp, LinkDeltas.AreLinkItems, LinkDeltas.TellLists, LinkDeltas.key_with, LinkDeltas.link_delta}
-pub use Rattle.dv_hub_link.specs.{LinkDeltas.link_hashed, LinkLists.are_of_links, LinkLists.hubs_in, LinkLists.hubs_of, LinkLists.is_of_link, LinkLists.key_or, LinkLists.key_under, LinkLists.keys_under, LinkLists.stored, NewLists.all_hashed, NewLists.is_new, NewLists.is_new_beside, NewLists.kept}
-pub use Rattle.dv_hub_link.specs.{NewLists.new_beside, NewLists.new_item, NewLists.new_lists, NewRows.hub_row_of, NewRows.link_row, PlacedRows.are_parents_apart, PlacedRows.are_placed_rows, PlacedRows.has_row_under, PlacedRows.row_under, Rivalries.all_neighbours, Rivalries.all_rivals}
-pub use Rattle.dv_hub_link.specs.{Rivalries.clash, Rivalries.has_clash, Rivalries.held_rival, Rivalries.is_other, Rivalries.least_rivals, Rivalries.neighbours, Rivalries.rivals_cmp, Rivalries.rivals_of}
+pub use Rattle.dv_hub_link.specs.{HubDeltas.IsHubItem, HubDeltas.IsNext, HubDeltas.hub_delta, HubDeltas.hub_hashed, Items.AreItems, Items.IsItem, Items.are_keys_of, Items.is_key_of, Items.is_parent_table, KeyDeltas.delta, KeyDeltas.lists_of, KeyDeltas.new_row, KeyDeltas.row_cmp}
+pub use Rattle.dv_hub_link.specs.{LinkDeltas.AreLinkItems, LinkDeltas.TellLists, LinkDeltas.key_with, LinkDeltas.link_delta, LinkDeltas.link_hashed, LinkLists.are_of_links, LinkLists.hubs_in, LinkLists.hubs_of, LinkLists.is_of_link, LinkLists.key_or, LinkLists.key_under, LinkLists.keys_under}
+pub use Rattle.dv_hub_link.specs.{LinkLists.stored, NewLists.all_hashed, NewLists.is_new, NewLists.is_new_beside, NewLists.kept, NewLists.new_beside, NewLists.new_item, NewLists.new_lists, NewRows.hub_row_of, NewRows.link_row, PlacedRows.are_parents_apart, PlacedRows.are_placed_rows}
+pub use Rattle.dv_hub_link.specs.{PlacedRows.has_row_under, PlacedRows.row_under, Rivalries.all_neighbours, Rivalries.all_rivals, Rivalries.clash, Rivalries.has_clash, Rivalries.held_rival, Rivalries.is_other, Rivalries.least_rivals, Rivalries.neighbours, Rivalries.rivals_cmp, Rivalries.rivals_of}
 pub use Rattle.dv_hub_link.specs.declared.{hashed_lists.LentList.LentList, holds_lists.Standing.Standing, holds_lists.Standing.TheVariants.Held, holds_lists.Standing.TheVariants.Other, rivals.Rivals.Rivals}
 pub use Rattle.dv_records.proofs.{BatchTies.batch_made, BatchTies.tied_by_digest, CollisionTies.collision_free, CollisionTies.collision_tied, DatedRows.up_to_last, Delivered.deliveries_member, Delivered.delivery-offered, Delivered.first_offer-member, Delivered.first_offer-refs}
 pub use Rattle.dv_records.proofs.{Delivered.has_first_offer, Delivered.is_offered-member, Delivered.offered_member, HubTables.offered_key, HubTables.table_has, HubTables.table_row, KnownLists.key_at_first, KnownRefs.key_found, KnownRefs.missing_unfound, KnownRefs.the_missing}

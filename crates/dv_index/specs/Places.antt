@@ -1,6 +1,6 @@
 -- Rows by the digest under which they are looked up and by their load date.
-use Rattle.std.specs.Prelude.{ℕ, nat_le, Bool, true, ◌&&◌, List, [], ◌∷◌, Option, find, map, reverse, slice_get, take}
-use Rattle.std.specs.List.{filter_map, list_all}
+use Rattle.std.specs.Prelude.{ℕ, ◌==◌, nat_le, Bool, true, ◌&&◌, List, [], ◌∷◌, Option, find, map, reverse, slice_get, take}
+use Rattle.std.specs.List.{filter_map, list_all, list_any}
 use Rattle.std.specs.Option.{option_map_or}
 use Rattle.std.specs.Str.{bytes_eq}
 use Rattle.dv_text.specs.Orders.{text_cmp}
@@ -15,6 +15,14 @@ pub record Place : Type 0 where
 abbrev pub are_in_load_order : {X : Type 0} → (X → Place) → List X → Bool
 are_in_load_order place [] = true
 are_in_load_order place (row ∷ rows) = list_all (λ other. nat_le (place row).load (place other).load) rows && are_in_load_order place rows
+
+-- whether no row is later than a date
+abbrev pub none_later : {X : Type 0} → (X → Place) → List X → ℕ → Bool
+none_later place rows date = list_all (λ row. nat_le (place row).load date) rows
+
+-- whether a row has a load date
+abbrev pub has_load : {X : Type 0} → (X → Place) → List X → ℕ → Bool
+has_load place rows load = list_any (λ row. (place row).load == load) rows
 
 -- the last row of a parent that is not later than a date
 abbrev pub latest_at : {X : Type 0} → (X → Place) → List X → List ℕ → ℕ → Option X

@@ -1,8 +1,8 @@
 -- Over the multi-active satellite of older extracts, what the newest one adds row by row is its batch.
 use Rattle.dv_sat.proofs.Vocabulary.{AllByRecursion, AreNewestFirst, Bool, Contains, Contains-append_left, Contains-append_right, Contains-cons_here, Contains-cons_there, Contains-map, Extract, Hashes, IsApart, IsNewestFirst, IsStrictlySortedBy, IsStrictlySortedBy-filter, IsTold, Key, Less, List}
 use Rattle.dv_sat.proofs.Vocabulary.{MultiRow, NRow, None, Option, Some, [], all_refs, all_up_to, all_valid_at, and_parts, ap, appended, arith, batch_stamped, bytes_eq, bytes_eq-Decides, delivers, described_row, eqb-true, false, filter, filter_map, filtered_members, has_load, is_changed}
-use Rattle.dv_sat.proofs.Vocabulary.{last_rows, lists_of, loaded_with, map, multi_batch, multi_change, multi_cmp, multi_delta, multi_order, multi_row, nat_cmp_total, nat_list_cmp_total, newest_first, none_loaded, pointwise, refl, refs_eq, refs_total, row_cmp, row_eq, row_total, rows_of}
-use Rattle.dv_sat.proofs.Vocabulary.{same_ascending, slice_cmp, sorted_by, subst, sym, tells, text_cmp, tied_itself, true, ℕ, ◌&&◌, ◌==◌, ◌↔◌, ◌∷◌, ◌≡◌}
+use Rattle.dv_sat.proofs.Vocabulary.{last_rows, lists_of, loaded_with, map, multi_batch, multi_change, multi_cmp, multi_delta, multi_order, multi_place, multi_row, nat_cmp_total, nat_list_cmp_total, newest_first, none_loaded, pointwise, refl, refs_eq, refs_total, row_cmp, row_eq, row_total}
+use Rattle.dv_sat.proofs.Vocabulary.{rows_of, same_ascending, slice_cmp, sorted_by, subst, sym, tells, text_cmp, tied_itself, true, ℕ, ◌&&◌, ◌==◌, ◌↔◌, ◌∷◌, ◌≡◌}
 use Rattle.dv_sat.proofs.SatFollowing.{if_so}
 
 module _ (hashes : Hashes) (source : List ℕ) where
@@ -63,7 +63,7 @@ module _ (hashes : Hashes) (source : List ℕ) (older : List Extract) (newest : 
   older_told extract has = told extract (Contains-cons_there newest older extract has)
 
   -- no row of the table has the new load date
-  no_load : has_load rows newest.load ≡ false
+  no_load : has_load multi_place rows newest.load ≡ false
   no_load = none_loaded (λ (row : MultiRow). row.load) (multi_batch hashes source) (row_load hashes source) older newest order
 
   -- at the new load date the table describes the rows that the list had when it was last there

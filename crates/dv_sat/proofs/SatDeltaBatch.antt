@@ -1,9 +1,8 @@
 -- Over the satellite of older extracts, what the newest one adds row by row is its batch.
 use Rattle.dv_sat.proofs.Vocabulary.{AreNewestFirst, Bool, Contains, Contains-append_left, Contains-append_right, Contains-cons_here, Contains-cons_there, Contains-map, Contains-nil, Extract, Hashes, IsApart, IsPlain, IsStrictlySortedBy, IsStrictlySortedBy-filter, Key, Less, List, NRow, None}
-use Rattle.dv_sat.proofs.Vocabulary.{Option, SatRow, Some, [], all_refs, all_up_to, ap, appended, arith, batch_stamped, delivers, false, filter_map, filtered_members, first_attrs, has_attrs, inl, inr, irreflexive, is_changed, last_rows, lists_of, newest_first, none_loaded, not, option_map}
-use Rattle.dv_sat.proofs.Vocabulary.{pointwise, refl, refs_eq, refs_eq-Decides, row_cmp, row_eq, row_total, rows_of, sat_batch, sat_change, sat_cmp, sat_delta, sat_row, some_passes, sorted_by, subst, sym, texts_eq, texts_eq-Decides, true, valid_at, ℕ, ◌&&◌, ◌∙◌, ◌∷◌, ◌≡◌, ◌⊎◌}
+use Rattle.dv_sat.proofs.Vocabulary.{Option, SatRow, Some, [], all_refs, all_up_to, ap, appended, arith, batch_stamped, delivers, false, filter_map, filtered_members, first_attrs, has_attrs, has_load, inl, inr, irreflexive, is_changed, last_rows, lists_of, newest_first, none_loaded, not}
+use Rattle.dv_sat.proofs.Vocabulary.{option_map, pointwise, refl, refs_eq, refs_eq-Decides, row_cmp, row_eq, row_total, rows_of, sat_batch, sat_change, sat_cmp, sat_delta, sat_place, sat_row, some_passes, sorted_by, subst, sym, texts_eq, texts_eq-Decides, true, valid_at, ℕ, ◌&&◌, ◌∙◌, ◌∷◌, ◌≡◌, ◌⊎◌}
 use Rattle.dv_records.proofs.SatReconstruct.{tells}
-use Rattle.dv_sat.specs.SatRows.{has_load}
 use Rattle.dv_sat.proofs.SatFollowing.{if_so}
 
 module _ (hashes : Hashes) (source : List ℕ) where
@@ -71,7 +70,7 @@ module _ (hashes : Hashes) (source : List ℕ) (older : List Extract) (newest : 
   older_plain extract has = plain extract (Contains-cons_there newest older extract has)
 
   -- no row of the table has the new load date
-  no_load : has_load rows newest.load ≡ false
+  no_load : has_load sat_place rows newest.load ≡ false
   no_load = none_loaded (λ (row : SatRow). row.load) (sat_batch hashes source) (row_load hashes source) older newest order
 
   in_newest : (row : NRow) → Contains newest.rows row → Contains (lists_of (newest ∷ older)) row.refs

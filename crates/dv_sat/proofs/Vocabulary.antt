@@ -11,9 +11,10 @@ pub use Rattle.dv_text.proofs.Vocabulary.{Less-from_sorted, filter, ordering_rev
 pub use Rattle.dv_digest.proofs.Lengths.{attrs_text_fits}
 pub use Rattle.dv_records.proofs.{DatedRows.batch_stamped, DatedRows.delta_follows, DatedRows.delta_stamped, DatedRows.found_up_to_last, DatedRows.in_load_order, DatedRows.last_load, DatedRows.newest_first, DatedRows.none_later, DatedRows.none_loaded, LastChange.all_up_to, MultiReconstruct.tells}
 pub use Rattle.dv_records.proofs.{Reversing.IsNewestFirst}
+pub use Rattle.dv_index.specs.Places.{has_load}
 pub use Rattle.dv_records.specs.{MultiPlaces.multi_place, SatPlaces.sat_place}
 pub use Rattle.dv_records.specs.declared.{raw_rows.MultiRow.MultiRow, raw_rows.SatRow.SatRow}
-pub use Rattle.dv_sat.specs.{MultiRows.IsTold, MultiRows.are_same, MultiRows.has_load, MultiRows.multi_change, MultiRows.multi_delta, MultiRows.multi_order, RowPlaces.place_cmp, SatRows.IsPlain, SatRows.has_attrs, SatRows.sat_change, SatRows.sat_delta}
+pub use Rattle.dv_sat.specs.{MultiRows.IsTold, MultiRows.are_same, MultiRows.multi_change, MultiRows.multi_delta, MultiRows.multi_order, RowPlaces.place_cmp, SatRows.IsPlain, SatRows.has_attrs, SatRows.sat_change, SatRows.sat_delta}
 pub use Rattle.dv_text.specs.declared.{rows.Key.Key, rows.NRow.NRow}
 pub use Rattle.std.proofs.{lemmas.Fn.fronts, lemmas.Iterator.empty_from_Zip, lemmas.Iterator.zips, lemmas.List.take_rest, lemmas.List.Elements.All-map, lemmas.List.Kept.IsStrictlySortedBy-filter, lemmas.List.Sorted.searchable_from_sorted}
 pub use Rattle.std.specs.{Borrow.Bor, Iterator.Adapters.zip_first, Iterator.Adapters.zip_second, List.AllWithin, List.Sorted.IsNonDecreasingBy, Ordering.is_gt, Ordering.ordering_index, Slice.Iter.iter_rest}

@@ -1,6 +1,5 @@
 -- Multi-active satellites row by row: what an extract adds to one, by the hash keys, the subs and the attributes alone.
-use Rattle.std.specs.Prelude.{◌≡◌, ℕ, ◌==◌, nat_le, Bool, List, [], ◌∷◌, Option, Some, None, Contains, map, if◌then◌else◌}
-use Rattle.std.specs.List.{list_all, list_any}
+use Rattle.std.specs.Prelude.{◌≡◌, ℕ, Bool, List, [], ◌∷◌, Option, Some, None, Contains, map, if◌then◌else◌}
 use Rattle.std.specs.List.Sorted.{IsStrictlySortedBy}
 use Rattle.std.specs.Cmp.Lexicographic.{pointwise}
 use Rattle.std.specs.Ordering.{nat_cmp, ordering_then}
@@ -8,24 +7,18 @@ use Rattle.std.specs.declared.cmp.Ordering.{Ordering}
 use Rattle.dv_text.specs.declared.rows.NRow.{NRow}
 use Rattle.dv_text.specs.Keys.{Hashes, row_eq}
 use Rattle.dv_text.specs.Orders.{row_cmp}
+use Rattle.dv_index.specs.Places.{has_load}
 use Rattle.dv_records.specs.declared.raw_rows.MultiRow.{MultiRow}
 use Rattle.dv_records.specs.Batches.{appended, batch_of}
 use Rattle.dv_records.specs.Collisions.{IsApart}
 use Rattle.dv_records.specs.History.{Extract, lists_of, AreNewestFirst}
+use Rattle.dv_records.specs.MultiPlaces.{multi_place}
 use Rattle.dv_records.specs.Reconstruction.{all_valid_at, described_row}
 use Rattle.dv_records.specs.Satellites.{multi_batch, multi_cmp, rows_of, IsOnePerSub}
 
 -- the order of a multi-active satellite: by load date, then by parent, then by sub
 abbrev pub multi_order : MultiRow → MultiRow → Ordering
 multi_order a b = ordering_then (nat_cmp a.load b.load) (multi_cmp a b)
-
--- whether no row is later than a date
-abbrev pub are_up_to : List MultiRow → ℕ → Bool
-are_up_to rows date = list_all (λ row. nat_le row.load date) rows
-
--- whether a row has this load date
-abbrev pub has_load : List MultiRow → ℕ → Bool
-has_load rows load = list_any (λ row. row.load == load) rows
 
 -- whether rows of a satellite are those of a reference list in an extract: the subs and the attributes themselves are
 -- compared, never their hash differences
@@ -48,7 +41,7 @@ multi_change hashes source rows load staged row = multi_change_from hashes sourc
 -- what the rows of an extract add to a multi-active satellite, by hash key, then by sub; nothing where it has a row of
 -- this load date
 abbrev pub multi_delta : Hashes → List ℕ → List MultiRow → ℕ → List NRow → List MultiRow
-multi_delta hashes source rows load staged = if has_load rows load then [] else batch_of multi_cmp (multi_change hashes source rows load staged) staged
+multi_delta hashes source rows load staged = if has_load multi_place rows load then [] else batch_of multi_cmp (multi_change hashes source rows load staged) staged
 
 -- rows as staging leaves those of a feed with a sub: in order and each once, one for each reference list and sub
 pub record IsTold (rows : List NRow) : Type 0 where

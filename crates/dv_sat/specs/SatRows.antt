@@ -1,6 +1,5 @@
 -- Satellites row by row: what an extract adds to one, by the hash keys and the attributes alone.
-use Rattle.std.specs.Prelude.{◌≡◌, ℕ, ◌==◌, nat_le, Bool, false, List, [], ◌∷◌, Option, Some, None, Contains, find, reverse, if◌then◌else◌}
-use Rattle.std.specs.List.{list_all, list_any}
+use Rattle.std.specs.Prelude.{◌≡◌, ℕ, Bool, false, List, [], ◌∷◌, Option, Some, None, Contains, find, reverse, if◌then◌else◌}
 use Rattle.std.specs.List.Sorted.{IsStrictlySortedBy}
 use Rattle.std.specs.Ordering.{nat_cmp, ordering_then}
 use Rattle.std.specs.Str.{bytes_eq}
@@ -8,24 +7,18 @@ use Rattle.std.specs.declared.cmp.Ordering.{Ordering}
 use Rattle.dv_text.specs.declared.rows.NRow.{NRow}
 use Rattle.dv_text.specs.Keys.{Hashes, texts_eq}
 use Rattle.dv_text.specs.Orders.{row_cmp}
+use Rattle.dv_index.specs.Places.{has_load}
 use Rattle.dv_records.specs.declared.raw_rows.SatRow.{SatRow}
 use Rattle.dv_records.specs.Batches.{appended, batch_of}
 use Rattle.dv_records.specs.Collisions.{IsApart}
 use Rattle.dv_records.specs.History.{Extract, lists_of, AreNewestFirst}
 use Rattle.dv_records.specs.Reconstruction.{valid_at}
+use Rattle.dv_records.specs.SatPlaces.{sat_place}
 use Rattle.dv_records.specs.Satellites.{sat_batch, sat_cmp, IsOnePerList}
 
 -- the order of a satellite: by load date, then by parent
 abbrev pub sat_order : SatRow → SatRow → Ordering
 sat_order a b = ordering_then (nat_cmp a.load b.load) (sat_cmp a b)
-
--- whether no row is later than a date
-abbrev pub are_up_to : List SatRow → ℕ → Bool
-are_up_to rows date = list_all (λ row. nat_le row.load date) rows
-
--- whether a row has this load date
-abbrev pub has_load : List SatRow → ℕ → Bool
-has_load rows load = list_any (λ row. row.load == load) rows
 
 -- the last row of a parent, whatever its date
 abbrev pub current_of : List SatRow → List ℕ → Option SatRow
@@ -49,7 +42,7 @@ sat_change hashes source rows load row = sat_change_from hashes source (valid_at
 
 -- what the rows of an extract add to a satellite, by hash key; nothing where it has a row of this load date
 abbrev pub sat_delta : Hashes → List ℕ → List SatRow → ℕ → List NRow → List SatRow
-sat_delta hashes source rows load staged = if has_load rows load then [] else batch_of sat_cmp (sat_change hashes source rows load) staged
+sat_delta hashes source rows load staged = if has_load sat_place rows load then [] else batch_of sat_cmp (sat_change hashes source rows load) staged
 
 -- rows as staging leaves those of a feed without a sub: in order and each once, one for each reference list, and without
 -- a sub

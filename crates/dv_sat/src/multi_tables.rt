@@ -7,8 +7,10 @@ ghost use Rattle.dv_text.specs.Orders.{row_cmp};
 ghost use Rattle.dv_digest.specs.Fits as fits;
 ghost use Rattle.dv_digest.specs.HashedExtracts.{HasKeys};
 ghost use Rattle.dv_catalog.specs.Feeds.{source};
+ghost use Rattle.dv_index.specs.Places.{has_load, none_later};
+ghost use Rattle.dv_records.specs.MultiPlaces.{multi_place};
 ghost use Rattle.dv_records.specs.Reconstruction.{all_valid_at, loaded_with};
-ghost use Rattle.dv_sat.specs.MultiRows.{are_up_to, multi_change, multi_delta, multi_order, IsMultiBatchAfter};
+ghost use Rattle.dv_sat.specs.MultiRows.{multi_change, multi_delta, multi_order, IsMultiBatchAfter};
 ghost use Rattle.dv_sat.specs.MultiRows as spec;
 
 use crate::multi_changes::change;
@@ -136,8 +138,8 @@ impl MultiTable {
 
     // Whether the last row has a load date: no row has it where that one hasn't.
     fn has_load(&self, load: Stamp) -> bool
-        requires { IsTrue (are_up_to self.now.rows load) }
-        ensures value { result ≡ spec.has_load self.now.rows load }
+        requires { IsTrue (none_later multi_place self.now.rows load) }
+        ensures value { result ≡ has_load multi_place self.now.rows load }
         ensures ascending { IsStrictlySortedBy multi_order self.now.rows }
     {
         match self.indexed.rows().last() {
@@ -189,7 +191,7 @@ impl MultiTable {
         requires keys { HasKeys (hashes_of H.function) extract.now }
         requires ascending { IsStrictlySortedBy row_cmp extract.now.staged.now.rows }
         requires attrs_fit { IsTrue (list_all (λ row. fits.attrs_fit row.attrs) extract.now.staged.now.rows) }
-        requires not_later { IsTrue (are_up_to self.now.rows load) }
+        requires not_later { IsTrue (none_later multi_place self.now.rows load) }
         ensures delta { IfOk result (λ rows. rows ≡ multi_delta (hashes_of H.function) (source catalog.now extract.now.staged.now.feed) self.now.rows load extract.now.staged.now.rows) }
         ensures stamped { IfOk result (All (λ row. row.load ≡ load)) }
         ensures follows { IfOk result (λ rows. IsStrictlySortedBy multi_order (self.now.rows ++ rows)) }
@@ -210,7 +212,7 @@ impl MultiTable {
         requires keys { HasKeys (hashes_of H.function) extract.now }
         requires ascending { IsStrictlySortedBy row_cmp extract.now.staged.now.rows }
         requires attrs_fit { IsTrue (list_all (λ row. fits.attrs_fit row.attrs) extract.now.staged.now.rows) }
-        requires not_later { IsTrue (are_up_to self.now.rows load) }
+        requires not_later { IsTrue (none_later multi_place self.now.rows load) }
         ensures value { IfOk result (λ rows. rows ≡ multi_delta (hashes_of H.function) (source catalog.now extract.now.staged.now.feed) self.now.rows load extract.now.staged.now.rows) }
         ensures order { IsStrictlySortedBy multi_order self.now.rows }
     {

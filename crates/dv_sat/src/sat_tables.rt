@@ -5,8 +5,10 @@ ghost use Rattle.dv_text.specs.Keys.{hashes_of};
 ghost use Rattle.dv_digest.specs.Fits as fits;
 ghost use Rattle.dv_digest.specs.HashedExtracts.{HasKeys};
 ghost use Rattle.dv_catalog.specs.Feeds.{source};
+ghost use Rattle.dv_index.specs.Places.{has_load, none_later};
 ghost use Rattle.dv_records.specs.Reconstruction.{valid_at};
-ghost use Rattle.dv_sat.specs.SatRows.{are_up_to, current_of, sat_change, sat_delta, sat_order, IsSatBatchAfter};
+ghost use Rattle.dv_records.specs.SatPlaces.{sat_place};
+ghost use Rattle.dv_sat.specs.SatRows.{current_of, sat_change, sat_delta, sat_order, IsSatBatchAfter};
 ghost use Rattle.dv_sat.specs.SatRows as spec;
 
 use crate::sat_changes::{add, change};
@@ -130,8 +132,8 @@ impl SatTable {
 
     // Whether the last row has a load date: no row has it where that one hasn't.
     fn has_load(&self, load: Stamp) -> bool
-        requires { IsTrue (are_up_to self.now.rows load) }
-        ensures value { result ≡ spec.has_load self.now.rows load }
+        requires { IsTrue (none_later sat_place self.now.rows load) }
+        ensures value { result ≡ has_load sat_place self.now.rows load }
         ensures ascending { IsStrictlySortedBy sat_order self.now.rows }
     {
         match self.indexed.rows().last() {
@@ -180,7 +182,7 @@ impl SatTable {
         requires feed { extract.now.staged.now.feed < length catalog.now.feeds }
         requires keys { HasKeys (hashes_of H.function) extract.now }
         requires attrs_fit { IsTrue (list_all (λ row. fits.attrs_fit row.attrs) extract.now.staged.now.rows) }
-        requires not_later { IsTrue (are_up_to self.now.rows load) }
+        requires not_later { IsTrue (none_later sat_place self.now.rows load) }
         ensures delta { IfOk result (λ rows. rows ≡ sat_delta (hashes_of H.function) (source catalog.now extract.now.staged.now.feed) self.now.rows load extract.now.staged.now.rows) }
         ensures stamped { IfOk result (All (λ row. row.load ≡ load)) }
         ensures follows { IfOk result (λ rows. IsStrictlySortedBy sat_order (self.now.rows ++ rows)) }
@@ -200,7 +202,7 @@ impl SatTable {
         requires feed { extract.now.staged.now.feed < length catalog.now.feeds }
         requires keys { HasKeys (hashes_of H.function) extract.now }
         requires attrs_fit { IsTrue (list_all (λ row. fits.attrs_fit row.attrs) extract.now.staged.now.rows) }
-        requires not_later { IsTrue (are_up_to self.now.rows load) }
+        requires not_later { IsTrue (none_later sat_place self.now.rows load) }
         ensures value { IfOk result (λ rows. rows ≡ sat_delta (hashes_of H.function) (source catalog.now extract.now.staged.now.feed) self.now.rows load extract.now.staged.now.rows) }
         ensures order { IsStrictlySortedBy sat_order self.now.rows }
     {

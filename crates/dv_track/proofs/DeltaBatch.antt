@@ -1,9 +1,9 @@
 -- Over the table of older extracts, what the newest one adds row by row is its batch.
 use Rattle.dv_track.proofs.Vocabulary.{AreNewestFirst, Contains, Contains-all_refs, Contains-append_cases, Contains-append_left, Contains-append_right, Contains-map, Contains-nil, Extract, Hashes, IsApart, IsStatusBatch, IsStrictlySortedBy-filter_map, Key, List, Option, Some, StatusRow, []}
-use Rattle.dv_track.proofs.Vocabulary.{all_refs, all_up_to, ap, appended, arith, ascending-sorted_by, both_lists, code_of, delivers, delivers-from_Contains, digest_cmp, false, filter_map, filter_map_member, hashes_in, inl, inr, is_among, lists_of, made_of, map_member, member_after_sort}
+use Rattle.dv_track.proofs.Vocabulary.{all_refs, all_up_to, ap, appended, arith, ascending-sorted_by, both_lists, code_of, delivers, delivers-from_Contains, digest_cmp, false, filter_map, filter_map_member, has_load, hashes_in, inl, inr, is_among, lists_of, made_of, map_member, member_after_sort}
 use Rattle.dv_track.proofs.Vocabulary.{member_before_sort, member_of_filter_map, nat_list_cmp_total, newest_first, newest_rows, none_loaded, present_at, refl, same_answer, says_present, sorted_by, status_batch, status_change, status_cmp, status_delta, status_parent, status_place, status_row}
 use Rattle.dv_track.proofs.Vocabulary.{status_stands, status_tied, subst, sym, tells, ℕ, ◌++◌, ◌∙◌, ◌∷◌, ◌≡◌}
-use Rattle.dv_track.specs.Tracks.{has_load, parents_of}
+use Rattle.dv_track.specs.Tracks.{parents_of}
 use Rattle.dv_track.proofs.{Amongst.exact, Amongst.is_among-Decides, Following.change_parent, Presence.there_parent}
 
 -- ---- rows of a table of extracts
@@ -50,7 +50,7 @@ module _ (hashes : Hashes) (source : List ℕ) (older : List Extract) (newest : 
   digests = parents_of rows ++ hashes_in hashes refs_now
 
   -- no row of the table has the new load date
-  no_load : has_load rows newest.load ≡ false
+  no_load : has_load status_place rows newest.load ≡ false
   no_load = none_loaded (λ (row : StatusRow). row.load) (status_batch hashes source) (batch_load hashes source) older newest order
 
   -- at the new load date the table says what the last extract before delivered

@@ -55,7 +55,7 @@ module _ (hashes : Hashes) (source : List ℕ) (older : List Extract) (newest : 
   digests = parents_of rows ++ hashes_in hashes refs_now
 
   -- no row of the table has the new load date
-  no_load : has_load rows newest.load ≡ false
+  no_load : has_load effect_place rows newest.load ≡ false
   no_load = none_loaded (λ (row : EffectRow). row.load) (effect_batch hashes source) (batch_load hashes source) older newest order
 
   -- at the new load date the table says in which run a list was

@@ -1,6 +1,6 @@
 -- What an extract adds to an effectivity table stands behind the table's rows.
-use Rattle.dv_track.proofs.Vocabulary.{All, Contains, EffectRow, Hashes, IsStrictlySortedBy, IsStrictlySortedBy-filter_map, List, NRow, Option, Some, all_refs, ap, are_up_to, ascending-sorted_by, delta_follows, delta_stamped, digest_cmp, effect_change, effect_cmp, effect_delta, effect_order}
-use Rattle.dv_track.proofs.Vocabulary.{filter_map, filter_map_member, given, in_effect_since, is_among, keys_delta, made_of, map, map-map, nat_list_cmp_total, refl, sorted_by, span_between, sym, true, ℕ, ◌++◌, ◌∙◌, ◌≡◌}
+use Rattle.dv_track.proofs.Vocabulary.{All, Contains, EffectRow, Hashes, IsStrictlySortedBy, IsStrictlySortedBy-filter_map, List, NRow, Option, Some, all_refs, ap, ascending-sorted_by, delta_follows, delta_stamped, digest_cmp, effect_change, effect_cmp, effect_delta, effect_order}
+use Rattle.dv_track.proofs.Vocabulary.{effect_place, filter_map, filter_map_member, given, in_effect_since, is_among, keys_delta, made_of, map, map-map, nat_list_cmp_total, none_later, refl, sorted_by, span_between, sym, true, ℕ, ◌++◌, ◌∙◌, ◌≡◌}
 use Rattle.dv_track.specs.EffectRows.{parents_of}
 
 module _ (source : List ℕ) (rows : List EffectRow) (load : ℕ) (keys : List (List ℕ)) where
@@ -23,7 +23,7 @@ module _ (source : List ℕ) (rows : List EffectRow) (load : ℕ) (keys : List (
   pub all_have : All (λ row. row.load ≡ load) (keys_delta source rows load keys)
   all_have = delta_stamped (λ (row : EffectRow). row.load) effect_cmp load rows (filter_map change digests) delta_load
 
-  pub follows : IsStrictlySortedBy effect_order rows → are_up_to rows load ≡ true → IsStrictlySortedBy effect_order (rows ++ keys_delta source rows load keys)
+  pub follows : IsStrictlySortedBy effect_order rows → none_later effect_place rows load ≡ true → IsStrictlySortedBy effect_order (rows ++ keys_delta source rows load keys)
   follows =
       delta_follows (λ (row : EffectRow). row.load) effect_cmp load rows (filter_map change digests) delta_load
       (IsStrictlySortedBy-filter_map digest_cmp change (λ (row : EffectRow). row.parent) change_parent digests (ascending-sorted_by digest_cmp nat_list_cmp_total (parents_of rows ++ keys)))

@@ -1,7 +1,7 @@
 -- What an extract adds to a table stands behind the table's rows.
 use Rattle.dv_track.proofs.Vocabulary.{All, Contains, Hashes, IsStrictlySortedBy, IsStrictlySortedBy-filter_map, List, NRow, Option, Some, StatusRow, all_refs, ap, ascending-sorted_by, code_between, delta_follows, delta_stamped, digest_cmp, filter_map, filter_map_member, given, is_among, made_of}
-use Rattle.dv_track.proofs.Vocabulary.{map, map-map, nat_list_cmp_total, present_at, refl, sorted_by, status_change, status_cmp, status_delta, status_order, sym, true, ℕ, ◌++◌, ◌∙◌, ◌≡◌}
-use Rattle.dv_track.specs.Tracks.{are_up_to, keys_delta, parents_of}
+use Rattle.dv_track.proofs.Vocabulary.{map, map-map, nat_list_cmp_total, none_later, present_at, refl, sorted_by, status_change, status_cmp, status_delta, status_order, status_place, sym, true, ℕ, ◌++◌, ◌∙◌, ◌≡◌}
+use Rattle.dv_track.specs.Tracks.{keys_delta, parents_of}
 
 module _ (source : List ℕ) (rows : List StatusRow) (load : ℕ) (keys : List (List ℕ)) where
   abbrev change : List ℕ → Option StatusRow
@@ -23,7 +23,7 @@ module _ (source : List ℕ) (rows : List StatusRow) (load : ℕ) (keys : List (
   pub all_have : All (λ row. row.load ≡ load) (keys_delta source rows load keys)
   all_have = delta_stamped (λ (row : StatusRow). row.load) status_cmp load rows (filter_map change digests) delta_load
 
-  pub follows : IsStrictlySortedBy status_order rows → are_up_to rows load ≡ true → IsStrictlySortedBy status_order (rows ++ keys_delta source rows load keys)
+  pub follows : IsStrictlySortedBy status_order rows → none_later status_place rows load ≡ true → IsStrictlySortedBy status_order (rows ++ keys_delta source rows load keys)
   follows =
       delta_follows (λ (row : StatusRow). row.load) status_cmp load rows (filter_map change digests) delta_load
       (IsStrictlySortedBy-filter_map digest_cmp change (λ (row : StatusRow). row.parent) change_parent digests (ascending-sorted_by digest_cmp nat_list_cmp_total (parents_of rows ++ keys)))

@@ -10,14 +10,15 @@ pub use Rattle.dv_records.proofs.Vocabulary.{nat_list_cmp_total, newest_rows, no
 pub use Rattle.dv_records.proofs.Vocabulary.{slice_cmp-IsAntisymmetric, some_passes, some_passes_at, sorted_by, sorted_by-members, source, span_between, status_batch, status_cmp, status_row, subst, suc, sym, take, true, turned, zero, ℕ, ◌++◌, ◌+◌, ◌-◌, ◌<◌, ◌||◌, ◌∙◌, ◌∷◌, ◌≡◌, ◌≤◌}
 pub use Rattle.dv_text.proofs.Vocabulary.{Decides, Equal-is, IsEquivalence, Less-from_sorted, eq_by_cmp, filter, ordering_reverse, sorted_from_all_adjacent, texts_ties}
 pub use Rattle.dv_index.proofs.Merging.{IsMerging, begins, ends, goes_on, up_to_first}
+pub use Rattle.dv_index.specs.Places.{has_load, none_later}
 pub use Rattle.dv_records.proofs.{BatchTies.given, DatedRows.delta_follows, DatedRows.delta_stamped, DatedRows.in_load_order, DatedRows.last_load, DatedRows.newest_first, DatedRows.none_loaded, DatedRows.up_to_last, Deciding.Contains-all_refs, Deciding.delivers-from_Contains}
 pub use Rattle.dv_records.proofs.{EffectReconstruct.effects_say, EffectTies.effect_parent, EffectTies.effect_stands, EffectTies.effect_tied, LastChange.all_up_to, StatusReconstruct.both_lists, StatusReconstruct.tells, StatusTies.status_parent, StatusTies.status_stands, StatusTies.status_tied}
 pub use Rattle.dv_records.specs.{EffectPlaces.effect_place, Ranks.parent_period_total, StatusPlaces.status_place}
 pub use Rattle.dv_records.specs.declared.{mart_rows.Period.Period, raw_rows.Code.Code, raw_rows.EffectRow.EffectRow, raw_rows.StatusRow.StatusRow}
 pub use Rattle.dv_text.proofs.{Distinct.ascending-sort_dedup, Distinct.members-sort_dedup, Members.filter_map_same, Options.option_or-none, Passing.find_none, Passing.none_found_at, Passing.none_passes, StableSorts.same_firsts}
 pub use Rattle.dv_text.specs.declared.{rows.Key.Key, rows.NRow.NRow}
-pub use Rattle.dv_track.specs.EffectRows.{are_up_to, effect_between, effect_change, effect_changes, effect_delta, effect_order, effect_turn, effect_turns, has_load, keys_delta, says_in_effect}
-pub use Rattle.dv_track.specs.Presences.{AreThere, before, behind, change_between, changes_between, least, lesser, missing_in, none_later, parents_there, there_at, updated}
+pub use Rattle.dv_track.specs.EffectRows.{effect_between, effect_change, effect_changes, effect_delta, effect_order, effect_turn, effect_turns, keys_delta, says_in_effect}
+pub use Rattle.dv_track.specs.Presences.{AreThere, before, behind, change_between, changes_between, least, lesser, missing_in, parents_there, there_at, updated}
 pub use Rattle.dv_track.specs.Tracks.{hashes_in, is_among, present_parents, status_change, status_changes, status_delta, status_order}
 pub use Rattle.dv_track.specs.declared.heads.Head.{Head}
 pub use Rattle.std.proofs.{Math.Bool.and-false, Math.Bool.and-true, Math.Bool.or-false, Math.Bool.or-true, Math.Seq.take-add, lemmas.Bool.eq-eqb, lemmas.Cmp.nat_list_eq_equiv, lemmas.Fn.filter_same, lemmas.List.drop-drop, lemmas.List.Edits.drop-paste, lemmas.List.Elements.All-map}

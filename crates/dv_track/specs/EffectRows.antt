@@ -1,16 +1,18 @@
 -- Effectivity tables row by row: what an extract adds to one, by the hash keys alone.
-use Rattle.std.specs.Prelude.{◌≡◌, ℕ, ◌==◌, nat_le, Bool, true, false, List, [], ◌∷◌, ◌++◌, Option, None, is_some, map, option_and_then, if◌then◌else◌}
-use Rattle.std.specs.List.{filter_map, list_all, list_any}
+use Rattle.std.specs.Prelude.{◌≡◌, ℕ, Bool, true, false, List, [], ◌∷◌, ◌++◌, Option, None, is_some, map, option_and_then, if◌then◌else◌}
+use Rattle.std.specs.List.{filter_map}
 use Rattle.std.specs.Option.{option_map}
 use Rattle.std.specs.Ordering.{nat_cmp, ordering_then}
 use Rattle.std.specs.declared.cmp.Ordering.{Ordering}
 use Rattle.dv_text.specs.declared.rows.Key.{Key}
 use Rattle.dv_text.specs.Keys.{Hashes}
 use Rattle.dv_text.specs.Sorting.{sorted_by}
+use Rattle.dv_index.specs.Places.{has_load}
 use Rattle.dv_records.specs.declared.raw_rows.EffectRow.{EffectRow}
 use Rattle.dv_records.specs.Batches.{appended, digest_cmp}
 use Rattle.dv_records.specs.Collisions.{IsApart}
 use Rattle.dv_records.specs.EffectPeriods.{in_effect_since, opened_by}
+use Rattle.dv_records.specs.EffectPlaces.{effect_place}
 use Rattle.dv_records.specs.Effects.{effect_batch, effect_cmp, span_between}
 use Rattle.dv_records.specs.History.{Extract, lists_of, AreNewestFirst}
 use Rattle.dv_track.specs.Tracks.{hashes_in, is_among}
@@ -26,14 +28,6 @@ parents_of rows = map (λ row. row.parent) rows
 -- what an effectivity row says; where there is none, the parent isn't in effect
 abbrev pub says_in_effect : Option EffectRow → Bool
 says_in_effect row = is_some (option_and_then opened_by row)
-
--- whether no row is later than a date
-abbrev pub are_up_to : List EffectRow → ℕ → Bool
-are_up_to rows date = list_all (λ row. nat_le row.load date) rows
-
--- whether a row has this load date
-abbrev pub has_load : List EffectRow → ℕ → Bool
-has_load rows load = list_any (λ row. row.load == load) rows
 
 -- the row of a digest that was in effect since a date, or wasn't, and is in the extract, or isn't: none where that goes on
 abbrev pub effect_between : List ℕ → ℕ → List ℕ → Option ℕ → Bool → Option EffectRow
@@ -64,7 +58,7 @@ effect_changes source rows load now = filter_map (effect_change source rows load
 -- what an extract with these hash keys adds to a table: a row for each digest of the table or of the keys with which a run
 -- begins or ends; nothing where the table has a row of this load date
 abbrev pub keys_delta : List ℕ → List EffectRow → ℕ → List (List ℕ) → List EffectRow
-keys_delta source rows load keys = if has_load rows load then [] else effect_changes source rows load keys
+keys_delta source rows load keys = if has_load effect_place rows load then [] else effect_changes source rows load keys
 
 -- what the reference lists of an extract add, by hash key
 abbrev pub effect_delta : Hashes → List ℕ → List EffectRow → ℕ → List (List Key) → List EffectRow

@@ -1,13 +1,13 @@
 -- The list of parents that are there after the last row of a table, and how rows and extracts change it.
-use Rattle.std.specs.Prelude.{◌≡◌, ℕ, nat_le, Bool, true, false, not, List, [], ◌∷◌, ◌++◌, Option, Some, None, filter}
-use Rattle.std.specs.List.{filter_map, list_all}
+use Rattle.std.specs.Prelude.{◌≡◌, ℕ, Bool, true, false, not, List, [], ◌∷◌, ◌++◌, Option, Some, None, filter}
+use Rattle.std.specs.List.{filter_map}
 use Rattle.std.specs.Option.{option_map}
 use Rattle.std.specs.Ordering.{is_lt}
 use Rattle.std.specs.declared.cmp.Ordering.{Ordering}
 use Rattle.std.specs.declared.cmp.Ordering.TheVariants.{Equal, Greater, Less}
 use Rattle.dv_text.specs.Sorting.{sorted_by}
 use Rattle.dv_index.specs.Numbers.{parents_of}
-use Rattle.dv_index.specs.Places.{Place, latest_at}
+use Rattle.dv_index.specs.Places.{Place, latest_at, none_later}
 use Rattle.dv_records.specs.declared.raw_rows.StatusRow.{StatusRow}
 use Rattle.dv_records.specs.Batches.{digest_cmp}
 use Rattle.dv_records.specs.Statuses.{code_between}
@@ -21,10 +21,6 @@ there_at place says rows parent date = says (latest_at place rows parent date)
 -- the parents that are there at a date, in order
 abbrev pub parents_there : {X : Type 0} → (X → Place) → (Option X → Bool) → List X → ℕ → List (List ℕ)
 parents_there place says rows date = filter (λ parent. there_at place says rows parent date) (sorted_by digest_cmp (parents_of place rows))
-
--- whether no row is later than a date
-abbrev pub none_later : {X : Type 0} → (X → Place) → List X → ℕ → Bool
-none_later place rows date = list_all (λ row. nat_le (place row).load date) rows
 
 -- parents are those that are there after the last row: at each date that no row is later than
 abbrev pub AreThere : {X : Type 0} → (X → Place) → (Option X → Bool) → List X → List (List ℕ) → Type 0

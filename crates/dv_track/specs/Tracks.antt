@@ -1,6 +1,6 @@
 -- Status tables row by row: what an extract adds to a table, by the hash keys alone.
-use Rattle.std.specs.Prelude.{◌≡◌, ℕ, ◌==◌, nat_le, Bool, List, [], ◌∷◌, ◌++◌, Option, map, if◌then◌else◌}
-use Rattle.std.specs.List.{filter_map, list_all, list_any}
+use Rattle.std.specs.Prelude.{◌≡◌, ℕ, Bool, List, [], ◌∷◌, ◌++◌, Option, map, if◌then◌else◌}
+use Rattle.std.specs.List.{filter_map, list_any}
 use Rattle.std.specs.Option.{option_map}
 use Rattle.std.specs.Ordering.{nat_cmp, ordering_then}
 use Rattle.std.specs.Str.{bytes_eq}
@@ -8,12 +8,14 @@ use Rattle.std.specs.declared.cmp.Ordering.{Ordering}
 use Rattle.dv_text.specs.declared.rows.Key.{Key}
 use Rattle.dv_text.specs.Keys.{Hashes}
 use Rattle.dv_text.specs.Sorting.{sorted_by}
+use Rattle.dv_index.specs.Places.{has_load}
 use Rattle.dv_records.specs.declared.raw_rows.StatusRow.{StatusRow}
 use Rattle.dv_records.specs.Batches.{appended, digest_cmp}
 use Rattle.dv_records.specs.Collisions.{IsApart}
 use Rattle.dv_records.specs.History.{Extract, lists_of, AreNewestFirst}
 pub use Rattle.dv_records.specs.ReadBack.{present_parents}
 use Rattle.dv_records.specs.Reconstruction.{present_at}
+use Rattle.dv_records.specs.StatusPlaces.{status_place}
 use Rattle.dv_records.specs.Statuses.{code_between, status_batch}
 
 -- the order of a status table: by load date, then by parent
@@ -23,14 +25,6 @@ status_order a b = ordering_then (nat_cmp a.load b.load) (digest_cmp a.parent b.
 -- the parents of rows, in their order
 abbrev pub parents_of : List StatusRow → List (List ℕ)
 parents_of rows = map (λ row. row.parent) rows
-
--- whether no row is later than a date
-abbrev pub are_up_to : List StatusRow → ℕ → Bool
-are_up_to rows date = list_all (λ row. nat_le row.load date) rows
-
--- whether a row has this load date
-abbrev pub has_load : List StatusRow → ℕ → Bool
-has_load rows load = list_any (λ row. row.load == load) rows
 
 -- the hash keys of reference lists
 abbrev pub hashes_in : Hashes → List (List Key) → List (List ℕ)
@@ -54,7 +48,7 @@ status_changes source rows load now = filter_map (status_change source rows load
 -- what an extract with these hash keys adds to a table: a row for each digest of the table or of the keys that appeared
 -- or vanished; nothing where the table has a row of this load date
 abbrev pub keys_delta : List ℕ → List StatusRow → ℕ → List (List ℕ) → List StatusRow
-keys_delta source rows load keys = if has_load rows load then [] else status_changes source rows load keys
+keys_delta source rows load keys = if has_load status_place rows load then [] else status_changes source rows load keys
 
 -- what the reference lists of an extract add, by hash key
 abbrev pub status_delta : Hashes → List ℕ → List StatusRow → ℕ → List (List Key) → List StatusRow

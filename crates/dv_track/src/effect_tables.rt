@@ -3,10 +3,12 @@ ghost use Rattle.std.specs.List.Sorted.{IsStrictlySortedBy};
 ghost use Rattle.dv_text.specs.Keys.{Hashes};
 ghost use Rattle.dv_digest.specs.HashedExtracts.{HasKeys};
 ghost use Rattle.dv_catalog.specs.Feeds.{source};
+ghost use Rattle.dv_index.specs.Places.{has_load, none_later};
 ghost use Rattle.dv_records.specs.Batches.{digest_cmp};
 ghost use Rattle.dv_records.specs.EffectPeriods.{effect_periods, in_effect_since};
+ghost use Rattle.dv_records.specs.EffectPlaces.{effect_place};
 ghost use Rattle.dv_records.specs.History.{all_refs};
-ghost use Rattle.dv_track.specs.EffectRows.{are_up_to, effect_changes, effect_delta, effect_order, effect_turn, effect_turns, keys_delta, IsEffectBatchAfter};
+ghost use Rattle.dv_track.specs.EffectRows.{effect_changes, effect_delta, effect_order, effect_turn, effect_turns, keys_delta, IsEffectBatchAfter};
 ghost use Rattle.dv_track.specs.EffectRows as spec;
 
 use crate::changes::add;
@@ -117,8 +119,8 @@ impl EffectTable {
 
     // Whether the last row has a load date: no row has it where that one hasn't.
     fn has_load(&self, load: Stamp) -> bool
-        requires { IsTrue (are_up_to self.now.rows load) }
-        ensures value { result ≡ spec.has_load self.now.rows load }
+        requires { IsTrue (none_later effect_place self.now.rows load) }
+        ensures value { result ≡ has_load effect_place self.now.rows load }
         ensures ascending { IsStrictlySortedBy effect_order self.now.rows }
     {
         match self.tracked.rows().last() {
@@ -176,7 +178,7 @@ impl EffectTable {
         source: &Text,
         keys: &List<Digest>,
     ) -> Result<List<EffectRow>, Memory>
-        requires { IsTrue (are_up_to self.now.rows load) }
+        requires { IsTrue (none_later effect_place self.now.rows load) }
         ensures { IfOk result (λ made. made ≡ effect_changes source.now self.now.rows load keys.now) }
     {
         let keys = keys.copy()?;
@@ -210,7 +212,7 @@ impl EffectTable {
         catalog: &Catalog,
     ) -> Result<List<EffectRow>, Memory>
         requires feed { extract.now.staged.now.feed < length catalog.now.feeds }
-        requires not_later { IsTrue (are_up_to self.now.rows load) }
+        requires not_later { IsTrue (none_later effect_place self.now.rows load) }
         ensures delta { (hashes : Hashes) → HasKeys hashes extract.now → IfOk result (λ rows. rows ≡ effect_delta hashes (source catalog.now extract.now.staged.now.feed) self.now.rows load (all_refs extract.now.staged.now.rows)) }
         ensures stamped { IfOk result (All (λ row. row.load ≡ load)) }
         ensures follows { IfOk result (λ rows. IsStrictlySortedBy effect_order (self.now.rows ++ rows)) }
@@ -228,7 +230,7 @@ impl EffectTable {
         catalog: &Catalog,
     ) -> Result<List<EffectRow>, Memory>
         requires feed { extract.now.staged.now.feed < length catalog.now.feeds }
-        requires not_later { IsTrue (are_up_to self.now.rows load) }
+        requires not_later { IsTrue (none_later effect_place self.now.rows load) }
         ensures value { IfOk result (λ rows. rows ≡ keys_delta (source catalog.now extract.now.staged.now.feed) self.now.rows load extract.now.keys) }
         ensures order { IsStrictlySortedBy effect_order self.now.rows }
     {

@@ -1,10 +1,10 @@
 // The load dates of rows in load order, which the last row tells.
 ghost use Rattle.std.specs.Prelude.{◌≡◌, IsTrue};
 ghost use Rattle.std.specs.List.Sorted.{IsStrictlySortedBy};
-ghost use Rattle.dv_index.specs.Places.{are_in_load_order};
-ghost use Rattle.dv_track.specs.Presences.{none_later};
-ghost use Rattle.dv_track.specs.Tracks.{are_up_to, status_order};
-ghost use Rattle.dv_track.specs.Tracks as spec;
+ghost use Rattle.dv_index.specs.Places as places;
+ghost use Rattle.dv_index.specs.Places.{are_in_load_order, none_later};
+ghost use Rattle.dv_records.specs.StatusPlaces.{status_place};
+ghost use Rattle.dv_track.specs.Tracks.{status_order};
 
 use dv_index::Placed;
 use dv_records::StatusRow;
@@ -24,8 +24,8 @@ pub(crate) fn last_load<R: Placed>(rows: &[R]) -> Stamp
 // Whether a row has this load date, where none is later. Takes no memory.
 pub(crate) fn has_load(rows: &[StatusRow], load: Stamp) -> bool
     requires order { IsStrictlySortedBy status_order rows.now }
-    requires not_later { IsTrue (are_up_to rows.now load) }
-    ensures { result ≡ spec.has_load rows.now load }
+    requires not_later { IsTrue (none_later status_place rows.now load) }
+    ensures { result ≡ places.has_load status_place rows.now load }
 {
     match rows.last() {
         Some(row) => row.load == load,

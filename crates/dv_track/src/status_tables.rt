@@ -3,9 +3,12 @@ ghost use Rattle.std.specs.List.Sorted.{IsStrictlySortedBy};
 ghost use Rattle.dv_text.specs.Keys.{Hashes};
 ghost use Rattle.dv_digest.specs.HashedExtracts.{HasKeys};
 ghost use Rattle.dv_catalog.specs.Feeds.{source};
+ghost use Rattle.dv_index.specs.Places as places;
+ghost use Rattle.dv_index.specs.Places.{none_later};
 ghost use Rattle.dv_records.specs.History.{all_refs};
 ghost use Rattle.dv_records.specs.Reconstruction.{present_at};
-ghost use Rattle.dv_track.specs.Tracks.{are_up_to, keys_delta, present_parents, status_changes, status_delta, status_order, IsBatchAfter};
+ghost use Rattle.dv_records.specs.StatusPlaces.{status_place};
+ghost use Rattle.dv_track.specs.Tracks.{keys_delta, present_parents, status_changes, status_delta, status_order, IsBatchAfter};
 ghost use Rattle.dv_track.specs.Tracks as spec;
 
 use crate::changes::changes_between;
@@ -120,8 +123,8 @@ impl StatusTable {
     }
 
     fn has_load(&self, load: Stamp) -> bool
-        requires { IsTrue (are_up_to self.now.rows load) }
-        ensures value { result ≡ spec.has_load self.now.rows load }
+        requires { IsTrue (none_later status_place self.now.rows load) }
+        ensures value { result ≡ places.has_load status_place self.now.rows load }
         ensures ascending { IsStrictlySortedBy status_order self.now.rows }
     {
         has_load(self.tracked.rows(), load)
@@ -134,7 +137,7 @@ impl StatusTable {
         source: &Text,
         keys: &List<Digest>,
     ) -> Result<List<StatusRow>, Memory>
-        requires { IsTrue (are_up_to self.now.rows load) }
+        requires { IsTrue (none_later status_place self.now.rows load) }
         ensures { IfOk result (λ made. made ≡ status_changes source.now self.now.rows load keys.now) }
     {
         let keys = keys.copy()?;
@@ -156,7 +159,7 @@ impl StatusTable {
         catalog: &Catalog,
     ) -> Result<List<StatusRow>, Memory>
         requires feed { extract.now.staged.now.feed < length catalog.now.feeds }
-        requires not_later { IsTrue (are_up_to self.now.rows load) }
+        requires not_later { IsTrue (none_later status_place self.now.rows load) }
         ensures delta { (hashes : Hashes) → HasKeys hashes extract.now → IfOk result (λ rows. rows ≡ status_delta hashes (source catalog.now extract.now.staged.now.feed) self.now.rows load (all_refs extract.now.staged.now.rows)) }
         ensures stamped { IfOk result (All (λ row. row.load ≡ load)) }
         ensures follows { IfOk result (λ rows. IsStrictlySortedBy status_order (self.now.rows ++ rows)) }
@@ -174,7 +177,7 @@ impl StatusTable {
         catalog: &Catalog,
     ) -> Result<List<StatusRow>, Memory>
         requires feed { extract.now.staged.now.feed < length catalog.now.feeds }
-        requires not_later { IsTrue (are_up_to self.now.rows load) }
+        requires not_later { IsTrue (none_later status_place self.now.rows load) }
         ensures value { IfOk result (λ rows. rows ≡ keys_delta (source catalog.now extract.now.staged.now.feed) self.now.rows load extract.now.keys) }
         ensures order { IsStrictlySortedBy status_order self.now.rows }
     {

@@ -1,11 +1,10 @@
 -- The rows that an extract reads as, where it breaks no rule, have the form of the feed.
-use Rattle.dv_window_rules.proofs.Vocabulary.{Bool, Contains, Contains-append_left, Contains-append_right, Contains-cons_cases, Contains-cons_here, Contains-cons_there, Contains-flat_map, Contains-map, Contains-nil, FeedDef, HasForm, HasNoRivals, Key, List, Mapping, NRow, None, Option, Rule}
-use Rattle.dv_window_rules.proofs.Vocabulary.{Some, Taken, ValidFeed, [], all_pass, and_parts, ap, apart_more, append-nil, append_assoc, are_rivals, are_rows_of, arith, ascending-sorted_by, bytes_eq, common_steps, driver_keys, eq-eqb, eqb-true, false, fields_under, filter, filter_map}
-use Rattle.dv_window_rules.proofs.Vocabulary.{filter_map_member, filtered_members, first_of, fit_hubs, fits_hub, got_from, got_member, header_names, header_rule, holds_of_each_two, inl, inr, is_among, is_field, is_key_part, is_missing, is_one_partner, is_placed, is_some, key_cmp-IsAntisymmetric}
-use Rattle.dv_window_rules.proofs.Vocabulary.{key_under, le-leb, length, length-map, length-sorted_by, list_all, list_any, ltb-false, map, map_member, mapped_columns, member_after_sort, member_before_sort, missing_column, most_field_bytes, most_records, nat_lt, nat_tests, nil_from_length}
-use Rattle.dv_window_rules.proofs.Vocabulary.{none_before_map, none_behind, none_passes, norm_field, norm_key, not, of_each_two, option_and_then, or_none, or_right, part_ways, parts_of, passes_where_none_fails, place_of, placed_within, position, record_rule, records_read, records_rule, refl}
-use Rattle.dv_window_rules.proofs.Vocabulary.{refs_cmp, row_cmp, row_of, row_total, rows_hold, rule_or_rows, rules, shared_drivers, slice_cmp-IsAntisymmetric, slice_get, some_passes_at, sorted_by, subst, suc, sym, texts_eq-Decides, true, two_drivers, zip, ℕ, ◌++◌, ◌+◌, ◌==◌, ◌||◌, ◌∙◌, ◌∷◌, ◌≡◌}
-use Rattle.dv_window_rules.proofs.Vocabulary.{◌≤◌}
+use Rattle.dv_window_rules.proofs.Vocabulary.{Bool, Contains, Contains-append_left, Contains-append_right, Contains-cons_cases, Contains-cons_here, Contains-cons_there, Contains-flat_map, Contains-map, Contains-nil, FeedDef, HasForm, HasNoRivals, Key, List, Mapping, NRow, None, Option, Rule, Some}
+use Rattle.dv_window_rules.proofs.Vocabulary.{Taken, ValidFeed, [], all_pass, and_parts, ap, apart_more, append-nil, append_assoc, are_rivals, are_rows_of, arith, ascending-sorted_by, bytes_eq, common_steps, driver_keys, eq-eqb, eqb-true, false, fields_under, filter, filter_map, filter_map_member}
+use Rattle.dv_window_rules.proofs.Vocabulary.{filtered_members, first_of, fit_hubs, fits_hub, got_from, got_member, header_names, header_rule, holds_of_each_two, inl, inr, is_among, is_field, is_key_part, is_missing, is_one_partner, is_placed, is_some, key_cmp-IsAntisymmetric, key_under, le-leb}
+use Rattle.dv_window_rules.proofs.Vocabulary.{length, length-map, length-sorted_by, list_all, list_any, ltb-false, map, map_member, mapped_columns, member_after_sort, member_before_sort, missing_column, most_field_bytes, most_records, nat_lt, nat_tests, nil_from_length, none_before_map}
+use Rattle.dv_window_rules.proofs.Vocabulary.{none_behind, none_passes, norm_field, norm_key, not, of_each_two, option_and_then, or_none, or_right, part_ways, parts_of, passes_where_none_fails, place_of, placed_within, position, record_rule, records_read, records_rule, refl, refs_cmp, row_cmp}
+use Rattle.dv_window_rules.proofs.Vocabulary.{row_of, row_total, rows_hold, rule_or_rows, rules, shared_drivers, slice_cmp-IsAntisymmetric, slice_get, some_passes_at, sorted_by, subst, suc, sym, texts_eq-Decides, true, two_drivers, zip, ℕ, ◌++◌, ◌+◌, ◌==◌, ◌||◌, ◌∙◌, ◌∷◌, ◌≡◌, ◌≤◌}
 use Rattle.dv_window_rules.proofs.NormalForms.{norm_field-itself, norm_field-short, norm_key-itself, norm_key-short}
 
 -- ---- no refusal
