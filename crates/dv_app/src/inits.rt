@@ -40,6 +40,7 @@ fn put<K: Keeper>(alloc: Global, keeper: &mut K, file: &MappingFile) -> InitAnsw
 fn compare(stored: &Catalog, file: &MappingFile) -> InitAnswer
     ensures { Compares stored.now file.now.catalog result }
 {
+    // As they read, and not their texts: other comments or another order of keys make no other mapping.
     if !stored.same(&file.catalog) {
         return InitAnswer::Differs;
     }

@@ -132,6 +132,7 @@ impl<R: Threads + Sync, K: Keeper, H: KeyDigest, G: Gate> Desk<'_, '_, '_, '_, '
         ensures place { places self.new ≡ places self.old }
     {
         match asked_by(request) {
+            // What no store changes is answered without a look at it, also by a stale office.
             Routed::NotFound => Answer::NotFound,
             Routed::NotAllowed { methods } => Answer::NotAllowed { methods },
             Routed::Load { body } => match self.refresh() {

@@ -166,6 +166,7 @@ pub(crate) fn path_mart_text(
     let definition = catalog.path(path);
     let missing = missing_keys(vault)?;
     let feeds = definition.feeds.items();
+    // In the order of their keys: then the ways come in the order of the mart, and are not sorted.
     let links = all_sorted_links(alloc, vault, missing.items(), feeds, date)?;
     let ways = path_ways(alloc, catalog, definition, &links)?;
     let header = path_header(alloc, catalog, feeds)?;

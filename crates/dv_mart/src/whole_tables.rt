@@ -38,6 +38,7 @@ fn put_raw_rows<W: Write + Drop>(
         Rows::Multis(rows) => put_rows(writer, fields, rows.items()),
         Rows::Statuses(rows) => put_rows(writer, fields, rows.items()),
         Rows::Effects(rows) => put_rows(writer, fields, rows.items()),
+        // Rows of a snapshot stand in no raw table.
         Rows::Pits(_) | Rows::Bridges(_) => Ok(()),
     }
 }

@@ -162,6 +162,7 @@ pub fn read_store<K: Keeper, H: KeyDigest>(
 {
     let heads = stored_heads(alloc, keeper, &catalog)?;
     let stage = stored_stage(alloc, keeper, &catalog, heads.items())?;
+    // Rows of the open window are there too, so its load date is one that rows may have.
     let known = all_heads(alloc, &heads, &stage)?;
     let read = read_tables(alloc, keeper, &catalog, known.items(), digest)?;
     let snapshots = stored_snapshots(alloc, keeper, heads.items())?;

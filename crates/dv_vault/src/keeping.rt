@@ -269,6 +269,7 @@ impl Vault {
         ensures cause { IfErr result (λ untaken. untaken.error ≡ KeeperError.Failed → Rose (K.faults keeper.old) (K.faults keeper.new)) }
     {
         let alloc = self.heads.allocator();
+        // Before the store changes, so that nothing needs memory behind its last call.
         let Ok(head) = make_room(alloc, &mut self.raw.tables, &mut self.heads, &begun) else {
             return Err(unopened(KeeperError::Memory, is_open, begun));
         };

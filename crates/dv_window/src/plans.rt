@@ -96,6 +96,7 @@ impl Office {
         ensures feeds { IfSome result (λ head. IsTrue (list_all (λ feed. nat_lt feed (length self.now.vault.mapping.feeds)) head.now.feeds)) }
     {
         let heads = self.heads().items();
+        // The load dates ascend: a window later than the last one is not looked for among many.
         if self.is_later(load) {
             return None;
         }

@@ -72,6 +72,7 @@ impl Office {
         if !self.stale {
             return Ok(());
         }
+        // The mapping first: rows under another one would be held to rules that are not theirs.
         let catalog = self.same_mapping(keeper)?;
         let alloc = self.allocator();
         let restored = read_store(alloc, keeper, catalog, digest)?;

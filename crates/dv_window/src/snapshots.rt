@@ -79,6 +79,7 @@ impl Office {
         ensures cause { KeeperCause (K.faults keeper.old) (K.faults keeper.new) result }
     {
         let alloc = self.allocator();
+        // Before the store changes, so that nothing needs memory behind the call.
         let snapshots = with_head(alloc, self.snapshots.items(), *head)?;
         if let Err(error) = keeper.put_snapshot(alloc, head, tables) {
             self.stale = is_failed(error);
