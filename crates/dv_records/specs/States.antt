@@ -39,6 +39,10 @@ all_windows state = state.sealed ++ option_to_list state.begun
 abbrev pub last_load : List Window → Option ℕ
 last_load sealed = last_or None (map (λ window. window.load) sealed)
 
+-- the load date of the last of the sealed windows, which have these heads
+abbrev pub last_sealed : List WindowHead → Option ℕ
+last_sealed heads = last_or None (map (λ head. head.load) heads)
+
 -- a window's load date and feeds
 abbrev pub head_of : Window → WindowHead
 head_of window = record { load = window.load; feeds = map (λ staged. staged.feed) window.extracts }

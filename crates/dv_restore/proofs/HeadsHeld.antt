@@ -1,28 +1,11 @@
 -- What holds of the heads of sealed windows that break no rule: none is later than the last one, and their feeds are in the
 -- mapping.
-use Rattle.dv_restore.proofs.Vocabulary.{Bool, List, Mapping, None, Option, Some, WindowHead, [], and_from, and_parts, ap, append-nil, append_assoc, are_feeds, arith, ascends, eqb-true, false, false≢true, first_along, flaw_behind, get_or, head_flaw, head_rule, held, inl, inr, is_head, is_later}
-use Rattle.dv_restore.proofs.Vocabulary.{is_loaded, last_is, last_map, last_or, last_sealed, length, list_all, list_any-append, ltb-true, map, map-append, most_windows, nat_lt, none_before_map, option_map, or_none, refl, rules, slice_get, slice_get-get_or, subst, sym, true, ℕ, ◌&&◌, ◌++◌, ◌-◌}
-use Rattle.dv_restore.proofs.Vocabulary.{◌<◌, ◌==◌, ◌||◌, ◌∙◌, ◌∷◌, ◌≡◌, ◌≤◌, ◌⊎◌}
+use Rattle.dv_restore.proofs.Vocabulary.{Bool, List, Mapping, None, Some, WindowHead, [], and_from, and_parts, append-nil, append_assoc, are_feeds, arith, ascends, eqb-true, false, false≢true, first_along, flaw_behind, head_flaw, head_rule, held, inl, inr, is_head, is_later}
+use Rattle.dv_restore.proofs.Vocabulary.{is_loaded, last_sealed, length, list_all, list_any-append, ltb-true, most_windows, nat_lt, none_before_map, or_none, refl, rules, subst, sym, true, ℕ, ◌&&◌, ◌++◌, ◌-◌}
+use Rattle.dv_restore.proofs.Vocabulary.{last_pushed, ◌<◌, ◌==◌, ◌||◌, ◌∙◌, ◌∷◌, ◌≡◌, ◌≤◌, ◌⊎◌}
 
 pub some_of : (a b : Bool) → (a || b) ≡ true → (a ≡ true) ⊎ (b ≡ true)
 some_of a b e = search rules
-
--- the last item, told in two ways
-pub last_two_ways : {X : Type 0} (xs : List X) → last_or None xs ≡ slice_get xs (length xs - 1)
-last_two_ways [] = refl
-last_two_ways (x ∷ xs) =
-    let there = slice_get-get_or (x ∷ xs) (length (x ∷ xs) - 1) x (omega arith) in
-    last_is None (x ∷ xs) (get_or (x ∷ xs) (length (x ∷ xs) - 1) x) (sym there) ∙ sym there
-
-pub last_sealed_is : (heads : List WindowHead) → last_sealed heads ≡ option_map (λ (head : WindowHead). head.load) (slice_get heads (length heads - 1))
-last_sealed_is heads = last_map (λ (head : WindowHead). head.load) None heads ∙ ap (option_map (λ (head : WindowHead). head.load)) (last_two_ways heads)
-
-pub last_or_pushed : {X : Type 0} (o : Option X) (xs : List X) (x : X) → last_or o (xs ++ x ∷ []) ≡ Some x
-last_or_pushed o [] x = refl
-last_or_pushed o (first ∷ xs) x = last_or_pushed (Some first) xs x
-
-pub last_pushed : (heads : List WindowHead) (head : WindowHead) → last_sealed (heads ++ head ∷ []) ≡ Some head.load
-last_pushed heads head = ap (last_or None) (map-append (λ (head : WindowHead). head.load) heads (head ∷ [])) ∙ last_or_pushed None (map (λ (head : WindowHead). head.load) heads) head.load
 
 -- a load date that a head has is not later than that of the last one, which is there
 pub record IsUpTo (heads : List WindowHead) (load : ℕ) : Type 0 where

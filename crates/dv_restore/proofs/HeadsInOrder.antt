@@ -1,14 +1,14 @@
 -- The load dates of sealed windows ascend where their heads break no rule, and with one more that is later than the last.
-use Rattle.dv_restore.proofs.Vocabulary.{List, Mapping, None, WindowHead, [], ap, append-nil, append_assoc, are_in_order, ascends, first_along, flaw_behind, head_flaw, head_rule, last_head, late_after, loads_ascend, map, map-append, none_before_map, or_none, refl, subst, sym, true}
+use Rattle.dv_restore.proofs.Vocabulary.{List, Mapping, None, WindowHead, [], ap, append-nil, append_assoc, are_in_order, ascends, first_along, flaw_behind, head_flaw, head_rule, last_sealed, late_after, loads_ascend, map, map-append, none_before_map, or_none, refl, subst, sym, true}
 use Rattle.dv_restore.proofs.Vocabulary.{ℕ, ◌++◌, ◌∙◌, ◌∷◌, ◌≡◌}
-use Rattle.dv_restore.proofs.{HeadsHeld.head_holds, HeadsHeld.last_sealed_is, KeptTables.not_late}
+use Rattle.dv_restore.proofs.{HeadsHeld.head_holds, KeptTables.not_late}
 
 -- their load dates, and one that is later than the last
-pub later_ascends : (heads : List WindowHead) (load : ℕ) → are_in_order heads ≡ true → late_after (last_head heads) load ≡ None → ascends (map (λ head. head.load) heads ++ load ∷ []) ≡ true
+pub later_ascends : (heads : List WindowHead) (load : ℕ) → are_in_order heads ≡ true → late_after (last_sealed heads) load ≡ None → ascends (map (λ head. head.load) heads ++ load ∷ []) ≡ true
 later_ascends heads load up late =
-    loads_ascend (map (λ (head : WindowHead). head.load) heads) load up (ap (λ last. late_after last load) (last_sealed_is heads) ∙ late)
+    loads_ascend (map (λ (head : WindowHead). head.load) heads) load up late
 
-pub one_later : (heads : List WindowHead) (head : WindowHead) → are_in_order heads ≡ true → late_after (last_head heads) head.load ≡ None → are_in_order (heads ++ head ∷ []) ≡ true
+pub one_later : (heads : List WindowHead) (head : WindowHead) → are_in_order heads ≡ true → late_after (last_sealed heads) head.load ≡ None → are_in_order (heads ++ head ∷ []) ≡ true
 one_later heads head up late = ap ascends (map-append (λ (head : WindowHead). head.load) heads (head ∷ [])) ∙ later_ascends heads head.load up late
 
 module _ (mapping : Mapping) where

@@ -1,9 +1,9 @@
 -- The tables of the sealed windows are those of a vault: no row of them is later than the last head.
-use Rattle.dv_restore.proofs.Vocabulary.{Bool, Bridges, Effect, Effects, Hubs, IsVaultOf, Links, List, Mapping, Multi, Multis, None, Option, Pits, Rows, Sat, Sats, Some, Status, Statuses, TableId, TableRows, Window, WindowHead, [], all_pass_weaker, and_from, and_parts, ap, are_empty, are_loaded}
-use Rattle.dv_restore.proofs.Vocabulary.{are_rows_kept, are_up_to, arith, entry_before, eq-eqb, eqb-true, false, false≢true, filter, head_of, inl, inr, is_later, is_loaded, is_of_kind, is_up_to, last_head, last_sealed, late_after, le-leb, leb-true, list_all, list_any-append, loads_of, ltb-true}
+use Rattle.dv_restore.proofs.Vocabulary.{Bool, Bridges, Effect, Effects, Hubs, IsVaultOf, Links, List, Mapping, Multi, Multis, None, Option, Pits, Rows, Sat, Sats, Some, Status, Statuses, TableId, TableRows, Window, WindowHead, [], all_pass_weaker, and_from, and_parts, are_empty, are_loaded}
+use Rattle.dv_restore.proofs.Vocabulary.{are_rows_kept, are_up_to, arith, entry_before, eq-eqb, eqb-true, false, false≢true, filter, head_of, inl, inr, is_later, is_loaded, is_of_kind, is_up_to, last_pushed, last_sealed, late_after, le-leb, leb-true, list_all, list_any-append, loads_of, ltb-true}
 use Rattle.dv_restore.proofs.Vocabulary.{map, map-map, nat_le, nat_lt, not, option_map_or, refl, row_count, rows_before, sym, true, ℕ, ◌++◌, ◌<◌, ◌==◌, ◌∙◌, ◌∷◌, ◌≡◌}
 use Rattle.dv_catalog.specs.declared.tables.TableId.TheVariants.{Hub, Link}
-use Rattle.dv_restore.proofs.{HeadsHeld.EndLast, HeadsHeld.last_pushed, HeadsHeld.last_sealed_is, HeadsHeld.one_more, HeadsHeld.some_of, RowLoads.are_of_kinds}
+use Rattle.dv_restore.proofs.{HeadsHeld.EndLast, HeadsHeld.one_more, HeadsHeld.some_of, RowLoads.are_of_kinds}
 
 -- ---- no row is later than the last head
 
@@ -40,7 +40,7 @@ all_empty heads never (entry ∷ entries) kinds loaded =
     and_from _ _ (no_rows_left entry.table entry.rows kind (none_passes_all (is_loaded heads) (loads_of entry.rows) never here)) (all_empty heads never entries other_kinds rest)
 
 pub rows_kept : (heads : List WindowHead) (entries : List TableRows) → EndLast heads → are_of_kinds entries ≡ true → are_loaded heads entries ≡ true → are_rows_kept heads entries ≡ true
-rows_kept heads entries ends kinds loaded = ap (λ last. option_map_or (λ last. are_up_to last entries) last (are_empty entries)) (sym (last_sealed_is heads)) ∙ by (last_sealed heads) refl
+rows_kept heads entries ends kinds loaded = by (last_sealed heads) refl
   where
     by : (o : Option ℕ) → last_sealed heads ≡ o → option_map_or (λ last. are_up_to last entries) o (are_empty entries) ≡ true
     by None none = all_empty heads (λ load e. let up = ends load e in let no : None ≡ Some up.last = sym none ∙ up.is in cc) entries kinds loaded
@@ -48,8 +48,8 @@ rows_kept heads entries ends kinds loaded = ap (λ last. option_map_or (λ last.
 
 -- ---- the open window is later
 
-pub not_late : (heads : List WindowHead) (load : ℕ) → is_later heads load ≡ true → late_after (last_head heads) load ≡ None
-not_late heads load later = ap (λ last. late_after last load) (sym (last_sealed_is heads)) ∙ by (last_sealed heads) later
+pub not_late : (heads : List WindowHead) (load : ℕ) → is_later heads load ≡ true → late_after (last_sealed heads) load ≡ None
+not_late heads load later = by (last_sealed heads) later
   where
     by : (o : Option ℕ) → option_map_or (λ last. nat_lt last load) o true ≡ true → late_after o load ≡ None
     by None e = refl

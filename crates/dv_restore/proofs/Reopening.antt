@@ -1,6 +1,6 @@
 -- The open window over the vault of the sealed ones: what its tables have of it, and what they lack.
 use Rattle.dv_restore.proofs.Vocabulary.{All, All-append, All-cons, All-head, All-nil, All-tail, AllZip, AreOfLoad, AreParted, ArePartsOf, Begun, Bool, EndsAt, Fits, Follow, FollowAll, HasPlace, Hashes, IsBegunOf, IsStrictlySortedBy, List, Mapping, None, Part, RawVault, Rows, Some, TableId}
-use Rattle.dv_restore.proofs.Vocabulary.{TableRows, Window, WindowHead, [], added_to, and_parts, ap, append_assoc, are_hub_rows, are_link_rows, effect_order, entries_with, entry_before, eqb-true, false, filter, first_one, is_of_kind, is_window, last_head, late_after, map, map-append, multi_order}
+use Rattle.dv_restore.proofs.Vocabulary.{TableRows, Window, WindowHead, [], added_to, and_parts, ap, append_assoc, are_hub_rows, are_link_rows, effect_order, entries_with, entry_before, eqb-true, false, filter, first_one, is_of_kind, is_window, last_sealed, late_after, map, map-append, multi_order}
 use Rattle.dv_restore.proofs.Vocabulary.{opened_in, refl, rest_in, row_count, rows_at, rows_before, rows_then, rows_there, rows_weight, sat_order, sealed_entry, sealed_vault, status_order, subst, sum_by, sym, tables_there, tables_weight, tables_whole, there_whole, true, vault_of, weight_grows}
 use Rattle.dv_restore.proofs.Vocabulary.{weight_with, whole_in, ℕ, ◌++◌, ◌+◌, ◌==◌, ◌∙◌, ◌∷◌, ◌≡◌}
 use Rattle.dv_restore.proofs.{Completing.added_kind, Completing.loaded_kind, RowLoads.are_of_kinds}
@@ -149,7 +149,7 @@ module _ (hashes : Hashes) (mapping : Mapping) (heads : List WindowHead) (window
           ∙ ap (λ (tables : List TableRows). tables_weight (entries_with tables (rest_in parts))) (sym entries_there)
           ∙ ap tables_weight (there_whole raw.tables parts own_kinds)
 
-      pub fits : (vault : RawVault) → vault ≡ raw → is_window mapping window ≡ true → late_after (last_head heads) window.load ≡ None → Fits vault begun
+      pub fits : (vault : RawVault) → vault ≡ raw → is_window mapping window ≡ true → late_after (last_sealed heads) window.load ≡ None → Fits vault begun
       fits vault is whole late = subst (λ (v : RawVault). Fits v begun) (sym is) (record {
         window = ap (is_window mapping) window_is ∙ whole;
         parts = own_kinds;
@@ -157,7 +157,7 @@ module _ (hashes : Hashes) (mapping : Mapping) (heads : List WindowHead) (window
           follow = parts_follow hashes mapping window entries parts kinds parted.whole dated follow.follow;
           stamped = parts_stamped hashes mapping window entries parts kinds dated rest_is follow.stamped;
         });
-        later = ap (λ (w : Window). late_after (last_head heads) w.load) window_is ∙ late;
+        later = ap (λ (w : Window). late_after (last_sealed heads) w.load) window_is ∙ late;
         weight = weighs;
       })
 

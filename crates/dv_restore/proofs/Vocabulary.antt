@@ -10,7 +10,7 @@ pub use Rattle.dv_store_rules.proofs.Vocabulary.{appended-history, are_apart, ar
 pub use Rattle.dv_store_rules.proofs.Vocabulary.{code_of, codes, collision, collision_free, collision_in, damage_at, damage_in, deliveries, delivers, delivery-offered, drop, effect_batch, effect_cmp, effect_order, effect_place, effect_row, effect_rule, eq-eqb, eqb-true, err_from_is_err_and}
 pub use Rattle.dv_store_rules.proofs.Vocabulary.{extract-load, extract_of, false, false_from_ne_true, false≢true, feed_tables, find, first_along, first_flaw, first_of, flat_map, flaw_behind, flaw_in, form_damage, found_member, get_or, get_or_default, got_member, has_row_under, hashed_refs}
 pub use Rattle.dv_store_rules.proofs.Vocabulary.{hashes_of, head_damage, head_flaw, head_of, head_rule, history, hub_apart, hub_batch, hub_cmp, hub_place, hub_rows, hub_rows_in, hub_rule, if_broken, if_not, if_so, inl, inr, irreflexive, is_changed, is_delivered, is_head, is_known, is_later}
-pub use Rattle.dv_store_rules.proofs.Vocabulary.{is_loaded, is_missing, is_of_feed, is_of_kind, is_offered, is_stage, is_valid, is_window, known_before, known_hashed, last_load, last_or, last_sealed, leb-true, length, length-append, length-map, link_batch, link_cmp, link_place, link_rule}
+pub use Rattle.dv_store_rules.proofs.Vocabulary.{is_loaded, is_missing, is_of_feed, is_of_kind, is_offered, is_stage, is_valid, is_window, known_before, known_hashed, last_load, last_sealed, leb-true, length, length-append, length-map, link_batch, link_cmp, link_place, link_rule}
 pub use Rattle.dv_store_rules.proofs.Vocabulary.{list_all, list_any, load_order, lt-ltb, made_of, map-append, map-id, map-map, map_member, missing_refs, most_weight, most_windows, multi_batch, multi_cmp, multi_order, multi_place, multi_rule, nat_le, nat_lt, nat_tests, newest_first, newest_rows}
 pub use Rattle.dv_store_rules.proofs.Vocabulary.{no_rows, none_before_map, none_collide, none_passes, not, not-true, not_from_false, offered_refs, only_key, option_map, option_map_or, option_or, option_to_list, or_none, parent_hubs, parents, partial, passes_at, range_with_len, raw_damage}
 pub use Rattle.dv_store_rules.proofs.Vocabulary.{read_valid, refl, replicate, reverse, reverse-append, reverse_member, row_count, rows_in, rows_then, rows_weight, rules, run_begin, same_Some, same_table, sat_batch, sat_cmp, sat_order, sat_place, sat_row, sat_rule, slice_get, slice_get-get_or}
@@ -19,7 +19,7 @@ pub use Rattle.dv_store_rules.proofs.Vocabulary.{stored_entries, subst, suc, sum
 pub use Rattle.dv_store_rules.proofs.Vocabulary.{with_newest, zero, zero_key, ℕ, ◌&&◌, ◌++◌, ◌+◌, ◌-◌, ◌<◌, ◌==◌, ◌∙◌, ◌∷◌, ◌≡◌, ◌≤◌, ◌⊎◌}
 pub use Rattle.dv_vault.proofs.Vocabulary.{All, All-append, All-cons, All-contains, All-head, All-nil, All-push, All-tail, AllZip, AreOfLoad, ArePartsOf, Backwards, Bor, ClashesAt, Contains-get_or, Err, Fits, Follow, FollowAll, HasNoClash, HasSealed, Hashed, HubName, IfSome, IsBegunBehind}
 pub use Rattle.dv_vault.proofs.Vocabulary.{IsVaultOf, RawVault, TellLists, add-one, added_to, all_pass_both, are_empty, are_rows_kept, are_up_to, batch_at, drop-cons, effect_delta, effect_tables, entries_of, entries_with, entry_of, extract_added, feed_batch, filter-append, full_at}
-pub use Rattle.dv_vault.proofs.Vocabulary.{get_or-map-range_with_len, get_or_append_left, has_table, hashed_by, hashed_in, hub_hashed, hub_names, hubs_of, if◌then◌else◌, is_table_of, is_up_to, key_named, last_head, late_after, le-leb, length-map-range_with_len, length-range_with_len, link_hashed}
+pub use Rattle.dv_vault.proofs.Vocabulary.{get_or-map-range_with_len, get_or_append_left, has_table, hashed_by, hashed_in, hub_hashed, hub_names, hubs_of, if◌then◌else◌, is_table_of, is_up_to, key_named, late_after, le-leb, length-map-range_with_len, length-range_with_len, link_hashed}
 pub use Rattle.dv_vault.proofs.Vocabulary.{list_all-map, list_any-append, ltb-true, map, missing_in, multi_delta, nil_from_length, none_like, one_list, opened_in, parts_at, refs_cmp, refs_total, rest_in, reverse-reverse, rows_add_up, sat_delta, sat_tables, status_delta, stored, table_batch}
 pub use Rattle.dv_vault.proofs.Vocabulary.{tables_there, tables_whole, take_more, weight_with, whole_in, window_batches, ◌||◌}
 pub use Rattle.dv_catalog.proofs.TablesIn.{table_at}
@@ -38,7 +38,7 @@ pub use Rattle.dv_restore.specs.{Readings.IsRawDamage, Readings.TellsKnown, Read
 pub use Rattle.dv_restore.specs.{Sealed.sealed_of, Sealed.sealed_rows, Sealed.sealed_vault, Sealed.stored_vault, Sealed.vault_of}
 pub use Rattle.dv_restore.specs.declared.{faults.StoreFault.StoreFault, faults.StoreFault.TheVariants.Damaged, gathered.Gathered.Gathered}
 pub use Rattle.dv_sat.proofs.MultiDeltaBatch.{row_load as multi_stamped}
-pub use Rattle.dv_store_rules.proofs.{BatchRows.earlier_rows, FewerWindows.fewer_valid, FewerWindows.parts_of_valid, Flawless.none_along, Fronts.clear_whole, Fronts.read_tells, KnownSteps.feed_known, KnownSteps.hub_known, KnownSteps.link_known, LastRows.last_is, LastRows.last_map}
+pub use Rattle.dv_store_rules.proofs.{BatchRows.earlier_rows, FewerWindows.fewer_valid, FewerWindows.parts_of_valid, Flawless.none_along, Fronts.clear_whole, Fronts.read_tells, KnownSteps.feed_known, KnownSteps.hub_known, KnownSteps.link_known}
 pub use Rattle.dv_store_rules.proofs.{LightSnapshots.keep_limits, RuleParts.held, Splits.item_in, Splits.last_in, Splits.no_split, Splits.split_append, Undamaged.undamaged_if_valid}
 pub use Rattle.dv_store_rules.specs.Pages.{IsOfTable}
 pub use Rattle.dv_store_rules.specs.declared.{flaws.Checked.Checked, flaws.Flaw.Flaw, known.Known.Known as KnownTables, pages.Read.Read, pages.Read.TheVariants.Rows as AllRows, pages.Read.TheVariants.OtherKind}
@@ -46,7 +46,7 @@ pub use Rattle.dv_text.proofs.Deciding.{key_eq-Decides}
 pub use Rattle.dv_text.specs.declared.{rows.Key.Key, rows.NRow.NRow, rows.Window.Window, rows.WindowHead.WindowHead}
 pub use Rattle.dv_vault.proofs.{AddedBatches.effect_is, AddedBatches.free_at, AddedBatches.grown, AddedBatches.multi_is, AddedBatches.sat_is, AddedBatches.status_is, AddedBatches.table_added, Afterwards.loaded_batches, Afterwards.loads_ascend, Afterwards.vault_with}
 pub use Rattle.dv_vault.proofs.{Afterwards.weight_with_batches, BatchSteps.entry_here, BegunParts.all_lacking, BegunParts.at_whole, BegunParts.same_parts, FeedLists.reversed_whole, FeedTables.OfFeed, FeedTables.of_feeds, NamedHubs.names_told, NewWindows.first_one, Parts.then_none}
-pub use Rattle.dv_vault.proofs.{Parts.there_whole, Stamped.all_from_members, TablesApart.vault_apart, Taken.weight_grows, VaultCollisions.parents_first, VaultCollisions.sealed_told, VaultCollisions.turned_back, VaultFacts.kind_of}
+pub use Rattle.dv_vault.proofs.{Parts.there_whole, Stamped.all_from_members, TablesApart.vault_apart, Taken.last_pushed, Taken.weight_grows, VaultCollisions.parents_first, VaultCollisions.sealed_told, VaultCollisions.turned_back, VaultFacts.kind_of}
 pub use Rattle.dv_vault.specs.Vaults.{added}
 pub use Rattle.dv_vault.specs.declared.{begun.Begun.Begun, begun.Part.Part, tables.Table.Table}
 pub use Rattle.std.proofs.{Common.IfOk, lemmas.List.get_or-append_right}

@@ -31,7 +31,7 @@ pub use Rattle.dv_records.proofs.{CollisionTies.none_collide, DatedRows.dated, E
 pub use Rattle.dv_records.proofs.{KnownRefs.known_hashed, KnownRefs.offers_apart, LastChange.lists_reversed, LinkTables.table_has as link_has, Reversing.AllBefore, Reversing.extract-load, Reversing.history-newest_first, Reversing.newest_first, ValidWindows.hub_apart, ValidWindows.link_apart}
 pub use Rattle.dv_records.proofs.{ValidWindows.load_order, ValidWindows.whole, VaultRows.has_hub, VaultRows.has_link, VaultRows.rows_in-entries, VaultSteps.batch_adds, VaultSteps.table_after-newest, VaultSteps.weight-push, WellFormedTables.same_table, WellFormedTables.table_eq-itself}
 pub use Rattle.dv_records.proofs.{WindowRows.field_text, WindowRows.in_order, WindowRows.key_form, WindowRows.key_part, WindowRows.one_key, WindowRows.rows_at, WindowRows.staged_at, WindowRows.staged_of, WindowRows.staged_rows, WindowRows.window_parts}
-pub use Rattle.dv_records.specs.{Hubs.hub_cmp, Hubs.link_cmp, Limits.most_windows, Standing.HasTables, States.head_of, Stores.page, Vault.partial, Weights.text_weight, Weights.texts_weight}
+pub use Rattle.dv_records.specs.{Hubs.hub_cmp, Hubs.link_cmp, Limits.most_windows, Standing.HasTables, States.head_of, States.last_sealed, Stores.page, Vault.partial, Weights.text_weight, Weights.texts_weight}
 pub use Rattle.dv_records.specs.declared.{deliveries.Delivery.Delivery, raw_rows.Code.Code, raw_rows.EffectRow.EffectRow, raw_rows.HubRow.HubRow, raw_rows.LinkRow.LinkRow, raw_rows.MultiRow.MultiRow, raw_rows.SatRow.SatRow, raw_rows.StatusRow.StatusRow, snapshots.Snap.Snap}
 pub use Rattle.dv_records.specs.declared.{snapshots.SnapHead.SnapHead, stores.Rows.Rows, stores.Rows.TheVariants.Effects, stores.Rows.TheVariants.Hubs, stores.Rows.TheVariants.Links, stores.Rows.TheVariants.Multis, stores.Rows.TheVariants.Sats, stores.Rows.TheVariants.Statuses}
 pub use Rattle.dv_records.specs.declared.{stores.Store.Store, stores.TableRows.TableRows}
@@ -45,7 +45,7 @@ pub use Rattle.dv_store_rules.specs.{OwnRules.first_stands, OwnRules.hub_early, 
 pub use Rattle.dv_store_rules.specs.{OwnRules.sat_early, OwnRules.sat_form, OwnRules.sat_hashed, OwnRules.sat_late, OwnRules.status_early, OwnRules.status_late, OwnRules.turns, OwnRules.unbroken, Pages.AreFirst, Pages.IsGrown, Pages.IsHeavyFront, Pages.TellsPage, Pages.TellsRows}
 pub use Rattle.dv_store_rules.specs.{RowWalks.AreClear, RowWalks.Breaks, RowWalks.IsFirst, RowWalks.TellsFlaw, RowWalks.own_of, RowWalks.own_rule, RowWalks.plain_rule, RowWalks.turn_rule, RowWalks.turning_rule, RowWalks.weight_rule, SnapshotHeads.KeepLimits, SnapshotHeads.heads_weight}
 pub use Rattle.dv_store_rules.specs.{SnapshotHeads.is_after, SnapshotHeads.is_snapshot, SnapshotHeads.snapshot_flaw, SnapshotHeads.snapshot_heads, SnapshotHeads.snapshot_rule, StoredHeads.are_feeds, StoredHeads.head_flaw, StoredHeads.head_rule, StoredHeads.is_head, StoredHeads.is_later}
-pub use Rattle.dv_store_rules.specs.{StoredHeads.is_stage, StoredHeads.last_sealed, StoredRows.effect_rule, StoredRows.flaw_in, StoredRows.hub_rule, StoredRows.link_rule, StoredRows.multi_rule, StoredRows.of_other_kind, StoredRows.sat_rule, StoredRows.status_rule}
+pub use Rattle.dv_store_rules.specs.{StoredHeads.is_stage, StoredRows.effect_rule, StoredRows.flaw_in, StoredRows.hub_rule, StoredRows.link_rule, StoredRows.multi_rule, StoredRows.of_other_kind, StoredRows.sat_rule, StoredRows.status_rule}
 pub use Rattle.dv_store_rules.specs.declared.{flaws.Fault.Fault, flaws.Flaw.Flaw, known.Known.Known as KnownTables, pages.Page.TheVariants.Foreign, pages.Page.TheVariants.Last, pages.Page.TheVariants.More, pages.Read.Read, pages.Read.TheVariants.Rows as AllRows, pages.Read.TheVariants.OtherKind}
 pub use Rattle.dv_text.proofs.{Members.last_got, Options.take_got}
 pub use Rattle.dv_text.specs.{Keys.DigestFunction, Told.Told}

@@ -1,20 +1,16 @@
 -- The form of what stands before the raw tables in a store: the heads of its sealed windows, and its open window.
-use Rattle.std.specs.List.{last_or, list_all}
+use Rattle.std.specs.List.{list_all}
 use Rattle.std.specs.Option.{option_map_or}
-use Rattle.std.specs.Prelude.{ℕ, Bool, true, ◌&&◌, nat_lt, List, Option, None, length, map}
+use Rattle.std.specs.Prelude.{ℕ, Bool, true, ◌&&◌, nat_lt, List, Option, length}
 use Rattle.dv_text.specs.declared.rows.Window.{Window}
 use Rattle.dv_text.specs.declared.rows.WindowHead.{WindowHead}
 use Rattle.dv_catalog.specs.Entries.{Mapping}
 use Rattle.dv_store_rules.specs.declared.flaws.Flaw.{Flaw}
 use Rattle.dv_store_rules.specs.Flaws.{first_flaw, if_broken}
 use Rattle.dv_records.specs.Limits.{most_windows}
-use Rattle.dv_records.specs.States.{ascends, is_window}
+use Rattle.dv_records.specs.States.{ascends, is_window, last_sealed}
 
 -- ---- sealed windows
-
--- the load date of the last sealed window
-abbrev pub last_sealed : List WindowHead → Option ℕ
-last_sealed heads = last_or None (map (λ head. head.load) heads)
 
 -- a load date is later than that of the last sealed window, if there is one
 abbrev pub is_later : List WindowHead → ℕ → Bool

@@ -1,27 +1,25 @@
 -- What a vault is with what a window adds: the vault of the sealed windows and the new one.
 use Rattle.dv_vault.proofs.Vocabulary.{AreApart, Backwards, Begun, HasSealed, Hashes, IsAddition, IsBegunBehind, IsLeftOf, List, Mapping, None, Option, Part, RawVault, Rows, Rule, TableId, TableRows, Window, WindowHead, [], all_added, ap, are_windows_valid, arith, backwards, entries_with}
-use Rattle.dv_vault.proofs.Vocabulary.{full_at, head_of, is_valid, is_window, last_got, last_head, last_load, late_after, length, length-map, map, map-append, map-map, no_rows, none_like, opened_in, option_map, partial, parts_at, raw_with, refl, rest_in, row_count, rows_weight, slice_get}
-use Rattle.dv_vault.proofs.Vocabulary.{slice_get-map, suc, sum_by, sym, table_batch, table_entry, tables, tables_there, tables_weight, tables_whole, taken_first, true, vault, vault_weight, weight_with, whole_in, window_batches, ℕ, ◌++◌, ◌+◌, ◌-◌, ◌∙◌, ◌∷◌, ◌≡◌, ◌≤◌}
+use Rattle.dv_vault.proofs.Vocabulary.{full_at, head_of, is_valid, is_window, last_got, last_load, last_or, last_sealed, late_after, length, length-map, map, map-append, map-map, no_rows, none_like, opened_in, option_map, partial, parts_at, raw_with, refl, rest_in, row_count, rows_weight}
+use Rattle.dv_vault.proofs.Vocabulary.{slice_get, slice_get-map, suc, sum_by, sym, table_batch, table_entry, tables, tables_there, tables_weight, tables_whole, taken_first, true, vault, vault_weight, weight_with, whole_in, window_batches, ℕ, ◌++◌, ◌+◌, ◌-◌, ◌∙◌, ◌∷◌, ◌≡◌, ◌≤◌}
 use Rattle.dv_vault.proofs.{AddedBatches.added_is_batch, Afterwards.loaded_batches, Afterwards.vault_reached, Afterwards.vault_with, Afterwards.weight_with_batches, Afterwards.windows_still_valid, BegunParts.at_long, BegunParts.at_taken, BegunParts.at_there, BegunParts.at_whole}
 use Rattle.dv_vault.proofs.{BegunParts.lacking_opened, BegunParts.lacking_rest, BegunParts.same_parts, VaultCollisions.apart_is_free}
 use Rattle.dv_catalog.specs.declared.tables.TableId.TheVariants as ids
 
 -- the last load date of windows is that of their heads
-pub last_same : (windows : List Window) → last_load windows ≡ last_head (map head_of windows)
-last_same [] = refl
-last_same (window ∷ windows) =
-    last_got None window.load (map (λ w. w.load) windows)
-    ∙ by (window ∷ windows) (length (map (λ w. w.load) windows)) (length (map head_of (window ∷ windows)) - 1)
-    (length-map windows (λ (w : Window). w.load) ∙ sym (length-map windows head_of) ∙ one_less (length (map head_of windows)))
+pub last_same : (windows : List Window) → last_load windows ≡ last_sealed (map head_of windows)
+last_same windows = sym (ap (last_or None) (map-map (λ (head : WindowHead). head.load) head_of windows))
+
+-- the last load date is that of the last head
+pub last_got_head : (heads : List WindowHead) → last_sealed heads ≡ option_map (λ (head : WindowHead). head.load) (slice_get heads (length heads - 1))
+last_got_head [] = refl
+last_got_head (head ∷ heads) =
+    last_got None head.load (map (λ (head : WindowHead). head.load) heads)
+    ∙ ap (slice_get (map (λ (head : WindowHead). head.load) (head ∷ heads))) (length-map heads (λ (head : WindowHead). head.load) ∙ one_less (length heads))
+    ∙ slice_get-map (λ (head : WindowHead). head.load) (head ∷ heads) (length (head ∷ heads) - 1)
   where
     one_less : (n : ℕ) → n ≡ suc n - 1
     one_less n = omega arith
-
-    got_load : (all : List Window) (n : ℕ) → slice_get (map (λ w. w.load) all) n ≡ option_map (λ head. head.load) (slice_get (map head_of all) n)
-    got_load all n = ap (λ loads. slice_get loads n) (sym (map-map (λ (head : WindowHead). head.load) head_of all)) ∙ slice_get-map (λ (head : WindowHead). head.load) (map head_of all) n
-
-    by : (all : List Window) (n m : ℕ) → n ≡ m → slice_get (map (λ w. w.load) all) n ≡ option_map (λ head. head.load) (slice_get (map head_of all) m)
-    by all n m e = got_load all n ∙ ap (λ k. option_map (λ head. head.load) (slice_get (map head_of all) k)) e
 
 -- no rows of each table are none of the kind of its batch
 no_batches : (mapping : Mapping) (hashes : Hashes) (older : Backwards) (window : Window) (some : List TableId)
@@ -38,7 +36,7 @@ no_batches mapping hashes older window (id ∷ some) = λ i. one id i ∷ no_bat
     one (ids.Effect n) = refl
 
 module _ (hashes : Hashes) (sealed : List Window) (raw : RawVault) (has : HasSealed hashes sealed raw) (mapped : is_valid raw.mapping ≡ true) (window : Window) (whole : is_window raw.mapping window ≡ true)
-    (late : late_after (last_head raw.heads) window.load ≡ None) (apart : AreApart hashes raw window) where
+    (late : late_after (last_sealed raw.heads) window.load ≡ None) (apart : AreApart hashes raw window) where
   abbrev batches : List Rows
   batches = map (λ table. table_batch raw.mapping hashes table (backwards sealed) window) (tables raw.mapping)
 
@@ -47,7 +45,7 @@ module _ (hashes : Hashes) (sealed : List Window) (raw : RawVault) (has : HasSea
   fullness = full_at (vault_weight raw.mapping hashes (sealed ++ window ∷ [])) (length sealed)
 
   later : late_after (last_load sealed) window.load ≡ None
-  later = ap (λ last. late_after last window.load) (last_same sealed ∙ ap last_head (sym has.heads_are)) ∙ late
+  later = ap (λ last. late_after last window.load) (last_same sealed ∙ ap last_sealed (sym has.heads_are)) ∙ late
 
   batches_added : all_added hashes raw window ≡ batches
   batches_added = added_is_batch hashes sealed raw has mapped window whole later apart

@@ -1,5 +1,5 @@
 -- The parts of a window: what tables have with them, and after some first tables have got what they lacked.
-use Rattle.dv_vault.proofs.Vocabulary.{ArePartsOf, Begun, Fits, FollowAll, IsLeftOf, List, Part, RawVault, Rows, TableId, TableRows, Window, [], ap, append-nil, append_assoc, arith, entries_with, get_or, is_of_kind, is_window, last_head, late_after, length, length-append, map, nil_from_length}
+use Rattle.dv_vault.proofs.Vocabulary.{ArePartsOf, Begun, Fits, FollowAll, IsLeftOf, List, Part, RawVault, Rows, TableId, TableRows, Window, [], ap, append-nil, append_assoc, arith, entries_with, get_or, is_of_kind, is_window, last_sealed, late_after, length, length-append, map, nil_from_length}
 use Rattle.dv_vault.proofs.Vocabulary.{no_rows, none_like, opened_in, refl, rest_in, row_count, rows_then, slice_set, subst, suc, sym, tables_there, tables_weight, tables_whole, take, taken_first, taken_part, true, whole_in, whole_part, zero, ℕ, ◌+◌, ◌<◌, ◌∙◌, ◌∷◌, ◌≡◌, ◌≤◌}
 use Rattle.dv_vault.proofs.BatchSteps.{AreOfKinds}
 use Rattle.dv_catalog.specs.declared.tables.TableId.TheVariants as ids
@@ -218,6 +218,6 @@ fits_left raw begun left fits of =
       window = ap (is_window raw.mapping) of.window_is ∙ fits.window;
       parts = subst (ArePartsOf raw.tables) (sym of.parts_are) (kinds_kept of.taken raw.tables begun.parts.items fits.parts);
       follow = subst (λ (w : Window). FollowAll w.load raw.tables (whole_in left.parts.items)) (sym of.window_is) (subst (FollowAll begun.window.load raw.tables) (sym whole) fits.follow);
-      later = ap (λ (w : Window). late_after (last_head raw.heads) w.load) of.window_is ∙ fits.later;
+      later = ap (λ (w : Window). late_after (last_sealed raw.heads) w.load) of.window_is ∙ fits.later;
       weight = of.weight_is ∙ fits.weight ∙ ap (λ rows. tables_weight (entries_with raw.tables rows)) (sym whole);
     }

@@ -1,7 +1,7 @@
 -- What a vault keeps to with an addition, and what it weighs then.
 use Rattle.dv_vault.proofs.Vocabulary.{All, All-head, All-tail, AllZip, AreOfLoad, Begun, Fits, Follow, Hubs, IsVaultOf, Links, List, Mapping, None, Option, RawVault, Rows, Sats, Some, Staged, Statuses, Table, TableRows, Vec, WindowHead, [], all_pass_weaker, all_up_to-later, all_up_to-none}
-use Rattle.dv_vault.proofs.Vocabulary.{and_from, and_parts, ap, are_empty, are_heads_of, are_rows_kept, are_up_to, arith, entries_with, entry_of, head_of, is_staged, is_up_to, last_head, late_after, length, length-append, list_all, list_all-append, list_all-map, lt-ltb, ltb-true, map, map-map}
-use Rattle.dv_vault.proofs.Vocabulary.{nat_lt, option_map, option_map_or, refl, rows_add_up, rows_then, rows_weight, slice_get, slice_get_within, staged_rows, subst, sum_by, sum_by-cons, sym, tables_weight, tables_whole, true, up_to-then, whole_in, window_parts, with_items, with_items_is, ℕ}
+use Rattle.dv_vault.proofs.Vocabulary.{and_from, and_parts, ap, are_empty, are_heads_of, are_rows_kept, are_up_to, arith, entries_with, entry_of, head_of, is_staged, is_up_to, last_or, last_sealed, late_after, length, list_all, list_all-append, list_all-map, lt-ltb, ltb-true, map, map-append}
+use Rattle.dv_vault.proofs.Vocabulary.{map-map, nat_lt, option_map_or, refl, rows_add_up, rows_then, rows_weight, slice_get_within, staged_rows, subst, sum_by, sum_by-cons, sym, tables_weight, tables_whole, true, up_to-then, whole_in, window_parts, with_items, with_items_is, ℕ}
 use Rattle.dv_vault.proofs.Vocabulary.{◌++◌, ◌+◌, ◌-◌, ◌∙◌, ◌∷◌, ◌≡◌}
 use Rattle.dv_vault.proofs.{Afterwards.later_than_last, OtherTables.same_tables}
 use Rattle.dv_records.specs.declared.stores.Rows.TheVariants as of
@@ -15,8 +15,8 @@ follows entries batches tables is follow =
 
 -- ---- the rows of the vault are no later
 
-pub rows_not_later : (heads : List WindowHead) (tables : List TableRows) (load : ℕ) → are_rows_kept heads tables ≡ true → late_after (last_head heads) load ≡ None → are_up_to load tables ≡ true
-rows_not_later heads tables load kept late = by (last_head heads) kept late
+pub rows_not_later : (heads : List WindowHead) (tables : List TableRows) (load : ℕ) → are_rows_kept heads tables ≡ true → late_after (last_sealed heads) load ≡ None → are_up_to load tables ≡ true
+rows_not_later heads tables load kept late = by (last_sealed heads) kept late
   where
     by : (last : Option ℕ) → option_map_or (λ last. are_up_to last tables) last (are_empty tables) ≡ true → late_after last load ≡ None → are_up_to load tables ≡ true
     by None empty e = all_up_to-none load tables empty
@@ -31,17 +31,12 @@ up_with load (entry ∷ entries) (rows ∷ batches) up all =
 
 -- ---- the last head
 
-got_last : {X : Type 0} (xs : List X) (x : X) → slice_get (xs ++ x ∷ []) (length xs) ≡ Some x
-got_last [] x = refl
-got_last (y ∷ xs) x = got_last xs x
+pub last_or_pushed : {X : Type 0} (o : Option X) (xs : List X) (x : X) → last_or o (xs ++ x ∷ []) ≡ Some x
+last_or_pushed o [] x = refl
+last_or_pushed o (first ∷ xs) x = last_or_pushed (Some first) xs x
 
-less_one : (n m : ℕ) → n ≡ m + 1 → n - 1 ≡ m
-less_one n m e = omega (arith, e)
-
-last_pushed : (heads : List WindowHead) (head : WindowHead) → last_head (heads ++ head ∷ []) ≡ Some head.load
-last_pushed heads head =
-    ap (λ n. option_map (λ (head : WindowHead). head.load) (slice_get (heads ++ head ∷ []) n)) (less_one (length (heads ++ head ∷ [])) (length heads) (length-append heads (head ∷ [])))
-    ∙ ap (option_map (λ (head : WindowHead). head.load)) (got_last heads head)
+pub last_pushed : (heads : List WindowHead) (head : WindowHead) → last_sealed (heads ++ head ∷ []) ≡ Some head.load
+last_pushed heads head = ap (last_or None) (map-append (λ (head : WindowHead). head.load) heads (head ∷ [])) ∙ last_or_pushed None (map (λ (head : WindowHead). head.load) heads) head.load
 
 -- the feeds of a window are in the mapping
 feeds_there : (mapping : Mapping) (extracts : List Staged) → list_all (is_staged mapping) extracts ≡ true → list_all (λ feed. nat_lt feed (length mapping.feeds)) (map (λ staged. staged.feed) extracts) ≡ true
@@ -60,7 +55,7 @@ module _ (raw : RawVault) (begun : Begun) (fits : Fits raw begun) (entries : Lis
 
   pub rows_still : are_rows_kept raw.heads raw.tables ≡ true → are_rows_kept heads entries ≡ true
   rows_still kept =
-      ap (λ last. option_map_or (λ last. are_up_to last entries) last (are_empty entries)) (ap last_head heads_are ∙ last_pushed raw.heads (head_of begun.window))
+      ap (λ last. option_map_or (λ last. are_up_to last entries) last (are_empty entries)) (ap last_sealed heads_are ∙ last_pushed raw.heads (head_of begun.window))
       ∙ ap (are_up_to begun.window.load) tables_are
       ∙ up_with begun.window.load raw.tables (whole_in begun.parts.items) (rows_not_later raw.heads raw.tables begun.window.load kept fits.later) fits.follow.stamped
 

@@ -29,7 +29,7 @@ pub use Rattle.dv_index.specs.Places.{Indexed}
 pub use Rattle.dv_records.proofs.{CollisionTies.none_collide, Delivered.deliveries-apart, FeedSteps.appended-history, KnownLists.lists_apart, KnownLists.rows_valid, LastChange.lists_reversed, NoWindows.after_none, NoWindows.none_valid, Reversing.AllBefore, Reversing.history-newest_first}
 pub use Rattle.dv_records.proofs.{RowViews.all_up_to-later, RowViews.all_up_to-none, RowViews.up_to-then, ValidWindows.hub_apart, VaultRows.has_hub, VaultRows.has_link, VaultRows.has_status, VaultRows.vault_hub, VaultSteps.rows_add_up, VaultSteps.table_after-newest, VaultSteps.vault-push}
 pub use Rattle.dv_records.proofs.{VaultSteps.weight-push, WellFormedTables.same_table, WellFormedTables.table_eq-itself, WindowRows.in_order}
-pub use Rattle.dv_records.specs.{Changes.Changes, Changes.changed, HubNames.is_named, Loads.loaded, Outcomes.full_at, Outcomes.late_after, RawTables.extract_added, RawTables.extract_at, Standing.HasTables, States.head_of, Stores.with_rows, Stores.with_seal, Stores.with_stage, Vault.batch_at}
+pub use Rattle.dv_records.specs.{Changes.Changes, Changes.changed, HubNames.is_named, Loads.loaded, Outcomes.full_at, Outcomes.late_after, RawTables.extract_added, RawTables.extract_at, Standing.HasTables, States.head_of, States.last_sealed, Stores.with_rows, Stores.with_seal, Stores.with_stage, Vault.batch_at}
 pub use Rattle.dv_records.specs.{Vault.partial}
 pub use Rattle.dv_records.specs.declared.{deliveries.Delivery.Delivery, deliveries.DeltaFault.DeltaFault, deliveries.DeltaFault.TheVariants.Collision, deliveries.DeltaFault.TheVariants.Memory, keepers.KeeperError.KeeperError, keepers.KeeperError.TheVariants.Failed, raw_rows.HubRow.HubRow}
 pub use Rattle.dv_records.specs.declared.{raw_rows.LinkRow.LinkRow, stores.Rows.Rows, stores.Rows.TheVariants.Effects, stores.Rows.TheVariants.Hubs, stores.Rows.TheVariants.Links, stores.Rows.TheVariants.Multis, stores.Rows.TheVariants.Sats, stores.Rows.TheVariants.Statuses, stores.Store.Store}
@@ -45,7 +45,7 @@ pub use Rattle.dv_vault.specs.Additions.{AreApart, AreApartBy, ArePartsOf, Clash
 pub use Rattle.dv_vault.specs.Additions.{taken_part, weight_with, whole_in, whole_part, window_batches}
 pub use Rattle.dv_vault.specs.Keeping.{Became, BreaksParts, BreaksWindow, BrokeOff, HasLeft, HasRows, HasTaken, IsBegunIn, IsLeftOf, IsOpen, KeepsOthers, MayBeLeft, TakesWindow, TookRows, TookSome, TookWindow, with_batch, with_open}
 pub use Rattle.dv_vault.specs.Results.{IsBatch, IsDelta, IsFound, IsResultAt, IsResultOf, batches_in}
-pub use Rattle.dv_vault.specs.Vaults.{Follow, HasSealed, IsVaultOf, RawVault, added_to, are_empty, are_heads_of, are_rows_kept, entries_of, entries_with, entry_of, has_table, hashed_in, hub_names, hubs_in, is_effect, is_hub, is_link, is_multi, is_sat, is_status, last_head, names_of_hub}
+pub use Rattle.dv_vault.specs.Vaults.{Follow, HasSealed, IsVaultOf, RawVault, added_to, are_empty, are_heads_of, are_rows_kept, entries_of, entries_with, entry_of, has_table, hashed_in, hub_names, hubs_in, is_effect, is_hub, is_link, is_multi, is_sat, is_status, names_of_hub}
 pub use Rattle.dv_vault.specs.Vaults.{names_of_hubs, names_of_rows, rows_of_hubs, spare_of, staged_of}
 pub use Rattle.dv_vault.specs.declared.{additions.AdditionFault.AdditionFault, begun.Begun.Begun, begun.Part.Part, breaks.Untaken.Untaken, results.TableBatch.TableBatch, results.TaskResult.TaskResult, tables.Table.Table}
 pub use Rattle.dv_window_keys.proofs.{OfferedItems.none_offered, OfferedItems.task_offered, OfferedItems.whole_offered, SortedOffers.got_here, SortedOffers.link_declared, TaskFacts.of_results, TaskFacts.task_table, WindowFacts.IsDelivered, WindowFacts.key_parts, WindowFacts.staged_ascend}

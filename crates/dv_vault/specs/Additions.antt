@@ -17,7 +17,7 @@ use Rattle.dv_records.specs.Deltas.{HasNoClash, IsLeastClash}
 use Rattle.dv_records.specs.HubNames.{HubName}
 use Rattle.dv_records.specs.Outcomes.{late_after}
 use Rattle.dv_records.specs.RowViews.{AreOfLoad}
-use Rattle.dv_records.specs.States.{head_of, is_window}
+use Rattle.dv_records.specs.States.{head_of, is_window, last_sealed}
 use Rattle.dv_records.specs.Loads.{loaded}
 use Rattle.dv_records.specs.Backwards.{backwards}
 use Rattle.dv_records.specs.Stores.{is_of_kind, no_rows, row_count, rows_then}
@@ -27,7 +27,7 @@ use Rattle.dv_vault.specs.declared.begun.Begun.{Begun}
 use Rattle.dv_vault.specs.declared.begun.Part.{Part}
 use Rattle.dv_vault.specs.declared.additions.AdditionFault.{AdditionFault}
 use Rattle.dv_vault.specs.declared.additions.AdditionFault.TheVariants as fault
-use Rattle.dv_vault.specs.Vaults.{Follow, added_to, RawVault, entries_with, hashed_in, hub_names, last_head}
+use Rattle.dv_vault.specs.Vaults.{Follow, added_to, RawVault, entries_with, hashed_in, hub_names}
 
 -- ---- collisions
 
@@ -144,7 +144,7 @@ pub record Fits (raw : RawVault) (begun : Begun) : Type 0 where
   pub window : is_window raw.mapping begun.window ≡ true
   pub parts : ArePartsOf raw.tables begun.parts.items
   pub follow : FollowAll begun.window.load raw.tables (whole_in begun.parts.items)
-  pub later : late_after (last_head raw.heads) begun.window.load ≡ None
+  pub later : late_after (last_sealed raw.heads) begun.window.load ≡ None
   pub weight : begun.weight ≡ tables_weight (tables_whole raw.tables begun.parts.items)
 
 -- a window that is to be opened: no table has rows of it, each lacks what it adds to it, and nothing collides

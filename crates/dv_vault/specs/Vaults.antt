@@ -1,7 +1,7 @@
 -- The tables of a vault with their rows, and what a window adds to each, told from the rows alone.
-use Rattle.std.specs.Prelude.{◌≡◌, ℕ, ◌-◌, ◌==◌, nat_lt, Bool, true, false, List, [], ◌∷◌, Option, find, length, map, slice_get}
+use Rattle.std.specs.Prelude.{◌≡◌, ℕ, ◌==◌, nat_lt, Bool, true, false, List, [], ◌∷◌, Option, find, length, map}
 use Rattle.std.specs.List.{enumerate_from, flat_map, list_all, list_any, range_with_len}
-use Rattle.std.specs.Option.{option_map, option_map_or}
+use Rattle.std.specs.Option.{option_map_or}
 use Rattle.dv_text.specs.declared.rows.Staged.{Staged}
 use Rattle.dv_text.specs.declared.rows.Window.{Window}
 use Rattle.dv_text.specs.declared.rows.WindowHead.{WindowHead}
@@ -24,7 +24,7 @@ use Rattle.dv_records.specs.HubNames.{HubName}
 use Rattle.dv_records.specs.ReadBack.{hub_rows_in}
 use Rattle.dv_records.specs.RawTables.{extract_added}
 use Rattle.dv_records.specs.RowViews.{are_up_to}
-use Rattle.dv_records.specs.States.{are_windows_valid, head_of}
+use Rattle.dv_records.specs.States.{are_windows_valid, head_of, last_sealed}
 use Rattle.dv_records.specs.Stores.{no_rows, row_count, rows_then, table_eq}
 use Rattle.dv_records.specs.Vault.{vault}
 use Rattle.dv_hub_link.specs.HubDeltas.{hub_delta, hub_hashed}
@@ -182,17 +182,13 @@ pub record HasSealed (hashes : Hashes) (sealed : List Window) (raw : RawVault) :
   pub tables_are : raw.tables ≡ vault raw.mapping hashes sealed
   pub heads_are : raw.heads ≡ map head_of sealed
 
--- the load date of the last head
-abbrev pub last_head : List WindowHead → Option ℕ
-last_head heads = option_map (λ head. head.load) (slice_get heads (length heads - 1))
-
 -- no table has rows
 abbrev pub are_empty : List TableRows → Bool
 are_empty tables = list_all (λ entry. row_count entry.rows == 0) tables
 
 -- no row is later than the last head; none where there is no head
 abbrev pub are_rows_kept : List WindowHead → List TableRows → Bool
-are_rows_kept heads tables = option_map_or (λ last. are_up_to last tables) (last_head heads) (are_empty tables)
+are_rows_kept heads tables = option_map_or (λ last. are_up_to last tables) (last_sealed heads) (are_empty tables)
 
 -- the feeds of heads are in the mapping
 abbrev pub are_heads_of : Mapping → List WindowHead → Bool

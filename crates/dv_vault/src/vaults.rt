@@ -4,12 +4,12 @@ ghost use Rattle.dv_catalog.specs.Mappings.{is_valid};
 ghost use Rattle.dv_catalog.specs.Tables.{tables};
 ghost use Rattle.dv_records.specs.Outcomes.{late_after};
 ghost use Rattle.dv_records.specs.ReadBack.{effect_rows_in, hub_rows_in, link_rows_in, multi_rows_in, sat_rows_in, status_rows_in};
-ghost use Rattle.dv_records.specs.States.{is_window};
+ghost use Rattle.dv_records.specs.States.{is_window, last_sealed};
 ghost use Rattle.dv_records.specs.Stores.{is_of_kind, no_rows, rows_in, table_eq};
 ghost use Rattle.dv_records.specs.Weights.{tables_weight};
 ghost use Rattle.dv_vault.specs.Additions as spec;
 ghost use Rattle.dv_vault.specs.Additions.{Fits, IsAddition};
-ghost use Rattle.dv_vault.specs.Vaults.{IsVaultOf, are_heads_of, are_rows_kept, entry_of, last_head};
+ghost use Rattle.dv_vault.specs.Vaults.{IsVaultOf, are_heads_of, are_rows_kept, entry_of};
 
 use crate::additions::AdditionFault;
 use crate::batches::{none_of_all, weight_with};
@@ -50,6 +50,16 @@ impl Model for Vault {
 
     ghost invariant = { λ v. IsVaultOf v.catalog (entries_of v.raw)
         × IsTrue (are_rows_kept v.heads (entries_of v.raw)) × IsTrue (are_heads_of v.catalog v.heads) × (v.weight ≡ tables_weight (entries_of v.raw)) × IsTrue (is_valid v.catalog) };
+}
+
+// The load date of the last of these heads, if there is one.
+fn last_load(heads: &[WindowHead]) -> Option<Stamp>
+    ensures { result ≡ last_sealed heads.now }
+{
+    match heads.last() {
+        Some(head) => Some(head.load),
+        None => None,
+    }
 }
 
 impl Vault {
@@ -115,10 +125,9 @@ impl Vault {
 
     /// The load date of the last sealed window; none where none is sealed. Takes no memory.
     pub fn last(&self) -> Option<Stamp>
-        ensures { result ≡ last_head self.now.heads }
+        ensures { result ≡ last_sealed self.now.heads }
     {
-        let head = self.heads.items().last()?;
-        Some(head.load)
+        last_load(self.heads.items())
     }
 
     /// The place of a raw table in table order; none where the mapping doesn't have it. Its rows are of
@@ -190,7 +199,7 @@ impl Vault {
         window: &Window,
         digest: &H,
     ) -> Result<List<Rows>, AdditionFault>
-        requires later { late_after (last_head self.now.heads) window.now.load ≡ None }
+        requires later { late_after (last_sealed self.now.heads) window.now.load ≡ None }
         requires window { IsTrue (is_window self.now.mapping window.now) }
         ensures rows { IfOk result (λ batches. batches ≡ spec.all_added (hashes_of H.function) self.now window.now) }
         ensures apart { IfOk result (λ batches. spec.AreApart (hashes_of H.function) self.now window.now) }
@@ -209,7 +218,7 @@ impl Vault {
         digest: &H,
         team: &Team<'_, G>,
     ) -> Result<List<Rows>, AdditionFault>
-        requires later { late_after (last_head self.now.heads) window.now.load ≡ None }
+        requires later { late_after (last_sealed self.now.heads) window.now.load ≡ None }
         requires window { IsTrue (is_window self.now.mapping window.now) }
         ensures rows { IfOk result (λ batches. batches ≡ spec.all_added (hashes_of H.function) self.now window.now) }
         ensures apart { IfOk result (λ batches. spec.AreApart (hashes_of H.function) self.now window.now) }
@@ -223,7 +232,7 @@ impl Vault {
 
     // A window that adds these rows to the tables, none of which has a row of it.
     fn begun<H: KeyDigest>(&self, window: Window, rest: List<Rows>) -> Result<Begun, Memory>
-        requires later { late_after (last_head self.now.heads) window.load ≡ None }
+        requires later { late_after (last_sealed self.now.heads) window.load ≡ None }
         requires window { IsTrue (is_window self.now.mapping window) }
         requires rows { rest ≡ spec.all_added (hashes_of H.function) self.now window }
         requires apart { spec.AreApart (hashes_of H.function) self.now window }
@@ -243,7 +252,7 @@ impl Vault {
     /// table that has one, and the least pair there. Condition: it is a window of the mapping, later than the last sealed
     /// one.
     pub fn addition<H: KeyDigest>(&self, window: Window, digest: &H) -> Result<Begun, AdditionFault>
-        requires later { late_after (last_head self.now.heads) window.load ≡ None }
+        requires later { late_after (last_sealed self.now.heads) window.load ≡ None }
         requires window { IsTrue (is_window self.now.mapping window) }
         ensures adds { IfOk result (IsAddition (hashes_of H.function) self.now window) }
         ensures fits { IfOk result (Fits self.now) }
@@ -266,7 +275,7 @@ impl Vault {
         digest: &H,
         gate: &G,
     ) -> Result<Begun, AdditionFault>
-        requires later { late_after (last_head self.now.heads) window.load ≡ None }
+        requires later { late_after (last_sealed self.now.heads) window.load ≡ None }
         requires window { IsTrue (is_window self.now.mapping window) }
         requires workers { (1 ≤ workers) × (workers ≤ 64) }
         ensures adds { IfOk result (IsAddition (hashes_of H.function) self.now window) }

@@ -1,6 +1,6 @@
 -- What comes of a window in the state that an office stands for, told from what was decided of it.
 use Rattle.dv_window.proofs.Vocabulary.{AreApart, Begun, Bool, Collides, Decides, Decides-and, Fits, Hashes, Held, IsAgain, IsOpenAgain, IsOpenBehind, IsPlan, IsTooMuch, List, Mapping, NRow, None, Option, RawVault, Rule, Some, Staged, StandsFor, State, Stop, Stops, Window, WindowIn, []}
-use Rattle.dv_window.proofs.Vocabulary.{added_behind, all_windows, and_parts, ap, apart_is_free, are_dates_valid, are_windows_valid, clash_collides, collision, differs_from, eqb-true, false, has_same_extracts, if◌then◌else◌, inl, inr, is_valid, is_window, last_head, last_same, late_after}
+use Rattle.dv_window.proofs.Vocabulary.{added_behind, all_windows, and_parts, ap, apart_is_free, are_dates_valid, are_windows_valid, clash_collides, collision, differs_from, eqb-true, false, has_same_extracts, if◌then◌else◌, inl, inr, is_valid, is_window, last_same, last_sealed, late_after}
 use Rattle.dv_window.proofs.Vocabulary.{not_full, open_other, option_map_or, option_to_list, outcome, pointwise, refl, row_eq, row_eq-Decides, rules, slice_eq-Decides, staged_eq, subst, sym, true, valid_with, window_of, ◌++◌, ◌==◌, ◌∙◌, ◌∷◌, ◌≡◌}
 use Rattle.dv_vault.proofs.AddedWindows.{full_with}
 use Rattle.dv_window.proofs.{Growths.CanAdd, OutcomeSteps.again_says, OutcomeSteps.early_refused, OutcomeSteps.new_collides, OutcomeSteps.new_full, OutcomeSteps.new_loads, OutcomeSteps.open_says, PlanFacts.early_parts, PlanFacts.not_late, PlanFacts.read_whole, SealedAgain.read_again}
@@ -70,13 +70,13 @@ module _ (hashes : Hashes) (state : State) (held : Held) (stands : StandsFor has
     whole : is_window raw.mapping window ≡ true
     whole = read_whole raw state.begun given valid_mapping is.passes.early
 
-    late : late_after (last_head raw.heads) window.load ≡ None
+    late : late_after (last_sealed raw.heads) window.load ≡ None
     late = not_late raw state.begun given is.passes
 
     pub can_add : CanAdd hashes state.sealed raw window begun
     can_add = record {
       valid = valid_with hashes state.sealed raw stands.sealed_are valid_mapping window whole late is.adds.apart begun is.adds is.not_full;
-      late = ap (λ last. late_after last window.load) (last_same state.sealed ∙ ap last_head (sym stands.sealed_are.heads_are)) ∙ late;
+      late = ap (λ last. late_after last window.load) (last_same state.sealed ∙ ap last_sealed (sym stands.sealed_are.heads_are)) ∙ late;
       behind = added_behind hashes state.sealed raw stands.sealed_are valid_mapping window whole late is.adds.apart begun is.adds;
     }
 
@@ -115,8 +115,8 @@ begun_adds hashes state held stands begun is fits = by state.begun refl (subst (
       record {
         valid = subst (λ staged_now. are_windows_valid held.vault.mapping hashes (state.sealed ++ option_to_list staged_now) ≡ true) e
             (and_parts (are_windows_valid held.vault.mapping hashes (all_windows state)) (are_dates_valid held.vault.mapping hashes state) stands.valid).0;
-        late = ap (λ last. late_after last window.load) (last_same state.sealed ∙ ap last_head (sym stands.sealed_are.heads_are))
-            ∙ subst (λ (w : Window). late_after (last_head held.vault.heads) w.load ≡ None) behind.window_is fits.later;
+        late = ap (λ last. late_after last window.load) (last_same state.sealed ∙ ap last_sealed (sym stands.sealed_are.heads_are))
+            ∙ subst (λ (w : Window). late_after (last_sealed held.vault.heads) w.load ≡ None) behind.window_is fits.later;
         behind = behind;
       },
     )

@@ -1,6 +1,6 @@
 -- What comes of a window in a state, told from the heads of the sealed windows and the open window.
 use Rattle.dv_window.proofs.Vocabulary.{Bool, Collision, Found, Hashes, IsAgain, IsNewWindow, IsOpenAgain, List, None, OpenOther, Option, Outcome, RawVault, Rule, Some, State, Window, WindowIn, [], accepted, all_windows, ap, collides, collision, differs, differs_from, early_rule, false}
-use Rattle.dv_window.proofs.Vocabulary.{feed_twice, first_of, full_at, head_at, head_of, if_new, if◌then◌else◌, is_none, is_some, last_head, last_same, late, late_after, late_by, length, made_of, map, no_extracts, none_before_map, open_other, option_map, option_map_or, option_or, option_or-none}
+use Rattle.dv_window.proofs.Vocabulary.{feed_twice, first_of, full_at, head_at, head_of, if_new, if◌then◌else◌, is_none, is_some, last_same, last_sealed, late, late_after, late_by, length, made_of, map, no_extracts, none_before_map, open_other, option_map, option_map_or, option_or, option_or-none}
 use Rattle.dv_window.proofs.Vocabulary.{option_to_list, outcome, refl, refusal, subst, sym, table_name, too_long, true, unknown_feed, vault_full, vault_weight, window_at, window_of, window_read, window_rule, ℕ, ◌++◌, ◌==◌, ◌∙◌, ◌∷◌, ◌≡◌}
 use Rattle.dv_window.proofs.PlanFacts.{early_parts}
 use Rattle.dv_records.specs.declared.answers.Outcome.TheVariants as outcomes
@@ -68,8 +68,8 @@ module _ (hashes : Hashes) (state : State) (raw : RawVault) (heads_are : raw.hea
 
   late_known : late_by raw.heads given.load ≡ late state given
   late_known =
-      ap (λ b. if b then None else late_after (last_head raw.heads) given.load) (ap is_some head_known ∙ still_some head_of (window_at given.load state.sealed))
-      ∙ ap (λ last. if is_some (window_at given.load state.sealed) then None else late_after last given.load) (ap last_head heads_are ∙ sym (last_same state.sealed))
+      ap (λ b. if b then None else late_after (last_sealed raw.heads) given.load) (ap is_some head_known ∙ still_some head_of (window_at given.load state.sealed))
+      ∙ ap (λ last. if is_some (window_at given.load state.sealed) then None else late_after last given.load) (ap last_sealed heads_are ∙ sym (last_same state.sealed))
 
   -- what is asked behind the early rules
   abbrev late_rules : List (Option Rule)

@@ -1,6 +1,6 @@
 -- What a vault's own facts say of a window that breaks no rule before the vault is looked at.
 use Rattle.dv_window.proofs.Vocabulary.{Contains-append_right, Contains-cons_here, IfSome, IsNewWindow, List, Mapping, None, Option, RawVault, Rule, Some, Window, WindowHead, WindowIn, [], and_parts, ap, are_heads_of, are_in_order, arith, ascends, early_rule, false, feed_twice, first_of}
-use Rattle.dv_window.proofs.Vocabulary.{found_member, given_rules, head_at, if◌then◌else◌, is_some, is_valid, is_window, last_head, late_after, late_by, later_ascends, length, list_all, map, nat_lt, nat_tests, no_extracts, open_other, option_map, option_or, or_none, passes_at, refl, sym}
+use Rattle.dv_window.proofs.Vocabulary.{found_member, given_rules, head_at, if◌then◌else◌, is_some, is_valid, is_window, last_sealed, late_after, late_by, later_ascends, length, list_all, map, nat_lt, nat_tests, no_extracts, open_other, option_map, option_or, or_none, passes_at, refl, sym}
 use Rattle.dv_window.proofs.Vocabulary.{too_long, true, unknown_feed, window_of, window_of-is_window, window_rule, ℕ, ◌++◌, ◌==◌, ◌∙◌, ◌∷◌, ◌≡◌}
 
 -- ---- the early rules, one by one
@@ -35,9 +35,9 @@ read_whole raw begun given valid e =
     window_of-is_window raw.mapping valid given parts.some parts.known parts.reads
 
 -- a new load date is later than all sealed ones
-pub not_late : (raw : RawVault) (begun : Option Window) (given : WindowIn) → IsNewWindow raw begun given → late_after (last_head raw.heads) given.load ≡ None
+pub not_late : (raw : RawVault) (begun : Option Window) (given : WindowIn) → IsNewWindow raw begun given → late_after (last_sealed raw.heads) given.load ≡ None
 not_late raw begun given passes =
-    ap (λ (found : Option WindowHead). if is_some found then None else late_after (last_head raw.heads) given.load) (sym passes.is_new)
+    ap (λ (found : Option WindowHead). if is_some found then None else late_after (last_sealed raw.heads) given.load) (sym passes.is_new)
     ∙ (early_parts raw begun given passes.early).in_time
 
 -- ---- the heads
@@ -62,5 +62,5 @@ module _ (load : ℕ) where
       let less = passes_at (nat_lt head.load) loads load all (Contains-append_right (map (λ (head : WindowHead). head.load) heads) (load ∷ []) load (Contains-cons_here load [])) in
       rw (is_other head.load less) (none_among heads rest)
 
-  pub none_later : (heads : List WindowHead) → are_in_order heads ≡ true → late_after (last_head heads) load ≡ None → head_at load heads ≡ None
+  pub none_later : (heads : List WindowHead) → are_in_order heads ≡ true → late_after (last_sealed heads) load ≡ None → head_at load heads ≡ None
   none_later heads up late = none_among heads (later_ascends heads load up late)

@@ -12,7 +12,7 @@ pub use Rattle.dv_store_rules.proofs.Vocabulary.{heads_weight, page, unwrap_or, 
 pub use Rattle.dv_vault.proofs.Vocabulary.{AreApart, ArePartsOf, Became, Bool, Bor, BrokeOff, Changes, Contains-append_right, Contains-cons_cases, Contains-cons_here, Contains-cons_there, Contains-nil, Err, Fits, HasLeft, HasRows, HasSealed, HasTables, Hashes, IfOk-weaker, IfSome}
 pub use Rattle.dv_vault.proofs.Vocabulary.{IsAddition, IsBegunBehind, IsLeftOf, IsOpen, IsSync, IsVaultOf, KeepsOthers, List, Mapping, MayBeLeft, None, Option, RawVault, Result, Some, TakesWindow, Told, TookWindow, [], all_pass, all_refs, and_from, and_parts, ap, append-nil, append_assoc}
 pub use Rattle.dv_vault.proofs.Vocabulary.{are_heads_of, are_windows_valid, arith, ascends, backwards, changed, collision, cond, crosses, entries_with, enumerate_from, eq-eqb, eqb-true, err_from_is_err_and, false, feed_hubs, filtered_members, flat_map, flat_map_member, found_member, full_at}
-pub use Rattle.dv_vault.proofs.Vocabulary.{has_table, hashes_of, head_of, hubs_by, if◌then◌else◌, inl, inr, is_fed_by, is_missing, is_of_kind, is_valid, is_window, last_head, last_load, last_or, late_after, length, length-append, length-map, link_hubs, list_all, list_any, list_any-map, loaded}
+pub use Rattle.dv_vault.proofs.Vocabulary.{has_table, hashes_of, head_of, hubs_by, if◌then◌else◌, inl, inr, is_fed_by, is_missing, is_of_kind, is_valid, is_window, last_load, last_or, last_sealed, late_after, length, length-append, length-map, link_hubs, list_all, list_any, list_any-map, loaded}
 pub use Rattle.dv_vault.proofs.Vocabulary.{ltb-true, map, map-append, map-id, map-map, map-range_with_len_more, map_member, member_before_sort, nat_cmp, nat_le, nat_lt, nat_tests, no_rows, none_from, none_valid, not, opened_in, option_map, option_map_or, option_or, option_or-none, option_to_list}
 pub use Rattle.dv_vault.proofs.Vocabulary.{parent_hubs, partial, passes_at, position, position_or_len, range_with_len, raw_with, refl, row_count, rows_in, rows_then, rows_valid, rows_weight, rules, same_Some, same_table, sendable, slice_get, subst, suc, sum_by, sum_by-cons, sym, table_entry}
 pub use Rattle.dv_vault.proofs.Vocabulary.{table_eq, tables, tables_there, tables_whole, take, take-append-drop, taken_first, true, valid_link, valid_parts, vault, vault_weight, whole_in, with_newest, zero, ℕ, ◌&&◌, ◌*◌, ◌++◌, ◌+◌, ◌-◌, ◌<◌, ◌==◌, ◌∙◌, ◌∷◌, ◌≡◌, ◌≤◌, ◌⊎◌}
@@ -29,13 +29,13 @@ pub use Rattle.dv_records.specs.{Outcomes.staged_eq, Outcomes.too_long, Outcomes
 pub use Rattle.dv_records.specs.declared.{answers.Damage.Damage, answers.Outcome.Outcome, answers.ResumeAnswer.TheVariants.NothingOpen, answers.SnapAnswer.SnapAnswer, answers.SnapAnswer.TheVariants.Repeated, answers.SnapAnswer.TheVariants.TooLarge, keepers.KeeperError.KeeperError}
 pub use Rattle.dv_records.specs.declared.{keepers.KeeperError.TheVariants.Failed, keepers.KeeperError.TheVariants.Memory, mart_rows.PathRow.PathRow, snapshots.BridgeRow.BridgeRow, snapshots.PitRow.PitRow, snapshots.Snap.Snap, snapshots.SnapHead.SnapHead, snapshots.SnapId.SnapId}
 pub use Rattle.dv_records.specs.declared.{snapshots.SnapId.TheVariants.Bridge, snapshots.SnapId.TheVariants.Pit, snapshots.SnapTable.SnapTable, stores.Rows.Rows, stores.Rows.TheVariants.Bridges, stores.Rows.TheVariants.Pits, stores.Store.Store, stores.TableRows.TableRows}
-pub use Rattle.dv_restore.proofs.{HeadsHeld.last_or_pushed, HeadsInOrder.later_ascends, HeadsInOrder.one_later, StandingStores.never_unread, StandingStores.same_mapping}
+pub use Rattle.dv_restore.proofs.{HeadsInOrder.later_ascends, HeadsInOrder.one_later, StandingStores.never_unread, StandingStores.same_mapping}
 pub use Rattle.dv_restore.specs.{Damages.IsMappedAs, Restored.HasKept}
 pub use Rattle.dv_restore.specs.declared.faults.StoreFault.{StoreFault}
 pub use Rattle.dv_stage.specs.declared.stages.Staged2.{Staged2}
 pub use Rattle.dv_store_rules.proofs.{RowPages.page_count, RowPages.page_exact, RowPages.then_page, RowPages.whole_page, SoundSnapshots.weighed}
 pub use Rattle.dv_text.specs.declared.{rows.Key.Key, rows.NRow.NRow, rows.Staged.Staged, rows.Window.Window, rows.WindowHead.WindowHead}
-pub use Rattle.dv_vault.proofs.{AddedWindows.added_behind, AddedWindows.last_same, AddedWindows.left_behind, AddedWindows.not_full, AddedWindows.sealed_after, AddedWindows.taken_partly, AddedWindows.valid_with, Afterwards.later_than_last, NoWindows.none_sealed, OtherTables.has_all}
+pub use Rattle.dv_vault.proofs.{AddedWindows.added_behind, AddedWindows.last_same, AddedWindows.left_behind, AddedWindows.not_full, AddedWindows.sealed_after, AddedWindows.taken_partly, AddedWindows.valid_with, Afterwards.later_than_last, NoWindows.none_sealed, OtherTables.has_all, Taken.last_or_pushed}
 pub use Rattle.dv_vault.proofs.{OtherTables.same_tables, OtherTables.with_has, Parts.fits_left, Parts.none_opened, VaultCollisions.apart_is_free, VaultCollisions.clash_collides, VaultFacts.vault_has}
 pub use Rattle.dv_vault.specs.declared.{begun.Begun.Begun, begun.Part.Part}
 pub use Rattle.dv_window.specs.{Offices.Agrees, Offices.AgreesUnlessStale, Offices.CompletesTo, Offices.Held, Offices.IsDamageFor, Offices.IsIn, Offices.IsLeftIn, Offices.IsOther, Offices.IsOtherMapping, Offices.LeavesOffice, Offices.StaleAfter, Offices.StandsFor, Offices.StepsTo, Offices.staged}

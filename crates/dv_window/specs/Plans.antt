@@ -17,11 +17,12 @@ use Rattle.dv_records.specs.declared.keepers.KeeperError.{KeeperError}
 use Rattle.dv_records.specs.Collisions.{Pair}
 use Rattle.dv_records.specs.Outcomes.{differs_from, feed_twice, full_at, late_after, no_extracts, open_other, too_long, unknown_feed}
 use Rattle.dv_records.specs.ReadBack.{any_content_read}
+use Rattle.dv_records.specs.States.{last_sealed}
 use Rattle.dv_vault.specs.declared.begun.Begun.{Begun}
 use Rattle.dv_vault.specs.declared.additions.AdditionFault.{AdditionFault}
 use Rattle.dv_vault.specs.declared.additions.AdditionFault.TheVariants as fault
 use Rattle.dv_vault.specs.Additions.{AreApart, Fits, IsAddition, IsFirstClash, raw_with, weight_with}
-use Rattle.dv_vault.specs.Vaults.{RawVault, hub_names, last_head}
+use Rattle.dv_vault.specs.Vaults.{RawVault, hub_names}
 use Rattle.dv_window.specs.declared.stops.Stop.{Stop}
 use Rattle.dv_window.specs.declared.stops.Stop.TheVariants as stop
 use Rattle.dv_window.specs.declared.plans.Planned.{Planned}
@@ -36,7 +37,7 @@ abbrev pub head_at : ℕ → List WindowHead → Option WindowHead
 head_at load heads = find (λ head. head.load == load) heads
 
 abbrev pub late_by : List WindowHead → ℕ → Option Rule
-late_by heads load = if is_some (head_at load heads) then None else late_after (last_head heads) load
+late_by heads load = if is_some (head_at load heads) then None else late_after (last_sealed heads) load
 
 -- the first rule, W1 to W6, that a window breaks as it is given
 abbrev pub given_rules : RawVault → Option Window → WindowIn → Option Rule

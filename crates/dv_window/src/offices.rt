@@ -2,12 +2,13 @@ ghost use Rattle.std.specs.Option.{option_map};
 ghost use Rattle.std.specs.Prelude.{◌≡◌, ◌<◌, IfOk, IfSome, IsTrue, length, slice_get, true};
 ghost use Rattle.dv_store_rules.specs.SnapshotHeads.{KeepLimits};
 ghost use Rattle.dv_records.specs.ReadBack.{any_content_read};
+ghost use Rattle.dv_records.specs.States.{last_sealed};
 ghost use Rattle.dv_records.specs.Stores.{is_of_kind, rows_in};
 ghost use Rattle.dv_vault.specs.Additions.{opened_in};
 ghost use Rattle.dv_restore.specs.Completions.{rows_there};
 ghost use Rattle.dv_restore.specs.Restored.{are_in_order};
 ghost use Rattle.dv_catalog.specs.Mappings.{is_valid};
-ghost use Rattle.dv_vault.specs.Vaults.{IsVaultOf, are_heads_of, last_head};
+ghost use Rattle.dv_vault.specs.Vaults.{IsVaultOf, are_heads_of};
 ghost use Rattle.dv_print.specs.TableTexts.{rows_behind};
 ghost use Rattle.dv_window.specs.Offices as spec;
 
@@ -92,7 +93,7 @@ impl Office {
     /// The load date of the last sealed window, as 2 March of those of 1 and 2 March; none where
     /// none is sealed. Takes no memory.
     pub fn last(&self) -> Option<Stamp>
-        ensures { result ≡ last_head self.now.vault.heads }
+        ensures { result ≡ last_sealed self.now.vault.heads }
     {
         self.vault.last()
     }

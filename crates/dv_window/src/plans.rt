@@ -4,9 +4,8 @@ ghost use Rattle.std.specs.List.{list_all};
 ghost use Rattle.dv_text.specs.Keys.{hashes_of};
 ghost use Rattle.dv_catalog.specs.Windows.{window_of};
 ghost use Rattle.dv_records.specs.Outcomes.{differs_from, full_at, late_after};
-ghost use Rattle.dv_records.specs.States.{is_window};
+ghost use Rattle.dv_records.specs.States.{is_window, last_sealed};
 ghost use Rattle.dv_catalog.specs.Mappings.{is_valid};
-ghost use Rattle.dv_vault.specs.Vaults.{last_head};
 ghost use Rattle.dv_window.specs.Plans as spec;
 ghost use Rattle.dv_window.specs.Offices.{staged};
 ghost use Rattle.dv_window.specs.Plans.{IsPlan, IsPlanned, Stops};
@@ -85,7 +84,7 @@ fn find_head(heads: &[WindowHead], load: Stamp) -> Option<&WindowHead>
 impl Office {
     // Whether a load date is later than those of all sealed windows: then no head has to be looked at.
     fn is_later(&self, load: Stamp) -> bool
-        ensures { result ≡ is_none (late_after (last_head self.now.vault.heads) load) }
+        ensures { result ≡ is_none (late_after (last_sealed self.now.vault.heads) load) }
     {
         late(self.last(), false, load).is_none()
     }

@@ -2,9 +2,8 @@
 ghost use Rattle.std.specs.Prelude.{◌≡◌, ◌≤◌, IfErr, IfOk, IsTrue, None};
 ghost use Rattle.dv_text.specs.Keys.{hashes_of};
 ghost use Rattle.dv_records.specs.Outcomes.{late_after};
-ghost use Rattle.dv_records.specs.States.{is_window};
+ghost use Rattle.dv_records.specs.States.{is_window, last_sealed};
 ghost use Rattle.dv_vault.specs.Additions.{Fits, IsAddition};
-ghost use Rattle.dv_vault.specs.Vaults.{last_head};
 ghost use Rattle.dv_window.specs.Plans as spec;
 
 use crate::stops::Stop;
@@ -46,7 +45,7 @@ pub(crate) fn addition<R: Threads + Sync, H: KeyDigest, G: Gate>(
     digest: &H,
     gate: &G,
 ) -> Result<Begun, Stop>
-    requires later { late_after (last_head vault.now.heads) window.load ≡ None }
+    requires later { late_after (last_sealed vault.now.heads) window.load ≡ None }
     requires window { IsTrue (is_window vault.now.mapping window) }
     requires workers { (1 ≤ workers) × (workers ≤ 64) }
     ensures adds { IfOk result (IsAddition (hashes_of H.function) vault.now window) }

@@ -1,10 +1,10 @@
-use Rattle.dv_vault.proofs.Vocabulary.{AreApart, Clashes, IfErr, IfOk, None, RawVault, entries_of, hashes_of, last_head, late_after, subst, sym, ◌≡◌}
+use Rattle.dv_vault.proofs.Vocabulary.{AreApart, Clashes, IfErr, IfOk, None, RawVault, entries_of, hashes_of, last_sealed, late_after, subst, sym, ◌≡◌}
 use Rattle.dv_vault.proofs.Taken.{rows_not_later}
 use Rattle.dv_vault.proofs.vaults.Vault.batches_by.Goals as goal
 
 pub added_by-requires-clause-dated : goal.added_by-requires-clause-dated
 added_by-requires-clause-dated g c κs b =
-    let later : late_after (last_head c.self.inside.heads) c.args.window.now.load ≡ None = subst (λ (raw : RawVault). late_after (last_head raw.heads) c.args.window.now.load ≡ None) (sym c.self.view_is) c.requires.later in
+    let later : late_after (last_sealed c.self.inside.heads) c.args.window.now.load ≡ None = subst (λ (raw : RawVault). late_after (last_sealed raw.heads) c.args.window.now.load ≡ None) (sym c.self.view_is) c.requires.later in
     rows_not_later c.self.inside.heads (entries_of c.self.inside.raw) c.args.window.now.load c.self.invariant.1 later
 
 pub returns-clause-apart : goal.returns-clause-apart

@@ -1,4 +1,4 @@
-use Rattle.dv_vault.proofs.Vocabulary.{ArePartsOf, FollowAll, List, RawVault, Rows, TableRows, Window, ap, arith, entries_with, entry_of, is_window, last_head, late_after, map, no_rows, opened_in, rest_in, row_count, rows_weight, subst, sum_by, sym, tables_weight, whole_in, ◌+◌, ◌∙◌, ◌≡◌}
+use Rattle.dv_vault.proofs.Vocabulary.{ArePartsOf, FollowAll, List, RawVault, Rows, TableRows, Window, ap, arith, entries_with, entry_of, is_window, last_sealed, late_after, map, no_rows, opened_in, rest_in, row_count, rows_weight, subst, sum_by, sym, tables_weight, whole_in, ◌+◌, ◌∙◌, ◌≡◌}
 use Rattle.dv_vault.proofs.{NewWindows.new_kinds, NewWindows.new_whole, NewWindows.none_counted, Taken.weight_grows}
 use Rattle.dv_vault.proofs.vaults.Vault.begun.Goals as goal
 
@@ -39,7 +39,7 @@ returns-clause-fits g c =
       window = ap (is_window raw.mapping) made.window ∙ c.requires.window;
       parts = kinds;
       follow = subst (λ (w : Window). FollowAll w.load raw.tables (whole_in parts)) (sym made.window) (subst (FollowAll c.args.window.load raw.tables) (sym whole) follow);
-      later = ap (λ (w : Window). late_after (last_head raw.heads) w.load) made.window ∙ c.requires.later;
+      later = ap (λ (w : Window). late_after (last_sealed raw.heads) w.load) made.window ∙ c.requires.later;
       weight = adds.weight_is
           ∙ ap (λ (rest : List Rows). tables_weight raw.tables + sum_by rows_weight rest) (sym adds.rest_is)
           ∙ sym (weight_grows raw.tables (rest_in parts) follow.follow)

@@ -1,11 +1,11 @@
-use Rattle.dv_window.proofs.Vocabulary.{Held, IsAddition, Window, ap, full_at, hashes_of, inr, last_head, late_after, length, staged, subst, sym, ◌∙◌}
+use Rattle.dv_window.proofs.Vocabulary.{Held, IsAddition, Window, ap, full_at, hashes_of, inr, last_sealed, late_after, length, staged, subst, sym, ◌∙◌}
 use Rattle.dv_window.proofs.PlanFacts.{not_late}
 use Rattle.dv_window.proofs.offices.Office.plan_new.Goals as goal
 
 pub addition-requires-clause-later : goal.addition-requires-clause-later
 addition-requires-clause-later g c κs within =
-    ap (λ (held : Held). late_after (last_head held.vault.heads) c.args.window.load) c.self.view_is
-    ∙ ap (λ (window : Window). late_after (last_head c.args.self.now.vault.heads) window.load) c.requires.window
+    ap (λ (held : Held). late_after (last_sealed held.vault.heads) c.args.window.load) c.self.view_is
+    ∙ ap (λ (window : Window). late_after (last_sealed c.args.self.now.vault.heads) window.load) c.requires.window
     ∙ not_late c.args.self.now.vault (staged c.args.self.now) c.args.given.now c.requires.passes
 
 pub returns-in-Some-clause-stops : goal.returns-in-Some-clause-stops
